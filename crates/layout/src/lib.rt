@@ -1,0 +1,14 @@
+// The layout of a record in bytes: entries, headers, numbers, text, the check, and the walks.
+pub mod check;
+pub mod constants;
+pub mod ending;
+pub mod item;
+pub mod iterator;
+pub mod jentry;
+pub mod number;
+pub mod order;
+pub mod refusal;
+pub mod sound;
+pub mod utf8;
+pub mod util;
+pub mod writer;
