@@ -1,0 +1,21 @@
+-- The laws of the layout, from the leaf up.
+pub mod Fields
+pub mod Texts
+pub mod Patches
+pub mod Patterns
+pub mod Numbers
+pub mod Words
+pub mod Answers
+pub mod Level
+pub mod Decoding
+pub mod Encoding
+pub mod Readables
+pub mod ReadCases
+pub mod Values
+pub mod Places
+pub mod Checks
+pub mod Orders
+pub mod Sounds
+pub mod Walks
+pub mod Walked
+pub mod WalkCases

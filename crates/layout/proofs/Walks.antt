@@ -1,0 +1,174 @@
+-- Laws of the walks: a step of the code is the step of the definition, test by test.
+use Prim.Native.Nat.{ℕ, zero, suc, _+_, _*_, _-_, _^_, _≤_}
+use mathlib.Core.Path.{_≡_, refl}
+use mathlib.Core.Bool.{Bool, true, false, not}
+use native.Mathlib.Omega.{arith}
+use mathlib.Core.Logic.{_⊎_, inl, inr}
+use lib.ListN.{length}
+use borrow.Author.Tests.{ne-eqb}
+use Rattle.layout.specs.Bytes.{Bytes, inside, word-at}
+use Rattle.layout.specs.Answer.{Answer, gives, refused}
+use Rattle.layout.specs.Tree.{Tree}
+use Rattle.layout.specs.Check.{checked}
+use Rattle.layout.specs.Entry.{length-of, entry-at, lengths}
+use Rattle.layout.specs.Walk.{entry-good, item-of, array-step, member-step, object-step, array-walk, object-walk, opening, array-opened, object-opened}
+use Rattle.layout.proofs.Fields.{inside-le, length-lt}
+use Rattle.layout.specs.declared.refusal.Refusal.{Refusal}
+use Rattle.layout.specs.declared.refusal.Refusal.the-variants.{Short, Layout}
+use Rattle.layout.specs.declared.util.Header.{Header}
+use Rattle.layout.specs.declared.util.Header.the-variants.{Array, Object, Scalar, Refused as NoHeader}
+use Rattle.layout.specs.declared.check.Check.{Check}
+use Rattle.layout.specs.declared.check.Check.the-variants.{Readable, Refused as Fault}
+use Rattle.layout.specs.declared.item.JsonbItem.{JsonbItem}
+use Rattle.layout.specs.declared.iterator.ArrayIterator.{ArrayIterator}
+use Rattle.layout.specs.declared.iterator.ArrayOpen.the-variants.{Opened, Absent}
+use Rattle.layout.specs.declared.iterator.ArrayStep.the-variants.{Item, End, Refused}
+use Rattle.layout.specs.declared.iterator.ObjectIterator.{ObjectIterator}
+use Rattle.layout.specs.declared.iterator.ObjectOpen.the-variants.{Opened as OpenedObject, Absent as NoObject}
+use Rattle.layout.specs.declared.iterator.ObjectStep.{ObjectStep}
+use Rattle.layout.specs.declared.iterator.ObjectStep.the-variants.{Member, End as NoMember, Refused as RefusedMember}
+
+-- What the test of a place has left: the bytes lie in the slice, so their end fits a machine word.
+pub not-outside : (s : Bytes) (at n : ℕ) (g : Bool) → g ≡ inside s at n → not g ≡ false → at + n ≤ length s
+not-outside s at n true hg q = inside-le s at n true hg refl
+not-outside s at n false hg q = let z : _≡_ {A = ℕ} 0 1 = cc in omega arith
+
+-- The item of an entry has the entry's length.
+pub item-length : (e place : ℕ) (i : JsonbItem) → i ≡ item-of e place → i .length ≡ length-of e
+unfolding item-of
+item-length e place i hi = rw hi
+
+module _ (s : Bytes) (w : ArrayIterator) where
+  pub array-end : w .remaining ≡ 0 → End ≡ array-step s w
+  unfolding array-step
+  array-end z = rw z
+
+  module _ (z : w .remaining ≡ 0 → ⊥) (g : Bool) (hg : g ≡ inside s (w .«jentry_offset») 4) where
+    pub array-short : not g ≡ true → Refused Short ≡ array-step s w
+    unfolding array-step
+    array-short q = rw (ne-eqb (w .remaining) 0 z, ← hg, q)
+
+    module _ (q : not g ≡ false) (e : ℕ) (he : e ≡ word-at s (w .«jentry_offset»)) (b : Bool) (hb : b ≡ entry-good false e) where
+      pub array-layout : not b ≡ true → Refused Layout ≡ array-step s w
+      unfolding array-step
+      array-layout t = rw (ne-eqb (w .remaining) 0 z, ← hg, q, ← he, ← hb, t)
+
+      module _ (t : not b ≡ false) (i : JsonbItem) (hi : i ≡ item-of e (w .«item_offset»))
+          (p : Bool) (hp : p ≡ inside s (w .«item_offset») (i .length)) where
+        pub array-outside : not p ≡ true → Refused Layout ≡ array-step s w
+        unfolding array-step
+        array-outside u = rw (ne-eqb (w .remaining) 0 z, ← hg, q, ← he, ← hb, t, ← item-length e _ i hi, ← hp, u)
+
+        pub array-item : not p ≡ false
+            → Item i (record {
+              «jentry_offset» = w .«jentry_offset» + 4;
+              «item_offset» = w .«item_offset» + i .length;
+              remaining = w .remaining - 1;
+            }) ≡ array-step s w
+        unfolding array-step
+        array-item u = rw (ne-eqb (w .remaining) 0 z, ← hg, q, ← he, ← hb, t, ← item-length e _ i hi, ← hp, u, ← hi)
+
+module _ (s : Bytes) (w : ObjectIterator) where
+  module _ (k v : ℕ) (i : JsonbItem) (hi : i ≡ item-of k (w .«key_offset»))
+      (p : Bool) (hp : p ≡ inside s (w .«key_offset») (i .length)) where
+    pub member-name : not p ≡ true → RefusedMember Layout ≡ member-step s w k v
+    unfolding member-step
+    member-name q = rw (← item-length k _ i hi, ← hp, q)
+
+    module _ (q : not p ≡ false) (j : JsonbItem) (hj : j ≡ item-of v (w .«val_offset»))
+        (r : Bool) (hr : r ≡ inside s (w .«val_offset») (j .length)) where
+      pub member-value : not r ≡ true → RefusedMember Layout ≡ member-step s w k v
+      unfolding member-step
+      member-value u = rw (← item-length k _ i hi, ← hp, q, ← item-length v _ j hj, ← hr, u)
+
+      pub member-both : not r ≡ false
+          → Member (record { key = i; val = j }) (record {
+            «key_jentry_offset» = w .«key_jentry_offset» + 4;
+            «val_jentry_offset» = w .«val_jentry_offset» + 4;
+            «key_offset» = w .«key_offset» + i .length;
+            «val_offset» = w .«val_offset» + j .length;
+            remaining = w .remaining - 1;
+          }) ≡ member-step s w k v
+      unfolding member-step
+      member-both u = rw (← item-length k _ i hi, ← hp, q, ← item-length v _ j hj, ← hr, u, ← hi, ← hj)
+
+  pub object-end : w .remaining ≡ 0 → NoMember ≡ object-step s w
+  unfolding object-step
+  object-end z = rw z
+
+  module _ (z : w .remaining ≡ 0 → ⊥) (g : Bool) (hg : g ≡ inside s (w .«key_jentry_offset») 4) where
+    pub name-short : not g ≡ true → RefusedMember Short ≡ object-step s w
+    unfolding object-step
+    name-short q = rw (ne-eqb (w .remaining) 0 z, ← hg, q)
+
+    module _ (q : not g ≡ false) (k : ℕ) (hk : k ≡ word-at s (w .«key_jentry_offset»)) (b : Bool) (hb : b ≡ entry-good true k) where
+      pub name-layout : not b ≡ true → RefusedMember Layout ≡ object-step s w
+      unfolding object-step
+      name-layout t = rw (ne-eqb (w .remaining) 0 z, ← hg, q, ← hk, ← hb, t)
+
+      module _ (t : not b ≡ false) (g′ : Bool) (hg′ : g′ ≡ inside s (w .«val_jentry_offset») 4) where
+        pub value-short : not g′ ≡ true → RefusedMember Short ≡ object-step s w
+        unfolding object-step
+        value-short q′ = rw (ne-eqb (w .remaining) 0 z, ← hg, q, ← hk, ← hb, t, ← hg′, q′)
+
+        module _ (q′ : not g′ ≡ false) (v : ℕ) (hv : v ≡ word-at s (w .«val_jentry_offset»))
+            (b′ : Bool) (hb′ : b′ ≡ entry-good false v) where
+          pub value-layout : not b′ ≡ true → RefusedMember Layout ≡ object-step s w
+          unfolding object-step
+          value-layout t′ = rw (ne-eqb (w .remaining) 0 z, ← hg, q, ← hk, ← hb, t, ← hg′, q′, ← hv, ← hb′, t′)
+
+          pub object-member : not b′ ≡ false → (r : ObjectStep) → r ≡ member-step s w k v → r ≡ object-step s w
+          unfolding object-step
+          object-member t′ r hr = rw (ne-eqb (w .remaining) 0 z, ← hg, q, ← hk, ← hb, t, ← hg′, q′, ← hv, ← hb′, t′) hr
+
+-- The lengths of entries, summed one by one.
+pub lengths-le : (s : Bytes) (i n : ℕ) → lengths s i n ≤ 2 ^ 28 * n
+unfolding lengths
+lengths-le s i zero = omega arith
+lengths-le s i (suc n) = omega (arith, length-lt (entry-at s i), lengths-le s (i + 1) n)
+
+pub lengths-end : (s : Bytes) (n sum i : ℕ) → n ≤ i → lengths s 0 n ≡ sum + lengths s i (n - i) → sum ≡ lengths s 0 n
+unfolding lengths
+lengths-end s n sum i h inv = let k : n - i ≡ 0 = omega arith in rw inv (rw k (omega arith))
+
+-- Opening, by what the check and the header have said.
+pub opening-refused : {A : Type 0} (fault : Refusal → A) (found : Header → A) (a : Answer Tree) (h : Header) (c : Check) (r : Refusal)
+    → c ≡ checked a → c ≡ Fault r → fault r ≡ opening fault found a h
+unfolding opening
+opening-refused fault found (refused q) h c r e f = cc
+opening-refused fault found (gives t) h c r e f = cc
+
+pub opening-found : {A : Type 0} (fault : Refusal → A) (found : Header → A) (a : Answer Tree) (h k : Header) (c : Check) (x : A)
+    → c ≡ checked a → c ≡ Readable → k ≡ h → x ≡ found k → x ≡ opening fault found a h
+unfolding opening
+opening-found fault found (refused q) h k c x e f hk hx = cc
+opening-found fault found (gives t) h k c x e f hk hx = rw (← hk) hx
+
+-- Where each of three things is out, so is their sum.
+pub none-of : {A B C : Type 0} → (A → ⊥) → (B → ⊥) → (C → ⊥) → A ⊎ (B ⊎ C) → ⊥
+none-of f g h (inl a) = f a
+none-of f g h (inr (inl b)) = g b
+none-of f g h (inr (inr c)) = h c
+
+-- What a header opens.
+pub array-other : (h : Header) → ((n : ℕ) → h ≡ Array n → ⊥) → Absent ≡ array-opened h
+unfolding array-opened
+array-other (Array n) q = absurd (q n refl)
+array-other (Object n) q = refl
+array-other (Scalar n) q = refl
+array-other (NoHeader r) q = refl
+
+pub array-own : (h : Header) (n : ℕ) (w : ArrayIterator) → h ≡ Array n → w ≡ array-walk n → Opened w ≡ array-opened h
+unfolding array-opened
+array-own h n w e hw = rw (e, hw)
+
+pub object-other : (s : Bytes) (h : Header) → ((n : ℕ) → h ≡ Object n → ⊥) → NoObject ≡ object-opened s h
+unfolding object-opened
+object-other s (Array n) q = refl
+object-other s (Object n) q = absurd (q n refl)
+object-other s (Scalar n) q = refl
+object-other s (NoHeader r) q = refl
+
+pub object-own : (s : Bytes) (h : Header) (n : ℕ) (w : ObjectIterator) → h ≡ Object n → w ≡ object-walk s n → OpenedObject w ≡ object-opened s h
+unfolding object-opened
+object-own s h n w e hw = rw (e, hw)
