@@ -1,0 +1,203 @@
+-- `layout::sound::are_sound`, `layout::sound::is_sound_item` and `layout::sound::is_sound_nested` meet their contracts.
+-- They call each other; the number that falls is three times the allowance, and a place in the turn. The loop over the
+-- items keeps that all are sound where the rest are.
+use Prim.Native.Nat.{_+_, _*_, _-_, _≤_}
+use mathlib.Core.Path.{_≡_}
+use native.Mathlib.Nat.{sub-zero}
+use native.Mathlib.Omega.{arith}
+use borrow.Author.Needs.{needs}
+use Rattle.layout.specs.Place.{parts-at, sound-parts, sound-at}
+use Rattle.layout.proofs.Fields.{length-lt}
+use Rattle.layout.proofs.Checks.{told-array, told-object}
+use Rattle.layout.proofs.Sounds.{item-container, item-other, sound-stop, sound-more, sound-end, sound-none, sound-refused, sound-scalar, sound-array, sound-object, sound-not}
+use Prim.Native.Nat.{ℕ, _<_}
+use borrow.Fn.Kinds.{In}
+use borrow.Fn.PlainCycle.{Measures, is, falls, and}
+use Rattle.layout.proofs.sound.are_sound.Reads as are-sound
+use Rattle.layout.proofs.sound.are_sound.Kinds as are-sound-kinds
+use Rattle.layout.proofs.sound.+are_sound+is_sound_item+is_sound_nested.Lts-are_sound as are-sound-lts
+use Rattle.layout.proofs.sound.is_sound_item.Reads as is-sound-item
+use Rattle.layout.proofs.sound.is_sound_item.Kinds as is-sound-item-kinds
+use Rattle.layout.proofs.sound.+are_sound+is_sound_item+is_sound_nested.Lts-is_sound_item as is-sound-item-lts
+use Rattle.layout.proofs.sound.is_sound_nested.Reads as is-sound-nested
+use Rattle.layout.proofs.sound.is_sound_nested.Kinds as is-sound-nested-kinds
+use Rattle.layout.proofs.sound.+are_sound+is_sound_item+is_sound_nested.Lts-is_sound_nested as is-sound-nested-lts
+use Rattle.layout.proofs.jentry.payload_len.Reads as payload-len-reads
+use Rattle.layout.proofs.jentry.read_jentry.Reads as read-jentry-reads
+use Rattle.layout.proofs.jentry.type_code.Reads as type-code-reads
+use Rattle.layout.proofs.sound.is_rising.Reads as is-rising-reads
+use Rattle.layout.proofs.util.read_header.Reads as read-header-reads
+use Rattle.layout.proofs.util.slice.Reads as slice-reads
+use Rattle.layout.proofs.sound.+are_sound+is_sound_item+is_sound_nested.{statement}
+use Rattle.layout.proofs.sound.+are_sound+is_sound_item+is_sound_nested.Tie.{close}
+
+abbrev μ-are-sound : Measures 1 are-sound-kinds.ps ℕ
+μ-are-sound κs a = 3 * a .1 .1 .1 .0 + 2
+
+abbrev μ-is-sound-item : Measures 1 is-sound-item-kinds.ps ℕ
+μ-is-sound-item κs a = 3 * a .1 .1 .0 + 1
+
+abbrev μ-is-sound-nested : Measures 1 is-sound-nested-kinds.ps ℕ
+μ-is-sound-nested κs a = 3 * a .1 .0
+
+abbrev are-sound-at : ℕ → In 1 are-sound-kinds.ps
+are-sound-at t = and 1 are-sound-kinds.ps (is 1 are-sound-kinds.ps μ-are-sound t) are-sound.Pre
+
+abbrev are-sound-below : ℕ → In 1 are-sound-kinds.ps
+are-sound-below t =
+    and 1 are-sound-kinds.ps (falls 1 are-sound-kinds.ps _<_ μ-are-sound t) are-sound.Pre
+
+abbrev is-sound-item-at : ℕ → In 1 is-sound-item-kinds.ps
+is-sound-item-at t =
+    and 1 is-sound-item-kinds.ps (is 1 is-sound-item-kinds.ps μ-is-sound-item t) is-sound-item.Pre
+
+abbrev is-sound-item-below : ℕ → In 1 is-sound-item-kinds.ps
+is-sound-item-below t =
+    and 1 is-sound-item-kinds.ps (falls 1 is-sound-item-kinds.ps _<_ μ-is-sound-item t) is-sound-item.Pre
+
+abbrev is-sound-nested-at : ℕ → In 1 is-sound-nested-kinds.ps
+is-sound-nested-at t =
+    and 1 is-sound-nested-kinds.ps (is 1 is-sound-nested-kinds.ps μ-is-sound-nested t) is-sound-nested.Pre
+
+abbrev is-sound-nested-below : ℕ → In 1 is-sound-nested-kinds.ps
+is-sound-nested-below t =
+    and 1 is-sound-nested-kinds.ps (falls 1 is-sound-nested-kinds.ps _<_ μ-is-sound-nested t) is-sound-nested.Pre
+
+abbrev are-sound-Inv-loop : are-sound-lts.InvT-loop
+are-sound-Inv-loop s n start allowance place₀ i₀ place i =
+    (place ≤ start + 268435456 * i)
+    × (sound-parts (sound-at allowance) (parts-at s 0 start n) ≡ sound-parts (sound-at allowance) (parts-at s i place (n - i)))
+
+abbrev are-sound-μ-loop : are-sound-lts.MeasureT-loop
+are-sound-μ-loop s n start allowance place₀ i₀ place i = n - i
+
+-- what the functions that `are-sound` calls ask and give
+abbrev are-sound-claims : ℕ → are-sound-lts.Claims
+are-sound-claims t = (read-jentry-reads.Asked, read-jentry-reads.Learnt, payload-len-reads.Asked, payload-len-reads.Learnt, type-code-reads.Asked, type-code-reads.Learnt, slice-reads.Asked, slice-reads.Learnt, is-sound-item-below t, is-sound-item.Post)
+
+-- what the functions that `is-sound-item` calls ask and give
+abbrev is-sound-item-claims : ℕ → is-sound-item-lts.Claims
+is-sound-item-claims t = (is-sound-nested-below t, is-sound-nested.Post)
+
+-- what the functions that `is-sound-nested` calls ask and give
+abbrev is-sound-nested-claims : ℕ → is-sound-nested-lts.Claims
+is-sound-nested-claims t = (read-header-reads.Asked, read-header-reads.Learnt, are-sound-below t, are-sound.Post, is-rising-reads.Asked, is-rising-reads.Learnt)
+
+are-sound-loop-holds : (t : ℕ) → are-sound-lts.Need-loop-holds (are-sound-claims t) (are-sound-at t) are-sound.Post are-sound-Inv-loop are-sound-μ-loop
+are-sound-loop-holds t c = (omega arith, rw sub-zero)
+
+are-sound-add-place : (t : ℕ) → are-sound-lts.Need-add-place (are-sound-claims t) (are-sound-at t) are-sound.Post are-sound-Inv-loop are-sound-μ-loop
+are-sound-add-place t c = rw (c .before .before .before .before .payload-len .ensures) (omega (arith, length-lt (c .before .before .before .before .before .read-jentry .result)))
+
+are-sound-loop-again : (t : ℕ) → are-sound-lts.Need-loop-again (are-sound-claims t) (are-sound-at t) are-sound.Post are-sound-Inv-loop are-sound-μ-loop
+are-sound-loop-again t c = (rw (c .before .before .before .before .payload-len .ensures) (omega (arith, length-lt (c .before .before .before .before .before .read-jentry .result))), sound-more _ _ _ (c .before .before .before .before .before .before .before .loop .i) (c .before .before .before .before .before .before .before .loop .place) _ _ _ _ _ (c .before .before .before .before .before .before .loop-test .taken) (c .before .before .before .before .before .before .before .loop .inv .1) (c .before .before .before .before .before .read-jentry .ensures) (c .before .before .before .before .payload-len .ensures) (c .before .before .before .type-code .ensures) _ (c .before .before .slice .ensures) (c .before .is-sound-item .ensures) (c .if1 .taken))
+
+are-sound-returns : (t : ℕ) → are-sound-lts.Need-returns (are-sound-claims t) (are-sound-at t) are-sound.Post are-sound-Inv-loop are-sound-μ-loop
+are-sound-returns t c = sound-stop _ _ _ (c .before .before .before .before .before .before .before .loop .i) (c .before .before .before .before .before .before .before .loop .place) _ _ _ _ _ (c .before .before .before .before .before .before .loop-test .taken) (c .before .before .before .before .before .before .before .loop .inv .1) (c .before .before .before .before .before .read-jentry .ensures) (c .before .before .before .before .payload-len .ensures) (c .before .before .before .type-code .ensures) _ (c .before .before .slice .ensures) (c .before .is-sound-item .ensures) (c .if1 .left)
+
+are-sound-returns-2 : (t : ℕ) → are-sound-lts.Need-returns-2 (are-sound-claims t) (are-sound-at t) are-sound.Post are-sound-Inv-loop are-sound-μ-loop
+are-sound-returns-2 t c = sound-end _ _ _ (c .before .loop .i) (c .before .loop .place) _ (c .loop-test .left) (c .before .loop .inv .1)
+
+is-sound-item-returns : (t : ℕ) → is-sound-item-lts.Need-returns (is-sound-item-claims t) (is-sound-item-at t) is-sound-item.Post
+is-sound-item-returns t c = item-container _ _ _ _ (c .before .if1 .taken) (c .is-sound-nested .ensures)
+
+is-sound-item-returns-2 : (t : ℕ) → is-sound-item-lts.Need-returns-2 (is-sound-item-claims t) (is-sound-item-at t) is-sound-item.Post
+is-sound-item-returns-2 t c = item-other _ _ _ (c .if1 .left)
+
+is-sound-nested-returns : (t : ℕ) → is-sound-nested-lts.Need-returns (is-sound-nested-claims t) (is-sound-nested-at t) is-sound-nested.Post
+is-sound-nested-returns t c = sound-none _ _ (c .if1 .taken)
+
+is-sound-nested-mul-are-sound : (t : ℕ) → is-sound-nested-lts.Need-mul-are-sound (is-sound-nested-claims t) (is-sound-nested-at t) is-sound-nested.Post
+is-sound-nested-mul-are-sound t c = let h = told-array _ _ (c .before .before .before .read-header .ensures) _ (c .before .n .given .1) in omega arith
+
+is-sound-nested-add-are-sound : (t : ℕ) → is-sound-nested-lts.Need-add-are-sound (is-sound-nested-claims t) (is-sound-nested-at t) is-sound-nested.Post
+is-sound-nested-add-are-sound t c = let h = told-array _ _ (c .before .before .before .read-header .ensures) _ (c .before .n .given .1) in omega arith
+
+is-sound-nested-are-sound-requires : (t : ℕ) → is-sound-nested-lts.Need-are-sound-requires (is-sound-nested-claims t) (is-sound-nested-at t) is-sound-nested.Post
+is-sound-nested-are-sound-requires t c κs = let h = told-array _ _ (c .before .before .before .read-header .ensures) _ (c .before .n .given .1) in omega arith
+
+is-sound-nested-add-start : (t : ℕ) → is-sound-nested-lts.Need-add-start (is-sound-nested-claims t) (is-sound-nested-at t) is-sound-nested.Post
+is-sound-nested-add-start t c = let h = told-object _ _ (c .before .before .before .read-header .ensures) _ (c .before .n2 .given .1) in omega arith
+
+is-sound-nested-mul-start : (t : ℕ) → is-sound-nested-lts.Need-mul-start (is-sound-nested-claims t) (is-sound-nested-at t) is-sound-nested.Post
+is-sound-nested-mul-start t c = let h = told-object _ _ (c .before .before .before .read-header .ensures) _ (c .before .n2 .given .1) in omega arith
+
+is-sound-nested-add-start-2 : (t : ℕ) → is-sound-nested-lts.Need-add-start-2 (is-sound-nested-claims t) (is-sound-nested-at t) is-sound-nested.Post
+is-sound-nested-add-start-2 t c = let h = told-object _ _ (c .before .before .before .read-header .ensures) _ (c .before .n2 .given .1) in omega arith
+
+is-sound-nested-is-rising-requires : (t : ℕ) → is-sound-nested-lts.Need-is-rising-requires (is-sound-nested-claims t) (is-sound-nested-at t) is-sound-nested.Post
+is-sound-nested-is-rising-requires t c κs = let h = told-object _ _ (c .before .before .before .read-header .ensures) _ (c .before .n2 .given .1) in omega arith
+
+is-sound-nested-add-are-sound-2 : (t : ℕ) → is-sound-nested-lts.Need-add-are-sound-2 (is-sound-nested-claims t) (is-sound-nested-at t) is-sound-nested.Post
+is-sound-nested-add-are-sound-2 t c = let h = told-object _ _ (c .before .before .before .before .before .read-header .ensures) _ (c .before .before .before .n2 .given .1) in omega arith
+
+is-sound-nested-are-sound-requires-2 : (t : ℕ) → is-sound-nested-lts.Need-are-sound-requires-2 (is-sound-nested-claims t) (is-sound-nested-at t) is-sound-nested.Post
+is-sound-nested-are-sound-requires-2 t c κs = let h = told-object _ _ (c .before .before .before .before .before .read-header .ensures) _ (c .before .before .before .n2 .given .1) in omega arith
+
+is-sound-nested-returns-2 : (t : ℕ) → is-sound-nested-lts.Need-returns-2 (is-sound-nested-claims t) (is-sound-nested-at t) is-sound-nested.Post
+is-sound-nested-returns-2 t c = sound-object _ _ _ (c .before .before .before .before .before .before .before .if1 .left) (c .before .before .before .before .before .before .read-header .ensures) _ _ (c .before .before .before .before .n2 .given .1) (c .before .before .is-rising .ensures) _ (c .before .if2 .taken) (c .are-sound2 .ensures)
+
+is-sound-nested-returns-3 : (t : ℕ) → is-sound-nested-lts.Need-returns-3 (is-sound-nested-claims t) (is-sound-nested-at t) is-sound-nested.Post
+is-sound-nested-returns-3 t c = sound-refused _ _ _ (c .before .before .before .if1 .left) (c .before .before .read-header .ensures) _ (c .enum-told .given .1)
+
+is-sound-nested-returns-4 : (t : ℕ) → is-sound-nested-lts.Need-returns-4 (is-sound-nested-claims t) (is-sound-nested-at t) is-sound-nested.Post
+is-sound-nested-returns-4 t c = sound-scalar _ _ _ (c .before .before .before .if1 .left) (c .before .before .read-header .ensures) _ (c .enum-told2 .given .1)
+
+is-sound-nested-returns-5 : (t : ℕ) → is-sound-nested-lts.Need-returns-5 (is-sound-nested-claims t) (is-sound-nested-at t) is-sound-nested.Post
+is-sound-nested-returns-5 t c = sound-array _ _ _ (c .before .before .before .before .before .if1 .left) (c .before .before .before .before .read-header .ensures) _ _ (c .before .before .n .given .1) (c .are-sound .ensures)
+
+is-sound-nested-returns-6 : (t : ℕ) → is-sound-nested-lts.Need-returns-6 (is-sound-nested-claims t) (is-sound-nested-at t) is-sound-nested.Post
+is-sound-nested-returns-6 t c = sound-not _ _ _ (c .before .before .before .before .before .before .if1 .left) (c .before .before .before .before .before .read-header .ensures) _ _ (c .before .before .before .n2 .given .1) (c .before .is-rising .ensures) (c .if2 .left)
+
+pub +are-sound+is-sound-item+is-sound-nested-spec : {M : Type 1} → statement M
++are-sound+is-sound-item+is-sound-nested-spec =
+    close μ-are-sound μ-is-sound-item μ-is-sound-nested (λ t. are-sound-lts.spec (are-sound-claims t)
+    (are-sound-at t)
+    are-sound.Post
+    are-sound-Inv-loop
+    are-sound-μ-loop
+    (are-sound-loop-holds t)
+    (λ c κs. search needs)
+    (λ c κs. search needs)
+    (λ c. search needs)
+    (λ c κs. search needs)
+    (λ c κs. search needs)
+    (λ c κs. search needs)
+    (are-sound-add-place t)
+    (λ c. search needs)
+    (λ c. search needs)
+    (are-sound-loop-again t)
+    (are-sound-returns t)
+    (are-sound-returns-2 t))
+    (λ t. is-sound-item-lts.spec
+    (is-sound-nested-below t, is-sound-nested.Post)
+    (is-sound-item-at t)
+    is-sound-item.Post
+    (λ c κs. search needs)
+    (is-sound-item-returns t)
+    (is-sound-item-returns-2 t))
+    λ t. is-sound-nested-lts.spec (is-sound-nested-claims t)
+    (is-sound-nested-at t)
+    is-sound-nested.Post
+    (is-sound-nested-returns t)
+    (λ c κs. search needs)
+    (λ c. search needs)
+    (λ c. search needs)
+    (λ c. search needs)
+    (is-sound-nested-mul-are-sound t)
+    (is-sound-nested-add-are-sound t)
+    (λ c. search needs)
+    (is-sound-nested-are-sound-requires t)
+    (λ c. search needs)
+    (is-sound-nested-add-start t)
+    (is-sound-nested-mul-start t)
+    (is-sound-nested-add-start-2 t)
+    (is-sound-nested-is-rising-requires t)
+    (is-sound-nested-add-are-sound-2 t)
+    (λ c. search needs)
+    (is-sound-nested-are-sound-requires-2 t)
+    (is-sound-nested-returns-2 t)
+    (is-sound-nested-returns-3 t)
+    (is-sound-nested-returns-4 t)
+    (is-sound-nested-returns-5 t)
+    (is-sound-nested-returns-6 t)

@@ -1,0 +1,60 @@
+-- `layout::sound::is_rising` meets its contract.
+-- The loop keeps that all names rise where those from the last one looked at do.
+use Prim.Native.Nat.{_+_, _*_, _-_, _<_, _≤_}
+use mathlib.Core.Path.{_≡_}
+use native.Mathlib.Omega.{arith}
+use borrow.Author.Needs.{needs}
+use lib.ListN.{take, drop}
+use Rattle.layout.specs.Place.{parts-at, rising-parts, rising-from}
+use Rattle.layout.proofs.Fields.{length-lt}
+use Rattle.layout.proofs.Sounds.{rising-none, rising-start, rising-more, rising-stop, rising-end}
+use Rattle.layout.proofs.sound.is_rising.Statement.{statement}
+use Rattle.layout.proofs.sound.is_rising.Tie as tie
+
+abbrev Inv-loop : tie.InvT-loop
+Inv-loop s n start place₀ len₀ i₀ place len i =
+    (place ≤ start + 268435456 * i)
+    × (len < 268435456)
+    × (rising-parts (parts-at s 0 start n) ≡ rising-from (take len (drop place s)) (parts-at s i (place + len) (n - i)))
+
+abbrev μ-loop : tie.MeasureT-loop
+μ-loop s n start place₀ len₀ i₀ place len i = n - i
+
+returns : tie.Need-returns Inv-loop μ-loop
+returns c = rising-none (c .before .before .args .s .now) (c .before .before .args .start) (c .before .before .args .n) (c .if1 .taken)
+
+loop-holds : tie.Need-loop-holds Inv-loop μ-loop
+loop-holds c = (omega arith, rw (c .payload-len .ensures) (omega (arith, length-lt (c .before .read-jentry .result))), rising-start _ _ _ _ _ (c .before .before .if1 .left) (c .before .read-jentry .ensures) (c .payload-len .ensures))
+
+loop-again : tie.Need-loop-again Inv-loop μ-loop
+loop-again c = (omega arith, rw (c .before .before .before .before .payload-len2 .ensures) (omega (arith, length-lt (c .before .before .before .before .before .read-jentry2 .result))), rising-more _ _ (c .before .before .before .before .before .before .before .loop .i) (c .before .before .before .before .before .before .before .loop .place) (c .before .before .before .before .before .before .before .loop .len) _ _ _ _ (c .before .before .before .before .before .before .loop-test .taken) (c .before .before .before .before .before .before .before .loop .inv .2) (c .before .before .before .before .before .read-jentry2 .ensures) (c .before .before .before .before .payload-len2 .ensures) _ _ (c .before .before .before .slice .ensures) (c .before .before .slice2 .ensures) (c .before .is-before .ensures) (c .if2 .taken))
+
+returns-2 : tie.Need-returns-2 Inv-loop μ-loop
+returns-2 c = rising-stop _ _ (c .before .before .before .before .before .before .before .loop .i) (c .before .before .before .before .before .before .before .loop .place) (c .before .before .before .before .before .before .before .loop .len) _ _ _ _ (c .before .before .before .before .before .before .loop-test .taken) (c .before .before .before .before .before .before .before .loop .inv .2) (c .before .before .before .before .before .read-jentry2 .ensures) (c .before .before .before .before .payload-len2 .ensures) _ _ (c .before .before .before .slice .ensures) (c .before .before .slice2 .ensures) (c .before .is-before .ensures) (c .if2 .left)
+
+returns-3 : tie.Need-returns-3 Inv-loop μ-loop
+returns-3 c = rising-end _ _ (c .before .loop .i) _ _ _ (c .loop-test .left) (c .before .loop .inv .2)
+
+pub is-rising-spec : {M : Type 1} → statement M
+is-rising-spec =
+    tie.close
+    (tie.spec
+    Inv-loop
+    μ-loop
+    returns
+    (λ c κs. search needs)
+    (λ c κs. search needs)
+    (λ c. search needs)
+    loop-holds
+    (λ c. search needs)
+    (λ c κs. search needs)
+    (λ c κs. search needs)
+    (λ c. search needs)
+    (λ c κs. search needs)
+    (λ c κs. search needs)
+    (λ c κs. search needs)
+    (λ c. search needs)
+    (λ c. search needs)
+    loop-again
+    returns-2
+    returns-3)
