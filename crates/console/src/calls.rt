@@ -1,0 +1,79 @@
+// The calls of the console.
+use crate::hex::Decoded;
+use crate::hex::decode;
+use crate::say::say;
+use crate::say::say_refused;
+use crate::text::count_arguments;
+use crate::text::is_word;
+use crate::text::trim;
+use crate::text::word_end;
+use layout::check::Check;
+use layout::check::check_record;
+use layout::sound::Soundness;
+use layout::sound::check_sound;
+use layout::util::byte;
+use layout::util::slice;
+
+// Room for a record of one byte too many: what is longer is refused as that is.
+const RECORD_ROOM: usize = 65537;
+
+fn say_check(record: &[u8]) {
+    match check_record(record) {
+        Check::Readable => say(b"ok\n"),
+        Check::Refused(refusal) => say_refused(refusal),
+    }
+}
+
+fn say_sound(record: &[u8]) {
+    match check_sound(record) {
+        Soundness::Sound => say(b"sound\n"),
+        Soundness::Unsound => say(b"unsound\n"),
+        Soundness::Refused(refusal) => say_refused(refusal),
+    }
+}
+
+// The calls that take one record.
+enum Call {
+    Check,
+    Sound,
+}
+
+fn answer_record(call: Call, record: &[u8]) {
+    match call {
+        Call::Check => say_check(record),
+        Call::Sound => say_sound(record),
+    }
+}
+
+// Takes the one argument of a call, or says why it is none.
+fn answer_one(call: Call, text: &[u8]) {
+    if count_arguments(text) != 1 {
+        return say(b"? this call takes one record\n");
+    }
+    let mut record = [0u8; RECORD_ROOM];
+    match decode(text, &mut record) {
+        Decoded::Bytes(n) => answer_record(call, slice(&record, 0, n)),
+        Decoded::Missing => say(b"? a record is missing; an empty one is -\n"),
+        Decoded::NotHex => say(b"? an argument is not hexadecimal\n"),
+        Decoded::Odd => say(b"? an argument has half a byte at its end\n"),
+    }
+}
+
+// The answer to a line, which comes without its end.
+pub(crate) fn answer(line: &[u8]) {
+    let text = trim(line);
+    if (text.len() == 0) | (byte(text, 0) == b'#') {
+        say(line);
+        return say(b"\n");
+    }
+    let end = word_end(text);
+    let word = slice(text, 0, end);
+    let rest = slice(text, end, text.len() - end);
+    if is_word(word, b"check") {
+        return answer_one(Call::Check, rest);
+    }
+    if is_word(word, b"sound") {
+        return answer_one(Call::Sound, rest);
+    }
+    say(b"? there is no such call; there are check and sound\n");
+}

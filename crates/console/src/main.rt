@@ -1,0 +1,145 @@
+// The console: a line of hexadecimal in, an answer out, a line for a line.
+//
+//   check R    ok, or refused N WORDS
+//   sound R    sound, unsound, or refused N WORDS
+//
+// R is a record in hexadecimal; spaces in it are ignored, and an empty one is -. An empty line and a line that starts with #
+// are copied. A line that is none of these gets `? WHY`, and the next one is answered as ever.
+mod calls;
+mod hex;
+mod say;
+mod text;
+
+use calls::answer;
+use layout::util::slice;
+use say::say;
+use text::line_end;
+ghost use Prim.Native.Nat.{_+_, _≤_};
+ghost use lib.ListN.{length};
+
+// The longest line, its end included: two records with spaces between their groups have less.
+const LINE_LIMIT: usize = 524_288;
+
+// How often the program reads at most. It ends with its input long before.
+const READS: u64 = 0x1_0000_0000_0000;
+
+// What is kept of the input: how many bytes of the next line, and whether they are passed over up to its end.
+struct Held {
+    bytes: usize,
+    skip: bool,
+}
+
+// Answers each whole line; gives how many bytes they took.
+fn answer_lines(text: &[u8]) -> usize
+    ensures { λ r. ⌜ r ≤ length (now (text .entry)) ⌝ }
+{
+    let mut start = 0;
+    let mut i = 0;
+    while i < text.len() {
+        if text[i] == b'\n' {
+            answer(slice(text, start, i - start));
+            start = i + 1;
+        }
+        i += 1;
+    }
+    start
+}
+
+// Moves what stands from `start` to `end` to the front; gives its length.
+fn move_down(text: &mut [u8], start: usize, end: usize) -> usize
+    requires { ⌜ (start ≤ end) × (end ≤ length (now text)) ⌝ }
+    ensures { λ r. ⌜ r ≤ length (now (text .entry)) ⌝ }
+{
+    let n = end - start;
+    let mut i = 0;
+    while i < n {
+        text[i] = text[start + i];
+        i += 1;
+    }
+    n
+}
+
+// Answers the whole lines among the first `end` bytes, and keeps the beginning of the next one.
+fn take_lines(line: &mut [u8], end: usize) -> Held
+    requires { ⌜ end ≤ length (now line) ⌝ }
+    ensures { λ r. ⌜ r .bytes ≤ length (now (line .entry)) ⌝ }
+{
+    let taken = answer_lines(&line[..end]);
+    let held = move_down(line, taken, end);
+    if held == line.len() {
+        say(b"? the line is too long\n");
+        return Held {
+            bytes: 0,
+            skip: true,
+        };
+    }
+    Held {
+        bytes: held,
+        skip: false,
+    }
+}
+
+// The same, where the first line is the rest of one that was too long.
+fn skip_line(line: &mut [u8], end: usize) -> Held
+    requires { ⌜ end ≤ length (now line) ⌝ }
+    ensures { λ r. ⌜ r .bytes ≤ length (now (line .entry)) ⌝ }
+{
+    let start = line_end(&line[..end]);
+    if start == 0 {
+        return Held {
+            bytes: 0,
+            skip: true,
+        };
+    }
+    let held = move_down(line, start, end);
+    take_lines(line, held)
+}
+
+fn take_input(line: &mut [u8], end: usize, skip: bool) -> Held
+    requires { ⌜ end ≤ length (now line) ⌝ }
+    ensures { λ r. ⌜ r .bytes ≤ length (now (line .entry)) ⌝ }
+{
+    if skip {
+        return skip_line(line, end);
+    }
+    take_lines(line, end)
+}
+
+// Reads more of the input behind the bytes held; gives how many came, none at its end.
+fn read_more(line: &mut [u8], held: usize) -> usize
+    requires { ⌜ held ≤ length (now line) ⌝ }
+    ensures { λ r. ⌜ held + r ≤ length (now (line .entry)) ⌝ }
+{
+    let rest = &mut line[held..];
+    let got = libc::read(0, rest);
+    io::count(got, rest)
+}
+
+// The last line, where the input does not end with a line's end.
+fn answer_last(line: &[u8]) {
+    if line.len() != 0 {
+        answer(line);
+    }
+}
+
+// Answers the input line by line, through a buffer that holds the line at hand.
+fn answer_input(line: &mut [u8]) {
+    let mut held: usize = 0;
+    let mut skip = false;
+    let mut reads: u64 = 0;
+    while reads < READS {
+        let got = read_more(line, held);
+        if got == 0 {
+            return answer_last(slice(line, 0, held));
+        }
+        let next = take_input(line, held + got, skip);
+        held = next.bytes;
+        skip = next.skip;
+        reads += 1;
+    }
+}
+
+fn main() {
+    let mut line = [0u8; LINE_LIMIT];
+    answer_input(&mut line);
+}

@@ -1,0 +1,97 @@
+// Lines taken apart: spaces, words, arguments.
+use layout::order::Ordering;
+use layout::order::compare;
+use layout::util::slice;
+ghost use Prim.Native.Nat.{_≤_};
+ghost use lib.ListN.{length};
+
+pub(crate) fn is_space(c: u8) -> bool {
+    (c == b' ') | ((c == b'\t') | (c == b'\r'))
+}
+
+// The place of the first byte that is no space.
+fn text_start(text: &[u8]) -> usize
+    ensures { λ r. ⌜ r ≤ length (now (text .entry)) ⌝ }
+{
+    let mut i = 0;
+    while i < text.len() {
+        if !is_space(text[i]) {
+            return i;
+        }
+        i += 1;
+    }
+    i
+}
+
+// The place behind the last byte that is no space.
+fn text_end(text: &[u8]) -> usize
+    ensures { λ r. ⌜ r ≤ length (now (text .entry)) ⌝ }
+{
+    let mut n = text.len();
+    while 0 < n {
+        if !is_space(text[n - 1]) {
+            return n;
+        }
+        n -= 1;
+    }
+    0
+}
+
+// A text without the spaces around it.
+pub(crate) fn trim(text: &[u8]) -> &[u8] {
+    let start = text_start(text);
+    let end = text_end(text);
+    if end <= start {
+        return slice(text, 0, 0);
+    }
+    slice(text, start, end - start)
+}
+
+// The place behind the first word of a text that starts with one.
+pub(crate) fn word_end(text: &[u8]) -> usize
+    ensures { λ r. ⌜ r ≤ length (now (text .entry)) ⌝ }
+{
+    let mut i = 0;
+    while i < text.len() {
+        if is_space(text[i]) {
+            return i;
+        }
+        i += 1;
+    }
+    i
+}
+
+pub(crate) fn is_word(word: &[u8], name: &[u8]) -> bool {
+    match compare(word, name) {
+        Ordering::Less => false,
+        Ordering::Equal => true,
+        Ordering::Greater => false,
+    }
+}
+
+// How many arguments a text has, with `;` between them.
+pub(crate) fn count_arguments(text: &[u8]) -> usize {
+    let mut n: usize = 1;
+    let mut i = 0;
+    while i < text.len() {
+        if text[i] == b';' {
+            n += 1;
+        }
+        i += 1;
+    }
+    n
+}
+
+// The place behind the first line's end, and 0 where there is none.
+pub(crate) fn line_end(text: &[u8]) -> usize
+    ensures { λ r. ⌜ r ≤ length (now (text .entry)) ⌝ }
+{
+    let mut i = 0;
+    while i < text.len() {
+        i += 1;
+        if text[i - 1] == b'\n' {
+            return i;
+        }
+    }
+    0
+}
