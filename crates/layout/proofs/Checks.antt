@@ -148,7 +148,7 @@ pub items-end : (f : Bytes → Answer Tree) (s : Bytes) (start i p n : ℕ) → 
 unfolding parts-at
 items-end f s start i p n le inv = let z : n - i ≡ 0 = omega arith in rw (inv, z)
 
--- The payload of item i lies between the bytes.
+-- The payload of item i lies within the bytes.
 pub payload-within : (s : Bytes) (i p n e l : ℕ) → i < n → p + lengths s i (n - i) ≤ length s → e ≡ entry-at s i → l ≡ length-of e →
     p + l + lengths s (i + 1) (n - (i + 1)) ≤ length s
 payload-within s i p n e l lt inv he hl =

@@ -1,4 +1,4 @@
--- A record that reads as a tree is the bytes of that tree, and the tree is between the limits of depth and content.
+-- A record that reads as a tree is the bytes of that tree, and the tree is within the limits of depth and content.
 use Prim.Native.Nat.{ℕ, zero, suc, _+_, _/_, _%_, _^_, _≤_}
 use native.Mathlib.Omega.{arith}
 use mathlib.Core.Path.{_≡_, refl, ap, ap₂, sym, _∙_}

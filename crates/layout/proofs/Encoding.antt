@@ -1,4 +1,4 @@
--- The bytes of a tree between the limits read as that tree.
+-- The bytes of a tree within the limits read as that tree.
 use Prim.Native.Nat.{ℕ, zero, suc, _+_, _/_, _%_, _^_, _<_, _≤_}
 use native.Mathlib.Omega.{arith}
 use mathlib.Core.Path.{_≡_, refl, ap, _∙_}
@@ -251,7 +251,7 @@ small-scalar t h =
       length-append (payload t) [],
     )
 
--- The bytes of a tree between the limits read as that tree.
+-- The bytes of a tree within the limits read as that tree.
 pub read-encode : (t : Tree) → Valid t → depth t ≤ 64 → length (encode t) ≤ 65536 → read (encode t) ≡ gives t
 unfolding number-in
 read-encode null v d h = scalar-complete null (tt, omega arith) refl h

@@ -7,15 +7,16 @@ use mathlib.Core.List.{List, [], _∷_, _++_, append-assoc}
 use lib.Dec.{T, eqb, leb→le, eqb→eq, le→leb, eqb-refl}
 use lib.ListN.{length, take, drop, length-append, length-drop, take-append-drop}
 use lib.Seq.{drop-at, drop-drop, length-take-le, take-append-seam, drop-append-seam}
+use borrow.Author.Tests.{le-ltb}
 use Rattle.layout.specs.Bytes.{Bytes, be32, word, Octets}
 use Rattle.layout.specs.Answer.{gives}
-use Rattle.layout.specs.Entry.{top-of, code-of, length-of, entry-of, code}
+use Rattle.layout.specs.Entry.{top-of, code-of, length-of, entry-of, code, kind-of}
 use Rattle.layout.specs.Encode.{Part, entry-word, entries, payloads}
 use Rattle.layout.specs.Read.{Entry, known-kind, is-string, length-ok, entry, table, total, cut, parts}
 use Rattle.layout.specs.declared.item.Kind.{Kind}
 use Rattle.layout.specs.declared.item.Kind.the-variants.{Null, String, Number, False, True, Container, Extension}
 use Rattle.layout.proofs.Words.{word-be32, be32-word, drop-be32, length-be32, octets-drop}
-use Rattle.layout.proofs.Answers.{from-bind, from-require, gives-inj, to-bind, to-require}
+use Rattle.layout.proofs.Answers.{from-bind, from-require, gives-inj, refused-gives, to-bind, to-require}
 
 pub eq-test : (m n : ℕ) → m ≡ n → T (eqb m n)
 eq-test m n e = rw e (eqb-refl n)
@@ -50,6 +51,7 @@ string-kind Extension h = absurd h
 -- What is read is what is written.
 
 known-kind-code : (c : ℕ) {k : Kind} → known-kind c ≡ gives k → c ≡ code k
+unfolding kind-of
 known-kind-code zero e = ap code (gives-inj e)
 known-kind-code (suc zero) e = ap code (gives-inj e)
 known-kind-code (suc (suc zero)) e = ap code (gives-inj e)
@@ -57,7 +59,7 @@ known-kind-code (suc (suc (suc zero))) e = ap code (gives-inj e)
 known-kind-code (suc (suc (suc (suc zero)))) e = ap code (gives-inj e)
 known-kind-code (suc (suc (suc (suc (suc zero))))) e = ap code (gives-inj e)
 known-kind-code (suc (suc (suc (suc (suc (suc zero)))))) e = ap code (gives-inj e)
-known-kind-code (suc (suc (suc (suc (suc (suc (suc n))))))) e = cc
+known-kind-code (suc (suc (suc (suc (suc (suc (suc n))))))) e = refused-gives (rw (le-ltb (suc (suc (suc (suc (suc (suc (suc n))))))) 7 (omega arith)) at e)
 
 abbrev word-of : Entry → ℕ
 word-of e = entry-of (code (e .kind)) (e .len)
@@ -199,6 +201,7 @@ parts-sound n names b ps o h =
 -- What is written is read.
 
 code-kind : (k : Kind) → known-kind (code k) ≡ gives k
+unfolding kind-of
 code-kind Null = refl
 code-kind String = refl
 code-kind Number = refl

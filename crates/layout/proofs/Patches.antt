@@ -33,10 +33,6 @@ pub patch-snoc : (o : List ℕ) (at : ℕ) (a : List ℕ) (x : ℕ)
 unfolding patch
 patch-snoc o at a x = patch-append o at a (x ∷ [])
 
-pub patch-none : (o : List ℕ) (at : ℕ) → patch o at [] ≡ o
-unfolding patch
-patch-none o at = refl
-
 -- A buffer with no room stays as it is.
 pub patch-empty : (at : ℕ) (bs : List ℕ) → patch [] at bs ≡ []
 unfolding patch
@@ -92,35 +88,6 @@ patch-eq o at bs h = patch-sets o at bs ∙ sets-eq bs o at h ∙ append-assoc (
 
 pub patch-zero : (o bs : List ℕ) → length bs ≤ length o → patch o 0 bs ≡ bs ++ drop (length bs) o
 patch-zero o bs h = patch-eq o 0 bs (omega arith) ∙ ap (λ (n : ℕ). bs ++ drop n o) (zero-add (length bs))
-
--- A writer's next step: what it wrote so far and what it writes behind that are one patch.
-pub patch-then : (o o₁ o₂ : List ℕ) (at p : ℕ) (a b : List ℕ) → o₁ ≡ patch o at a → o₂ ≡ patch o₁ p b → p ≡ at + length a
-    → o₂ ≡ patch o at (a ++ b)
-patch-then o o₁ o₂ at p a b e₁ e₂ e₃ = rw (e₂, e₁, e₃) (patch-append o at a b)
-
--- What is stored in front of what was stored.
-pub patch-front : (o o₁ o₂ : List ℕ) (at p : ℕ) (a b : List ℕ) → o₁ ≡ patch o p b → o₂ ≡ patch o₁ at a → p ≡ at + length a
-    → o₂ ≡ patch o at (a ++ b)
-patch-front o o₁ o₂ at p a b e₁ e₂ e₃ =
-    rw (e₂, e₁, e₃) (patch-comm o at (at + length a) a b (omega arith) ∙ patch-append o at a b)
-
--- ---- regions in a row, each of which grows at its end
-
-module _ (o : List ℕ) (p : ℕ) (u t : List ℕ) (q : ℕ) (v : List ℕ) where
-  pub slip : p + length u + length t ≤ q → patch (patch (patch o p u) q v) (p + length u) t ≡ patch (patch o p (u ++ t)) q v
-  slip h = patch-comm (patch o p u) (p + length u) q t v h ∙ ap (λ (l : List ℕ). patch l q v) (patch-append o p u t)
-
-  pub slip₂ : (r : ℕ) (w : List ℕ) → p + length u + length t ≤ q → p + length u + length t ≤ r
-      → patch (patch (patch (patch o p u) q v) r w) (p + length u) t ≡ patch (patch (patch o p (u ++ t)) q v) r w
-  slip₂ r w h k = patch-comm (patch (patch o p u) q v) (p + length u) r t w k ∙ ap (λ (l : List ℕ). patch l r w) (slip h)
-
-  pub slip₃ : (r : ℕ) (w : List ℕ) (m : ℕ) (x : List ℕ) → p + length u + length t ≤ q
-      → p + length u + length t ≤ r → p + length u + length t ≤ m
-      → patch (patch (patch (patch (patch o p u) q v) r w) m x) (p + length u) t
-      ≡ patch (patch (patch (patch o p (u ++ t)) q v) r w) m x
-  slip₃ r w m x h k j =
-      patch-comm (patch (patch (patch o p u) q v) r w) (p + length u) m t x j
-      ∙ ap (λ (l : List ℕ). patch l m x) (slip₂ r w h k)
 
 -- ---- the promise of a function that writes
 

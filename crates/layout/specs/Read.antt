@@ -4,10 +4,10 @@ use Prim.Native.Nat.{ℕ, zero, suc, _+_, _*_}
 use mathlib.Core.Bool.{Bool, true, false, not, cond, _||_}
 use mathlib.Core.List.{List, [], _∷_}
 use lib.Dec.{leb, ltb, eqb}
-use lib.ListN.{length, take, drop, getD}
+use lib.ListN.{length, take, drop}
 use Rattle.layout.specs.Bytes.{Bytes, word}
 use Rattle.layout.specs.Answer.{Answer, gives, refused, _>>=_, require}
-use Rattle.layout.specs.Entry.{top-of, code-of, length-of, sort-of, count-of}
+use Rattle.layout.specs.Entry.{top-of, code-of, length-of, kind-of, sort-of, count-of}
 use Rattle.layout.specs.Text.{utf8}
 use Rattle.layout.specs.Number.{listed}
 use Rattle.layout.specs.Tree.{Tree, null, boolean, number, string, extension, array, object, Items, none, item, pair}
@@ -33,11 +33,9 @@ pub record Entry : Type 0 where
   pub kind : Kind
   pub len : ℕ
 
--- The code of a kind is its place in this list.
+-- The kind of a code that has a meaning.
 abbrev pub known-kind : ℕ → Answer Kind
-known-kind c =
-    getD (gives Null ∷ gives String ∷ gives Number ∷ gives False ∷ gives True ∷ gives Container ∷ gives Extension ∷ [])
-    c (refused Layout)
+known-kind c = cond (ltb c 7) (gives (kind-of c)) (refused Layout)
 
 abbrev pub is-string : Kind → Bool
 is-string Null = false
@@ -58,7 +56,7 @@ length-ok Container n = true
 length-ok Extension n = true
 
 unfoldable pub entry : Bool → ℕ → Answer Entry
-unfolding top-of code-of length-of
+unfolding top-of code-of length-of kind-of
 entry name w = do
   _ ← require (eqb (top-of w) 0) Layout
   k ← known-kind (code-of w)
@@ -87,7 +85,7 @@ abbrev pub cut : List Entry → Bytes → List Part
 cut [] b = []
 cut (e ∷ es) b = record { kind = e .kind; bytes = take (e .len) b } ∷ cut es (drop (e .len) b)
 
--- Rules 4 and 5 on what follows the header: "Table not between the bytes: 1", the entries, "Lengths not summing to the bytes
+-- Rules 4 and 5 on what follows the header: "Table not within the bytes: 1", the entries, "Lengths not summing to the bytes
 -- left: 2".
 unfoldable pub parts : ℕ → ℕ → Bytes → Answer (List Part)
 unfolding entry word
