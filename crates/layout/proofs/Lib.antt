@@ -14,6 +14,7 @@ pub mod ReadCases
 pub mod Values
 pub mod Places
 pub mod Checks
+pub mod Nestings
 pub mod Orders
 pub mod Sounds
 pub mod Walks

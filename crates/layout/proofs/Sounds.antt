@@ -41,7 +41,7 @@ both false b p q = (λ h. absurd h, λ h. absurd (p .1 (h .0)))
 always : T true ↔ Unit {0}
 always = (λ h. h, λ h. h)
 
-rising-test : (ns : List Bytes) → T (rising ns) ↔ Rising ns
+pub rising-test : (ns : List Bytes) → T (rising ns) ↔ Rising ns
 rising-test [] = always
 rising-test (n ∷ []) = always
 rising-test (n ∷ m ∷ ns) = both (before n m) (rising (m ∷ ns)) (before-is n m) (rising-test (m ∷ ns))
@@ -67,7 +67,7 @@ mutual
 
 -- By places, on the bytes of a tree.
 
-rising-names : (ns : List Bytes) → rising-parts (name-parts ns) ≡ rising ns
+pub rising-names : (ns : List Bytes) → rising-parts (name-parts ns) ≡ rising ns
 unfolding rising-parts rising-from
 rising-names [] = refl
 rising-names (n ∷ []) = refl

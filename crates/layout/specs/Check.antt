@@ -1,10 +1,14 @@
 -- The answers of the check: readable, or the refusal by the first fault of document 01's rules; and sound or not.
 use mathlib.Core.Bool.{cond}
+use lib.Dec.{leb}
 use Rattle.layout.specs.Answer.{Answer, gives, refused}
 use Rattle.layout.specs.Tree.{Tree}
+use Rattle.layout.specs.Limits.{depth}
 use Rattle.layout.specs.Order.{is-sound}
 use Rattle.layout.specs.declared.check.Check.{Check}
 use Rattle.layout.specs.declared.check.Check.the-variants.{Readable, Refused}
+use Rattle.layout.specs.declared.check.Nesting.{Nesting}
+use Rattle.layout.specs.declared.check.Nesting.the-variants.{Fits, Deep, Refused as NotNested}
 use Rattle.layout.specs.declared.sound.Soundness.{Soundness}
 use Rattle.layout.specs.declared.sound.Soundness.the-variants.{Sound, Unsound, Refused as NotReadable}
 
@@ -16,3 +20,8 @@ checked (refused r) = Refused r
 abbrev pub soundness : Answer Tree → Soundness
 soundness (gives t) = cond (is-sound t) Sound Unsound
 soundness (refused r) = NotReadable r
+
+-- As an item of another record it is one level deeper, and "deeper than 64 is 5".
+abbrev pub nesting : Answer Tree → Nesting
+nesting (gives t) = cond (leb (depth t) 63) Fits Deep
+nesting (refused r) = NotNested r

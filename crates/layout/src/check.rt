@@ -24,10 +24,17 @@ ghost use lib.ListN.{length, drop};
 ghost use Rattle.layout.specs.Read.{read, nested, «payload-in» as payloadIn, «items-in» as itemsIn, «scalar-in» as scalarIn};
 ghost use Rattle.layout.specs.Entry.{lengths};
 ghost use Rattle.layout.specs.Place.{body, «table-ok» as tableOk, «parts-at» as partsAt};
-ghost use Rattle.layout.specs.Check.{checked};
+ghost use Rattle.layout.specs.Check.{checked, nesting};
 
 pub enum Check {
     Readable,
+    Refused(Refusal),
+}
+
+// Whether a record can stand inside another. A container of as many levels as there may be is too deep for it.
+pub enum Nesting {
+    Fits,
+    Deep,
     Refused(Refusal),
 }
 
@@ -167,4 +174,24 @@ pub fn check_record(s: &[u8]) -> Check
         Header::Array(n) => check_body(s, n, 0, DEPTH_LIMIT - 1),
         Header::Object(n) => check_body(s, n + n, n, DEPTH_LIMIT - 1),
     }
+}
+
+// Whether a record is readable, and one level inside another record still is. A container is checked with that level less, so
+// that a usual one is gone through once.
+pub fn check_nesting(s: &[u8]) -> Nesting
+    ensures { λ r. ⌜ r ≡ nesting (read (now (s .entry))) ⌝ }
+{
+    if RECORD_LIMIT < s.len() {
+        return Nesting::Refused(Refusal::Limit);
+    }
+    if let Check::Readable = check_nested(s, DEPTH_LIMIT - 1) {
+        return Nesting::Fits;
+    }
+    if let Check::Refused(refusal) = check_record(s) {
+        return Nesting::Refused(refusal);
+    }
+    if let Header::Scalar(_) = read_header(s) {
+        return Nesting::Fits;
+    }
+    Nesting::Deep
 }

@@ -28,7 +28,7 @@ pub enum Soundness {
 }
 
 // Whether n names rise strictly, the first of them at `start`: each is compared with the one before.
-fn is_rising(s: &[u8], n: usize, start: usize) -> bool
+pub fn is_rising(s: &[u8], n: usize, start: usize) -> bool
     requires { ⌜ (n < 2 ^ 29) × (start < 2 ^ 33) ⌝ }
     ensures { λ r. ⌜ r ≡ risingParts (partsAt (now (s .entry)) 0 start n) ⌝ }
 {

@@ -1,0 +1,36 @@
+-- Two records written as one array. What a record gives to it are the items of its table, a scalar's one item among them, or the
+-- record whole as one item.
+use Prim.Native.Nat.{ℕ, _+_, _*_, _^_}
+use mathlib.Core.Bool.{cond}
+use mathlib.Core.List.{_++_}
+use lib.Dec.{ltb}
+use lib.ListN.{length, take, drop}
+use Rattle.layout.specs.Bytes.{Bytes, be32}
+use Rattle.layout.specs.Entry.{entry-of}
+use Rattle.layout.specs.Ended.{Outcome, refusal, into}
+use Rattle.layout.specs.declared.refusal.Refusal.the-variants.{Result}
+use Rattle.builders.specs.declared.builder.Given.{Given}
+use Rattle.builders.specs.declared.builder.Given.the-variants.{Table, Whole}
+
+-- How many items.
+unfoldable pub given-count : Given → ℕ
+given-count (Table n) = n
+given-count Whole = 1
+
+-- Their entries, and where their payloads start.
+unfoldable pub given-entries : Bytes → Given → Bytes
+given-entries s (Table n) = take (4 * n) (drop 4 s)
+given-entries s Whole = be32 (entry-of 5 (length s))
+
+unfoldable pub given-start : Given → ℕ
+given-start (Table n) = 4 + 4 * n
+given-start Whole = 0
+
+unfoldable pub joined : Bytes → Given → Bytes → Given → Bytes
+joined s g r h =
+    be32 (2 ^ 31 + (given-count g + given-count h))
+    ++ ((given-entries s g ++ given-entries r h) ++ (drop (given-start g) s ++ drop (given-start h) r))
+
+-- 9 by the length, then 10.
+unfoldable pub sized : ℕ → Bytes → Outcome
+sized room b = cond (ltb 65536 (length b)) (refusal Result) (into room b)

@@ -1,0 +1,9 @@
+-- The definitions of the builders, in reading order.
+
+-- What document 01 says.
+pub mod Order
+pub mod Build
+-- Forms that follow the code, for the contracts inside the crate; theorems of proofs/ tie each to the definitions above.
+pub mod Join
+pub mod Search
+pub mod Weave

@@ -1,0 +1,88 @@
+-- The members of an object by their places, and the search for the next name in byte order. `search-nth` of proofs/Searches.antt
+-- says that the search, repeated, gives `sorted`, and proofs/Stands.antt that `sorted` is `in-order`.
+use Prim.Native.Nat.{ℕ, zero, suc, _+_}
+use mathlib.Core.Bool.{Bool, true, false, cond}
+use mathlib.Core.List.{List, [], _∷_}
+use lib.ListN.{take, drop}
+use Rattle.layout.specs.Bytes.{Bytes, word-at}
+use Rattle.layout.specs.Entry.{length-of}
+use Rattle.layout.specs.Encode.{Part}
+use Rattle.layout.specs.Order.{order, before}
+use Rattle.builders.specs.Order.{by}
+use Rattle.builders.specs.declared.search.ItemAt.{ItemAt}
+use Rattle.builders.specs.declared.search.MemberAt.{MemberAt}
+use Rattle.builders.specs.declared.search.Places.{Places}
+use Rattle.builders.specs.declared.search.Found.{Found}
+use Rattle.builders.specs.declared.search.Found.the-variants.{Nothing, At}
+
+-- The bytes of each of some parts.
+abbrev pub texts : List Part → List Bytes
+texts [] = []
+texts (p ∷ ps) = p .bytes ∷ texts ps
+
+abbrev pub bytes-at : Bytes → ItemAt → Bytes
+bytes-at s x = take (length-of (x .jentry)) (drop (x .offset) s)
+
+-- A member's name, which it is ordered by.
+abbrev pub name-in : Bytes → MemberAt → Bytes
+name-in keys m = bytes-at keys (m .key)
+
+-- The member whose entries stand at `a` and `b`, and whose name and value at `p` and `q`; and the `k` members from there on. Names
+-- are in `ks`, values in `vs`.
+abbrev pub member-at : Bytes → Bytes → ℕ → ℕ → ℕ → ℕ → MemberAt
+member-at ks vs a b p q =
+    record { key = record { jentry = word-at ks a; offset = p }; val = record { jentry = word-at vs b; offset = q } }
+
+unfoldable pub members-from : Bytes → Bytes → ℕ → ℕ → ℕ → ℕ → ℕ → List MemberAt
+members-from ks vs a b p q zero = []
+members-from ks vs a b p q (suc k) =
+    member-at ks vs a b p q
+    ∷ members-from ks vs (a + 4) (b + 4) (p + length-of (word-at ks a)) (q + length-of (word-at vs b)) k
+
+unfoldable pub members-at : Bytes → Bytes → Places → ℕ → List MemberAt
+members-at ks vs w k = members-from ks vs (w .«key_jentry») (w .«val_jentry») (w .key) (w .val) k
+
+-- Names above the last one taken; at first, all.
+pub data Bound : Type 0 where
+  start : Bound
+  after : Bytes → Bound
+
+abbrev pub bound : Bool → Bytes → Bound
+bound true last = start
+bound false last = after last
+
+unfoldable pub over : Bound → Bytes → Bool
+over start n = true
+over (after l) n = before l n
+
+module _ (key : MemberAt → Bytes) where
+  -- Of the best so far and `m` the one with the lesser name, of equal names the earlier.
+  unfoldable pub better : Found → MemberAt → Found
+  better Nothing m = At m
+  better (At b) m = cond (before (key m) (key b)) (At m) (At b)
+
+  unfoldable pub step : Bound → Found → MemberAt → Found
+  step last best m = cond (over last (key m)) (better best m) best
+
+  -- The first member with the least name above the last.
+  unfoldable pub least : Bound → Found → List MemberAt → Found
+  least last best [] = best
+  least last best (m ∷ ms) = least last (step last best m) ms
+
+  -- The members in byte order, of equal names the first: each is put in its place, unless its name is there.
+  unfoldable pub put-in : MemberAt → List MemberAt → List MemberAt
+  put-in m [] = m ∷ []
+  put-in m (b ∷ bs) = by (order (key m) (key b)) (m ∷ b ∷ bs) (b ∷ bs) (b ∷ put-in m bs)
+
+  unfoldable pub put-all : List MemberAt → List MemberAt → List MemberAt
+  put-all done [] = done
+  put-all done (m ∷ ms) = put-all (put-in m done) ms
+
+  unfoldable pub sorted : List MemberAt → List MemberAt
+  sorted ms = put-all [] ms
+
+-- The `k`th of a list, and the bound that the one before it sets.
+unfoldable pub nth : List MemberAt → ℕ → Found
+nth [] k = Nothing
+nth (m ∷ ms) zero = At m
+nth (m ∷ ms) (suc k) = nth ms k

@@ -1,0 +1,3 @@
+// Builders: append and object build, and what writes a container into a lent buffer.
+pub mod builder;
+pub mod search;

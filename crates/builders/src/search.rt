@@ -1,0 +1,119 @@
+// Members by their places, and the search for the next name in byte order. It stands in for the Rust's BTreeMap of members: no
+// work buffer is lent, so each name is searched for anew.
+use layout::constants::JENTRY_SIZE;
+use layout::jentry::payload_len;
+use layout::order::Ordering;
+use layout::order::compare;
+use layout::order::is_before;
+use layout::util::read_u32;
+use layout::util::slice;
+ghost use mathlib.Core.Path.{_≡_};
+ghost use Prim.Native.Nat.{_+_, _^_, _<_};
+ghost use Rattle.layout.specs.Place.{«parts-at» as partsAt};
+ghost use Rattle.builders.specs.Order.{same, has, distinct};
+ghost use Rattle.builders.specs.Search.{texts, «bytes-at» as bytesAt, «member-at» as memberAt, «members-at» as membersAt};
+ghost use Rattle.builders.specs.Search.{bound, over, better, step, least, «name-in» as nameIn};
+
+// An item as it stands in a record: its entry, and the place of its payload.
+pub struct ItemAt {
+    pub jentry: u32,
+    pub offset: usize,
+}
+
+pub struct MemberAt {
+    pub key: ItemAt,
+    pub val: ItemAt,
+}
+
+// The places of a member's two entries, its name and its value, in records to read or in a buffer to write.
+pub struct Places {
+    pub key_jentry: usize,
+    pub val_jentry: usize,
+    pub key: usize,
+    pub val: usize,
+}
+
+pub enum Found {
+    Nothing,
+    At(MemberAt),
+}
+
+// The payload of an item.
+pub fn payload_at(s: &[u8], item: ItemAt) -> &[u8]
+    ensures { λ r. ⌜ now r ≡ bytesAt (now (s .entry)) item ⌝ }
+{
+    slice(s, item.offset, payload_len(item.jentry) as usize)
+}
+
+// The member at these places.
+fn read_member(keys: &[u8], vals: &[u8], at: Places) -> MemberAt
+    ensures { λ r. ⌜ r ≡ memberAt (now (keys .entry)) (now (vals .entry)) (at .«key_jentry») (at .«val_jentry») (at .key) (at .val) ⌝ }
+{
+    MemberAt {
+        key: ItemAt {
+            jentry: read_u32(keys, at.key_jentry),
+            offset: at.key,
+        },
+        val: ItemAt {
+            jentry: read_u32(vals, at.val_jentry),
+            offset: at.val,
+        },
+    }
+}
+
+// Whether a name comes behind the last one taken; at first each does.
+fn is_over(is_first: bool, last: &[u8], name: &[u8]) -> bool
+    ensures { λ r. ⌜ r ≡ over (bound «is_first» (now (last .entry))) (now (name .entry)) ⌝ }
+{
+    if is_first {
+        return true;
+    }
+    is_before(last, name)
+}
+
+// The one with the lesser name; of equal names the earlier stays.
+fn better_of(keys: &[u8], best: Found, member: MemberAt) -> Found
+    ensures { λ r. ⌜ r ≡ better (nameIn (now (keys .entry))) best member ⌝ }
+{
+    match best {
+        Found::Nothing => Found::At(member),
+        Found::At(other) => {
+            if is_before(payload_at(keys, member.key), payload_at(keys, other.key)) {
+                return Found::At(member);
+            }
+            best
+        }
+    }
+}
+
+fn step_of(keys: &[u8], is_first: bool, last: &[u8], best: Found, member: MemberAt) -> Found
+    ensures { λ r. ⌜ r ≡ step (nameIn (now (keys .entry))) (bound «is_first» (now (last .entry))) best member ⌝ }
+{
+    if is_over(is_first, last, payload_at(keys, member.key)) {
+        return better_of(keys, best, member);
+    }
+    best
+}
+
+// Of `count` members the first with the least name behind the last one taken.
+pub fn next_member(keys: &[u8], vals: &[u8], from: Places, count: usize, is_first: bool, last: &[u8]) -> Found
+    requires { ⌜ (count < 2 ^ 29) × (from .«key_jentry» < 2 ^ 32) × (from .«val_jentry» < 2 ^ 32) × (from .key < 2 ^ 32) × (from .val < 2 ^ 32) ⌝ }
+    ensures { λ r. ⌜ r ≡ least (nameIn (now (keys .entry))) (bound «is_first» (now (last .entry))) Found.Nothing
+        (membersAt (now (keys .entry)) (now (vals .entry)) from count) ⌝ }
+{
+    let mut best = Found::Nothing;
+    let mut at = from;
+    let mut i = 0;
+    while i < count {
+        let member = read_member(keys, vals, at);
+        best = step_of(keys, is_first, last, best, member);
+        at = Places {
+            key_jentry: at.key_jentry + JENTRY_SIZE,
+            val_jentry: at.val_jentry + JENTRY_SIZE,
+            key: at.key + payload_len(member.key.jentry) as usize,
+            val: at.val + payload_len(member.val.jentry) as usize,
+        };
+        i += 1;
+    }
+    best
+}
