@@ -1,1 +1,13 @@
 -- The laws of the builders.
+pub mod Orderings
+pub mod Searches
+pub mod InOrders
+pub mod Stands
+pub mod Weaves
+pub mod Steps
+pub mod Naming
+pub mod Storing
+pub mod Joins
+pub mod Twos
+pub mod Sides
+pub mod Appends

@@ -1,6 +1,6 @@
 -- Two records written as one array. What a record gives to it are the items of its table, a scalar's one item among them, or the
 -- record whole as one item.
-use Prim.Native.Nat.{ℕ, _+_, _*_, _^_}
+use Prim.Native.Nat.{ℕ, _+_, _*_, _^_, _≤_}
 use mathlib.Core.Bool.{cond}
 use mathlib.Core.List.{_++_}
 use lib.Dec.{ltb}
@@ -9,6 +9,8 @@ use Rattle.layout.specs.Bytes.{Bytes, be32}
 use Rattle.layout.specs.Entry.{entry-of}
 use Rattle.layout.specs.Ended.{Outcome, refusal, into}
 use Rattle.layout.specs.declared.refusal.Refusal.the-variants.{Result}
+use Rattle.layout.specs.declared.util.Header.{Header}
+use Rattle.layout.specs.declared.util.Header.the-variants.{Array, Object, Scalar, Refused}
 use Rattle.builders.specs.declared.builder.Given.{Given}
 use Rattle.builders.specs.declared.builder.Given.the-variants.{Table, Whole}
 
@@ -25,6 +27,18 @@ given-entries s Whole = be32 (entry-of 5 (length s))
 unfoldable pub given-start : Given → ℕ
 given-start (Table n) = 4 + 4 * n
 given-start Whole = 0
+
+-- What is given lies in the bytes, which are no more than a record may have.
+pub record Lies (s : Bytes) (g : Given) : Type 0 where
+  pub starts : given-start g ≤ length s
+  pub short : length s ≤ 65536
+
+-- A record as one item.
+abbrev pub as-one : Header → Given
+as-one (Array n) = Whole
+as-one (Object n) = Whole
+as-one (Scalar n) = Table 1
+as-one (Refused r) = Whole
 
 unfoldable pub joined : Bytes → Given → Bytes → Given → Bytes
 joined s g r h =

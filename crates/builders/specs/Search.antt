@@ -1,11 +1,12 @@
 -- The members of an object by their places, and the search for the next name in byte order. `search-nth` of proofs/Searches.antt
 -- says that the search, repeated, gives `sorted`, and proofs/Stands.antt that `sorted` is `in-order`.
 use Prim.Native.Nat.{ℕ, zero, suc, _+_}
-use mathlib.Core.Bool.{Bool, true, false, cond}
+use mathlib.Core.Bool.{Bool, true, false, cond, _&&_}
 use mathlib.Core.List.{List, [], _∷_}
+use lib.Dec.{eqb}
 use lib.ListN.{take, drop}
 use Rattle.layout.specs.Bytes.{Bytes, word-at}
-use Rattle.layout.specs.Entry.{length-of}
+use Rattle.layout.specs.Entry.{code-of, length-of, entry-at}
 use Rattle.layout.specs.Encode.{Part}
 use Rattle.layout.specs.Order.{order, before}
 use Rattle.builders.specs.Order.{by}
@@ -20,12 +21,21 @@ abbrev pub texts : List Part → List Bytes
 texts [] = []
 texts (p ∷ ps) = p .bytes ∷ texts ps
 
+-- Whether the `k` entries from the `i`th on are those of strings.
+unfoldable pub strings-at : Bytes → ℕ → ℕ → Bool
+strings-at s i zero = true
+strings-at s i (suc k) = eqb (code-of (entry-at s i)) 1 && strings-at s (i + 1) k
+
+-- The payload of an item.
 abbrev pub bytes-at : Bytes → ItemAt → Bytes
 bytes-at s x = take (length-of (x .jentry)) (drop (x .offset) s)
 
--- A member's name, which it is ordered by.
+-- A member's name, which it is ordered by, and its value.
 abbrev pub name-in : Bytes → MemberAt → Bytes
 name-in keys m = bytes-at keys (m .key)
+
+abbrev pub value-in : Bytes → MemberAt → Bytes
+value-in vals m = bytes-at vals (m .val)
 
 -- The member whose entries stand at `a` and `b`, and whose name and value at `p` and `q`; and the `k` members from there on. Names
 -- are in `ks`, values in `vs`.

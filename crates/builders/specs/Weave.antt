@@ -6,6 +6,17 @@ use lib.ListN.{length}
 use Rattle.layout.specs.Bytes.{Bytes, be32}
 use Rattle.layout.specs.Patch.{patch}
 use Rattle.builders.specs.declared.search.MemberAt.{MemberAt}
+use Rattle.builders.specs.declared.search.Places.{Places}
+
+-- The places behind a member with this name and value.
+abbrev pub behind : Bytes → Bytes → Places → Places
+behind n v at =
+    record {
+      «key_jentry» = at .«key_jentry» + 4;
+      «val_jentry» = at .«val_jentry» + 4;
+      key = at .key + length n;
+      val = at .val + length v;
+    }
 
 module _ (name value : MemberAt → Bytes) where
   abbrev pub stored : Bytes → ℕ → ℕ → ℕ → ℕ → MemberAt → Bytes

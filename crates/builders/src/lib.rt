@@ -1,3 +1,4 @@
 // Builders: append and object build, and what writes a container into a lent buffer.
 pub mod builder;
+pub mod names;
 pub mod search;

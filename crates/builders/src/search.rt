@@ -2,17 +2,16 @@
 // work buffer is lent, so each name is searched for anew.
 use layout::constants::JENTRY_SIZE;
 use layout::jentry::payload_len;
-use layout::order::Ordering;
-use layout::order::compare;
 use layout::order::is_before;
 use layout::util::read_u32;
 use layout::util::slice;
+use layout::writer::copy;
+use layout::writer::put_u32;
 ghost use mathlib.Core.Path.{_≡_};
 ghost use Prim.Native.Nat.{_+_, _^_, _<_};
-ghost use Rattle.layout.specs.Place.{«parts-at» as partsAt};
-ghost use Rattle.builders.specs.Order.{same, has, distinct};
-ghost use Rattle.builders.specs.Search.{texts, «bytes-at» as bytesAt, «member-at» as memberAt, «members-at» as membersAt};
-ghost use Rattle.builders.specs.Search.{bound, over, better, step, least, «name-in» as nameIn};
+ghost use Rattle.builders.specs.Search.{«bytes-at» as bytesAt, «member-at» as memberAt, «members-at» as membersAt};
+ghost use Rattle.builders.specs.Search.{bound, over, better, step, least, sorted, «name-in» as nameIn, «value-in» as valueIn};
+ghost use Rattle.builders.specs.Weave.{behind, stored, woven};
 
 // An item as it stands in a record: its entry, and the place of its payload.
 pub struct ItemAt {
@@ -116,4 +115,47 @@ pub fn next_member(keys: &[u8], vals: &[u8], from: Places, count: usize, is_firs
         i += 1;
     }
     best
+}
+
+// Stores a member's entries, name and value, and gives the places behind them.
+fn put_member(keys: &[u8], vals: &[u8], member: MemberAt, out: &mut [u8], at: Places) -> Places
+    requires { ⌜ (at .«key_jentry» < 2 ^ 60) × (at .«val_jentry» < 2 ^ 60) × (at .key < 2 ^ 60) × (at .val < 2 ^ 60) ⌝ }
+    ensures is { λ r. ⌜ r ≡ behind (nameIn (now (keys .entry)) member) (valueIn (now (vals .entry)) member) at ⌝ }
+    ensures kept { λ _. ⌜ now (out .exit) ≡ stored (nameIn (now (keys .entry))) (valueIn (now (vals .entry))) (now (out .entry))
+        (at .«key_jentry») (at .«val_jentry») (at .key) (at .val) member ⌝ }
+{
+    let name = payload_at(keys, member.key);
+    let value = payload_at(vals, member.val);
+    put_u32(out, at.key_jentry, member.key.jentry);
+    put_u32(out, at.val_jentry, member.val.jentry);
+    copy(name, out, at.key);
+    copy(value, out, at.val);
+    Places {
+        key_jentry: at.key_jentry + JENTRY_SIZE,
+        val_jentry: at.val_jentry + JENTRY_SIZE,
+        key: at.key + name.len(),
+        val: at.val + value.len(),
+    }
+}
+
+// Stores `count` members in byte order of their names, of equal names the first, each behind the one before.
+pub fn put_members(keys: &[u8], vals: &[u8], from: Places, count: usize, out: &mut [u8], to: Places)
+    requires { ⌜ (count < 2 ^ 29) × (from .«key_jentry» < 2 ^ 32) × (from .«val_jentry» < 2 ^ 32) × (from .key < 2 ^ 32) × (from .val < 2 ^ 32) ⌝ }
+    requires { ⌜ (to .«key_jentry» < 2 ^ 32) × (to .«val_jentry» < 2 ^ 32) × (to .key < 2 ^ 32) × (to .val < 2 ^ 32) ⌝ }
+    ensures { λ _. ⌜ now (out .exit)
+        ≡ woven (nameIn (now (keys .entry))) (valueIn (now (vals .entry))) (now (out .entry))
+        (to .«key_jentry») (to .«val_jentry») (to .key) (to .val)
+        (sorted (nameIn (now (keys .entry))) (membersAt (now (keys .entry)) (now (vals .entry)) from count)) ⌝ }
+{
+    let mut last = slice(keys, 0, 0);
+    let mut at = to;
+    let mut i = 0;
+    while i < count {
+        let Found::At(member) = next_member(keys, vals, from, count, i == 0, last) else {
+            return;
+        };
+        at = put_member(keys, vals, member, out, at);
+        last = payload_at(keys, member.key);
+        i += 1;
+    }
 }

@@ -58,7 +58,7 @@ pub fn kind_of(code: u32) -> Kind
 }
 
 // Entry i of the table behind a header.
-pub(crate) fn read_jentry(s: &[u8], i: usize) -> u32
+pub fn read_jentry(s: &[u8], i: usize) -> u32
     requires { ⌜ i ≤ 2 ^ 30 ⌝ }
     ensures { λ r. ⌜ r ≡ entryAt (now (s .entry)) i ⌝ }
 {

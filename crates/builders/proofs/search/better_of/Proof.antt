@@ -1,3 +1,5 @@
+-- `builders::search::better_of` meets its contract.
+use Rattle.builders.proofs.Steps.{better-first, better-new, better-old}
 use borrow.Author.Needs.{needs}
 use Rattle.builders.proofs.search.better_of.Statement.{statement}
 use Rattle.builders.proofs.search.better_of.Tie as tie
@@ -28,15 +30,15 @@ is-before-requires c κs = search needs
 
 -- src/search.rt:82:17
 returns : tie.Need-returns
-returns c = ?
+returns c = better-new _ _ _ _ (c .before .before .before .before .before .best .given .1) _ _ (c .before .before .before .payload-at .ensures) (c .before .before .payload-at2 .ensures) _ (c .before .is-before .ensures) (c .if1 .taken)
 
 -- src/search.rt:75:1
 returns-2 : tie.Need-returns-2
-returns-2 c = ?
+returns-2 c = better-first _ _ _ (c .enum-told .given .1)
 
 -- src/search.rt:75:1
 returns-3 : tie.Need-returns-3
-returns-3 c = ?
+returns-3 c = better-old _ _ _ _ (c .before .before .before .before .before .best .given .1) _ _ (c .before .before .before .payload-at .ensures) (c .before .before .payload-at2 .ensures) _ (c .before .is-before .ensures) (c .if1 .left)
 
 pub better-of-spec : {M : Type 1} → statement M
 better-of-spec =

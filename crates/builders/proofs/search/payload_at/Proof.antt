@@ -1,3 +1,5 @@
+-- `builders::search::payload_at` meets its contract.
+use Rattle.builders.proofs.Steps.{payload-is}
 use borrow.Author.Needs.{needs}
 use Rattle.builders.proofs.search.payload_at.Statement.{statement}
 use Rattle.builders.proofs.search.payload_at.Tie as tie
@@ -20,7 +22,7 @@ slice-requires c κs = search needs
 
 -- src/search.rt:42:1
 returns : tie.Need-returns
-returns c = ?
+returns c = payload-is _ _ (c .before .before .before .args .item) _ (c .before .payload-len .ensures) (c .slice .ensures)
 
 pub payload-at-spec : {M : Type 1} → statement M
 payload-at-spec = tie.close (tie.spec payload-len-requires cast-slice slice-requires returns)

@@ -1,3 +1,4 @@
+-- `builders::search::read_member` meets its contract.
 use borrow.Author.Needs.{needs}
 use Rattle.builders.proofs.search.read_member.Statement.{statement}
 use Rattle.builders.proofs.search.read_member.Tie as tie
@@ -15,7 +16,7 @@ read-u32-requires-2 c κs = search needs
 
 -- src/search.rt:49:1
 returns : tie.Need-returns
-returns c = ?
+returns c = rw (c .before .read-u32 .ensures, c .read-u322 .ensures)
 
 pub read-member-spec : {M : Type 1} → statement M
 read-member-spec = tie.close (tie.spec read-u32-requires read-u32-requires-2 returns)

@@ -1,3 +1,5 @@
+-- `builders::search::step_of` meets its contract.
+use Rattle.builders.proofs.Steps.{step-over, step-under}
 use borrow.Author.Needs.{needs}
 use Rattle.builders.proofs.search.step_of.Statement.{statement}
 use Rattle.builders.proofs.search.step_of.Tie as tie
@@ -21,11 +23,11 @@ better-of-requires c κs = search needs
 
 -- src/search.rt:93:9
 returns : tie.Need-returns
-returns c = ?
+returns c = step-over _ _ _ _ _ (c .before .before .before .payload-at .ensures) _ (c .before .before .is-over .ensures) _ (c .before .if1 .taken) (c .better-of .ensures)
 
 -- src/search.rt:89:1
 returns-2 : tie.Need-returns-2
-returns-2 c = ?
+returns-2 c = step-under _ _ _ _ _ (c .before .before .payload-at .ensures) _ (c .before .is-over .ensures) (c .if1 .left)
 
 pub step-of-spec : {M : Type 1} → statement M
 step-of-spec =

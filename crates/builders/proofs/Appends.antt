@@ -1,0 +1,122 @@
+-- Append: from what the checks and the headers say to the outcome.
+use Prim.Native.Nat.{ℕ, _+_, _^_, _≤_, max}
+use native.Mathlib.Omega.{arith}
+use mathlib.Core.Path.{_≡_, refl, ap, sym, _∙_}
+use lib.ListN.{length}
+use Rattle.layout.specs.Bytes.{Bytes, Octets}
+use Rattle.layout.specs.Answer.{gives, refused, _>>=_}
+use Rattle.layout.specs.Tree.{Tree, null, boolean, number, string, extension, array, object, Items, none, item}
+use Rattle.layout.specs.Encode.{item-parts, encode}
+use Rattle.layout.specs.Read.{header, read}
+use Rattle.layout.specs.Limits.{depth, depth-items, record-length}
+use Rattle.layout.specs.Check.{checked, nesting}
+use Rattle.layout.specs.Ended.{Ended}
+use Rattle.layout.specs.declared.refusal.Refusal.{Refusal}
+use Rattle.layout.specs.declared.refusal.Refusal.the-variants.{Kind, Result}
+use Rattle.layout.specs.declared.ending.Ending.{Ending}
+use Rattle.layout.specs.declared.ending.Ending.the-variants.{Refused}
+use Rattle.layout.specs.declared.util.Header.{Header}
+use Rattle.layout.specs.declared.util.Header.the-variants.{Array}
+use Rattle.layout.specs.declared.check.Check.{Check}
+use Rattle.layout.specs.declared.check.Check.the-variants.{Readable, Refused as NotReadable}
+use Rattle.layout.specs.declared.check.Nesting.{Nesting}
+use Rattle.layout.specs.declared.check.Nesting.the-variants.{Deep, Refused as NotNested}
+use Rattle.layout.proofs.Readables.{record-of-length, length-encode}
+use Rattle.layout.proofs.Nestings.{head-of, readable-gives, refused-as}
+use Rattle.builders.specs.Build.{items-of, join, append, on-two}
+use Rattle.builders.specs.Join.{given-start, Lies, as-one, joined, sized}
+use Rattle.builders.specs.declared.builder.Given.{Given}
+use Rattle.builders.specs.declared.builder.Given.the-variants.{Table}
+use Rattle.builders.proofs.Sides.{Known, known, no-array, an-array, nested-gives, nested-refused, deep-nesting, fits-nesting}
+use Rattle.builders.proofs.Joins.{Gives, array-gives, one-gives, joined-encode}
+use Rattle.builders.proofs.Twos.{two-left, two-right, two-edit, two-deep, two-sized}
+
+-- What a readable record gives.
+module _ (a : Bytes) (n : ℕ) (ts : Items) (k : Known a (array ts)) (e : n ≡ length (item-parts ts)) where
+  array-lies : Lies a (Table n)
+  unfolding given-start
+  array-lies =
+      let l = record-of-length (2 ^ 31 + length (item-parts ts)) (item-parts ts) in
+      record { starts = omega (arith, ap length (k .bytes)); short = k .short }
+
+  items-given : Gives a (Table n) ts
+  items-given = rw (e, ← k .bytes) (array-gives ts)
+
+start-one : (u : Tree) → given-start (as-one (head-of u)) ≤ record-length u
+unfolding given-start
+start-one null = omega arith
+start-one (boolean x) = omega arith
+start-one (number b) = omega arith
+start-one (string b) = omega arith
+start-one (extension b) = omega arith
+start-one (array ts) = omega arith
+start-one (object ms) = omega arith
+
+module _ (b : Bytes) (g : Given) (u : Tree) (k : Known b u) (e : g ≡ as-one (header b)) where
+  one-lies : Lies b g
+  one-lies =
+      rw (e, k .head) (record { starts = omega (arith, start-one u, length-encode u, ap length (k .bytes)); short = k .short })
+
+  one-given : Gives b g (item u none)
+  one-given = rw (e, k .head, ← k .bytes) (one-gives u)
+
+-- The tree of the result.
+append-other : (t u : Tree) → items-of t ≡ refused Kind → append t u ≡ refused Kind
+unfolding append _>>=_
+append-other t u e = rw e
+
+append-array : (ts : Items) (u : Tree) → append (array ts) u ≡ gives (array (join ts (item u none)))
+unfolding append _>>=_
+append-array ts u = refl
+
+depth-join : (ts us : Items) → depth-items (join ts us) ≡ max (depth-items ts) (depth-items us)
+depth-join none us = omega arith
+depth-join (item t ts) us = rw (depth-join ts us) (omega arith)
+
+module _ (a b o : Bytes) (oa : Octets a) (ob : Octets b) (c : Check) (hc : c ≡ checked (read a)) where
+  pub append-left : (x : Refusal) → c ≡ NotReadable x → Ended (Refused x) o o (on-two append a b (length o))
+  append-left x q = two-left append a b o x (refused-as (read a) c x hc q)
+
+  module _ (qc : c ≡ Readable) (n : Nesting) (hn : n ≡ nesting (read b)) where
+    left : (t : Tree) × Known a t
+    left = let w = readable-gives (read a) c hc qc in (w .0, known a (w .0) oa (w .1))
+
+    pub append-right : (x : Refusal) → n ≡ NotNested x → Ended (Refused x) o o (on-two append a b (length o))
+    append-right x q = two-right append a b o (left .0) (left .1 .reads) x (nested-refused (read b) n x hn q)
+
+    module _ (qn : (x : Refusal) → n ≡ NotNested x → ⊥) (h : Header) (hh : h ≡ header a) where
+      right : (u : Tree) × Known b u
+      right = let w = nested-gives (read b) n hn qn in (w .0, known b (w .0) ob (w .1))
+
+      pub append-kind : ((k : ℕ) → h ≡ Array k → ⊥) → Ended (Refused Kind) o o (on-two append a b (length o))
+      append-kind q =
+          two-edit append a b o (left .0) (left .1 .reads) (right .0) (right .1 .reads) Kind
+          (append-other (left .0) (right .0) (no-array (left .0) (λ k e. q k (hh ∙ left .1 .head ∙ e))))
+
+      module _ (k : ℕ) (qh : h ≡ Array k) where
+        items : (ts : Items) × (left .0 ≡ array ts) × (k ≡ length (item-parts ts))
+        items = an-array (left .0) k (sym (left .1 .head) ∙ sym hh ∙ qh)
+
+        an-items : Known a (array (items .0))
+        an-items = rw (items .1) at (left .1)
+
+        pub append-deep : n ≡ Deep → Ended (Refused Result) o o (on-two append a b (length o))
+        append-deep q =
+            let d = deep-nesting (right .0) (sym q ∙ hn ∙ ap nesting (right .1 .reads)) in
+            two-deep append a b o (array (items .0)) (an-items .reads) (right .0) (right .1 .reads) _ (append-array (items .0) (right .0))
+            (omega (arith, depth-join (items .0) (item (right .0) none)))
+
+        module _ (g : Given) (hg : g ≡ as-one (header b)) where
+          pub append-lies : Lies a (Table k) × Lies b g
+          append-lies = (array-lies a k (items .0) an-items (items .2), one-lies b g (right .0) (right .1) hg)
+
+          pub append-ends : (n ≡ Deep → ⊥) → (e : Ending) (o′ : Bytes) → Ended e o o′ (sized (length o) (joined a (Table k) b g))
+              → Ended e o o′ (on-two append a b (length o))
+          append-ends q e o′ h =
+              let d = fits-nesting (right .0) n (hn ∙ ap nesting (right .1 .reads)) q in
+              two-sized append a b o (array (items .0)) (an-items .reads) (right .0) (right .1 .reads) _ (append-array (items .0) (right .0))
+              e o′ (joined a (Table k) b g)
+              (omega (arith, depth-join (items .0) (item (right .0) none), an-items .deep))
+              (joined-encode a (Table k) (items .0) b g (item (right .0) none)
+              (items-given a k (items .0) an-items (items .2)) (one-given b g (right .0) (right .1) hg))
+              h

@@ -1,0 +1,84 @@
+-- The tests of names: strings, equal, among others, distinct.
+use Prim.Native.Nat.{ℕ, _+_, _-_, _<_, _≤_}
+use native.Mathlib.Omega.{arith}
+use native.Mathlib.Nat.{sub-zero}
+use mathlib.Core.Path.{_≡_, refl, ap, sym, _∙_}
+use mathlib.Core.Bool.{Bool, true, false}
+use lib.ListN.{length, take, drop}
+use borrow.Author.Tests.{eq-eqb, ne-eqb}
+use Rattle.layout.specs.Bytes.{Bytes}
+use Rattle.layout.specs.Entry.{code-of, length-of, entry-at}
+use Rattle.layout.specs.Place.{parts-at}
+use Rattle.layout.specs.Order.{order}
+use Rattle.layout.specs.declared.order.Ordering.{Ordering}
+use Rattle.layout.specs.declared.order.Ordering.the-variants.{Less, Equal, Greater}
+use Rattle.layout.proofs.Orders.{Says, says}
+use Rattle.layout.proofs.Checks.{one-less, parts-step}
+use Rattle.builders.specs.Order.{by, same, has, distinct}
+use Rattle.builders.specs.Search.{texts, strings-at}
+
+-- Strings.
+module _ (s : Bytes) (n i : ℕ) (inv : strings-at s 0 n ≡ strings-at s i (n - i)) where
+  module _ (lt : i < n) (e c : ℕ) (he : e ≡ entry-at s i) (hc : c ≡ code-of e) where
+    pub strings-other : (c ≡ 1 → ⊥) → false ≡ strings-at s 0 n
+    unfolding strings-at
+    strings-other q = rw (inv, one-less n i lt, ← he, ← hc, ne-eqb c 1 q)
+
+    pub strings-more : c ≡ 1 → strings-at s 0 n ≡ strings-at s (i + 1) (n - (i + 1))
+    unfolding strings-at
+    strings-more q = inv ∙ rw (one-less n i lt, ← he, ← hc, eq-eqb c 1 q)
+
+  pub strings-end : n ≤ i → true ≡ strings-at s 0 n
+  unfolding strings-at
+  strings-end h = let z : n - i ≡ 0 = omega arith in rw (inv, z)
+
+-- Equal names.
+pub same-lengths : (a b : Bytes) → (length a ≡ length b → ⊥) → false ≡ same a b
+unfolding same
+same-lengths a b h = go (order a b) (says a b)
+  where
+    go : (o : Ordering) → Says a b o → false ≡ by o false true false
+    go Less q = refl
+    go Equal q = absurd (h (ap length q))
+    go Greater q = refl
+
+pub same-by : (a b : Bytes) (o p : Ordering) → o ≡ order a b → o ≡ p → by p false true false ≡ same a b
+unfolding same
+same-by a b o p e q = rw (← e, q)
+
+-- Among others.
+module _ (name s : Bytes) (from start n i p : ℕ)
+    (inv : has name (texts (parts-at s from start (n - from))) ≡ has name (texts (parts-at s i p (n - i)))) where
+  module _ (lt : i < n) (e l : ℕ) (piece : Bytes) (g : Bool) (he : e ≡ entry-at s i) (hl : l ≡ length-of e)
+      (hp : piece ≡ take l (drop p s)) (hg : g ≡ same name piece) where
+    pub among-found : g ≡ true → true ≡ has name (texts (parts-at s from start (n - from)))
+    unfolding has
+    among-found q = rw (inv, parts-step s i p n lt, ← he, ← hl, ← hp, ← hg, q)
+
+    pub among-more : g ≡ false
+        → has name (texts (parts-at s from start (n - from))) ≡ has name (texts (parts-at s (i + 1) (p + l) (n - (i + 1))))
+    unfolding has
+    among-more q = inv ∙ rw (parts-step s i p n lt, ← he, ← hl, ← hp, ← hg, q)
+
+  pub among-end : n ≤ i → false ≡ has name (texts (parts-at s from start (n - from)))
+  unfolding has parts-at
+  among-end h = let z : n - i ≡ 0 = omega arith in rw (inv, z)
+
+-- Distinct.
+pub distinct-start : (s : Bytes) (start n : ℕ) → distinct (texts (parts-at s 0 start n)) ≡ distinct (texts (parts-at s 0 start (n - 0)))
+distinct-start s start n = rw (sub-zero n)
+
+module _ (s : Bytes) (start n i p : ℕ) (inv : distinct (texts (parts-at s 0 start n)) ≡ distinct (texts (parts-at s i p (n - i)))) where
+  module _ (lt : i < n) (e l : ℕ) (piece : Bytes) (g : Bool) (he : e ≡ entry-at s i) (hl : l ≡ length-of e)
+      (hp : piece ≡ take l (drop p s)) (hg : g ≡ has piece (texts (parts-at s (i + 1) (p + l) (n - (i + 1))))) where
+    pub distinct-twice : g ≡ true → false ≡ distinct (texts (parts-at s 0 start n))
+    unfolding distinct
+    distinct-twice q = rw (inv, parts-step s i p n lt, ← he, ← hl, ← hp, ← hg, q)
+
+    pub distinct-more : g ≡ false → distinct (texts (parts-at s 0 start n)) ≡ distinct (texts (parts-at s (i + 1) (p + l) (n - (i + 1))))
+    unfolding distinct
+    distinct-more q = inv ∙ rw (parts-step s i p n lt, ← he, ← hl, ← hp, ← hg, q)
+
+  pub distinct-end : n ≤ i → true ≡ distinct (texts (parts-at s 0 start n))
+  unfolding distinct parts-at
+  distinct-end h = let z : n - i ≡ 0 = omega arith in rw (inv, z)

@@ -1,0 +1,230 @@
+-- The search for the next name, repeated, gives the members in byte order: `search-nth`.
+use Prim.Native.Nat.{ℕ, zero, suc, _+_, _<_, _≤_, zero-le, suc-le-suc}
+use native.Mathlib.Nat.{le-of-suc-le-suc, not-suc-le-zero}
+use native.Mathlib.Omega.{arith}
+use mathlib.Core.Path.{_≡_, refl, sym, ap, _∙_}
+use mathlib.Core.Bool.{Bool, true, false, cond}
+use mathlib.Core.List.{List, [], _∷_, _++_}
+use lib.ListN.{length, take, drop}
+use Rattle.layout.specs.Bytes.{Bytes, word-at}
+use Rattle.layout.specs.Entry.{length-of}
+use Rattle.layout.specs.Order.{order, is-less, before}
+use Rattle.layout.specs.declared.order.Ordering.{Ordering}
+use Rattle.layout.specs.declared.order.Ordering.the-variants.{Less, Equal, Greater}
+use Rattle.builders.specs.Order.{by}
+use Rattle.builders.specs.Search.{members-from, Bound, start, after, over, better, step, least, put-in, put-all, sorted, nth}
+use Rattle.builders.specs.declared.search.MemberAt.{MemberAt}
+use Rattle.builders.specs.declared.search.Found.{Found}
+use Rattle.builders.specs.declared.search.Found.the-variants.{Nothing, At}
+use Rattle.builders.proofs.Orderings.{turned, order-refl, order-turn, order-trans, order-equal}
+
+less-is : (o : Ordering) → is-less o ≡ true → o ≡ Less
+less-is Less e = refl
+less-is Equal e = cc
+less-is Greater e = cc
+
+cond-same : (u : Bool) (f : Found) → cond u f f ≡ f
+cond-same true f = refl
+cond-same false f = refl
+
+-- What is above a name that is above the last is above the last.
+over-up : (last : Bound) (n m : Bytes) → order n m ≡ Less → over last n ≡ true → over last m ≡ true
+unfolding over before
+over-up start n m e h = refl
+over-up (after l) n m e h = ap is-less (order-trans l n m (less-is (order l n) h) e)
+
+over-same : (last : Bound) (n m : Bytes) → order n m ≡ Equal → over last n ≡ over last m
+over-same last n m e = ap (over last) (order-equal n m e)
+
+module _ (key : MemberAt → Bytes) where
+  abbrev compared : MemberAt → MemberAt → Ordering
+  compared m b = order (key m) (key b)
+
+  abbrev bound-by : Found → Bound
+  bound-by Nothing = start
+  bound-by (At m) = after (key m)
+
+  -- The bound that the member before the `k`th sets.
+  unfoldable pub bound-at : List MemberAt → ℕ → Bound
+  bound-at ms zero = start
+  bound-at ms (suc k) = bound-by (nth ms k)
+
+  -- The first of a list that is above `last`.
+  first-over : Bound → List MemberAt → Found
+  first-over last [] = Nothing
+  first-over last (b ∷ bs) = cond (over last (key b)) (At b) (first-over last bs)
+
+  -- Of a list with `m` put in, the first above `last` is a step of the search from the first of the list.
+  module _ (last : Bound) (m : MemberAt) where
+    case-less : (b : MemberAt) (f : Found) (u v : Bool) → compared m b ≡ Less → over last (key m) ≡ u → over last (key b) ≡ v
+        → cond (over last (key m)) (At m) (cond (over last (key b)) (At b) f) ≡ step key last (cond (over last (key b)) (At b) f) m
+    unfolding step better before
+    case-less b f false v e p q = rw p
+    case-less b f true true e p q = rw (p, q, e)
+    case-less b f true false e p q = let r = sym (over-up last (key m) (key b) e p) ∙ q in cc
+
+    case-equal : (b : MemberAt) (f : Found) (u : Bool) → compared m b ≡ Equal → over last (key m) ≡ u
+        → cond (over last (key b)) (At b) f ≡ step key last (cond (over last (key b)) (At b) f) m
+    unfolding step better before
+    case-equal b f true e p = rw (← over-same last (key m) (key b) e, p, e)
+    case-equal b f false e p = rw (← over-same last (key m) (key b) e, p)
+
+    case-greater : (b : MemberAt) (f : Found) (v : Bool) → compared m b ≡ Greater → over last (key b) ≡ v
+        → cond (over last (key b)) (At b) (step key last f m) ≡ step key last (cond (over last (key b)) (At b) f) m
+    unfolding step better before
+    case-greater b f true e q = rw (q, e) (sym (cond-same (over last (key m)) (At b)))
+    case-greater b f false e q = rw q
+
+    by-case : (o : Ordering) (b : MemberAt) (bs r : List MemberAt) → compared m b ≡ o → first-over last r ≡ step key last (first-over last bs) m
+        → first-over last (by o (m ∷ b ∷ bs) (b ∷ bs) (b ∷ r)) ≡ step key last (first-over last (b ∷ bs)) m
+    unfolding first-over
+    by-case Less b bs r e ih = case-less b (first-over last bs) (over last (key m)) (over last (key b)) e refl refl
+    by-case Equal b bs r e ih = case-equal b (first-over last bs) (over last (key m)) e refl
+    by-case Greater b bs r e ih =
+        ap (λ (f : Found). cond (over last (key b)) (At b) f) ih ∙ case-greater b (first-over last bs) (over last (key b)) e refl
+
+    first-put : (bs : List MemberAt) → first-over last (put-in key m bs) ≡ step key last (first-over last bs) m
+    unfolding first-over put-in step better
+    first-put [] = refl
+    first-put (b ∷ bs) = by-case (compared m b) b bs (put-in key m bs) refl (first-put bs)
+
+  -- The search gives the first above `last` of the members in byte order.
+  search-first : (last : Bound) (done ms : List MemberAt) → least key last (first-over last done) ms ≡ first-over last (put-all key done ms)
+  unfolding least put-all
+  search-first last done [] = refl
+  search-first last done (m ∷ ms) =
+      ap (λ (f : Found). least key last f ms) (sym (first-put last m done)) ∙ search-first last (put-in key m done) ms
+
+  -- Each name is less than all that follow.
+  abbrev pub Above : MemberAt → List MemberAt → Type 0
+  Above x [] = Unit {0}
+  Above x (b ∷ bs) = (order (key x) (key b) ≡ Less) × Above x bs
+
+  abbrev pub Ascending : List MemberAt → Type 0
+  Ascending [] = Unit {0}
+  Ascending (b ∷ bs) = Above b bs × Ascending bs
+
+  above-trans : (x y : MemberAt) (bs : List MemberAt) → compared x y ≡ Less → Above y bs → Above x bs
+  above-trans x y [] e h = tt
+  above-trans x y (b ∷ bs) e h = (order-trans (key x) (key y) (key b) e (h .0), above-trans x y bs e (h .1))
+
+  above-by : (o : Ordering) (x m b : MemberAt) (bs r : List MemberAt) → compared x m ≡ Less → compared x b ≡ Less → Above x bs → Above x r
+      → Above x (by o (m ∷ b ∷ bs) (b ∷ bs) (b ∷ r))
+  above-by Less x m b bs r e f h k = (e, (f, h))
+  above-by Equal x m b bs r e f h k = (f, h)
+  above-by Greater x m b bs r e f h k = (f, k)
+
+  above-put : (x m : MemberAt) (bs : List MemberAt) → compared x m ≡ Less → Above x bs → Above x (put-in key m bs)
+  unfolding put-in
+  above-put x m [] e h = (e, tt)
+  above-put x m (b ∷ bs) e h = above-by (compared m b) x m b bs (put-in key m bs) e (h .0) (h .1) (above-put x m bs e (h .1))
+
+  ascending-by : (o : Ordering) (m b : MemberAt) (bs r : List MemberAt) → compared m b ≡ o → Above b bs → Ascending bs
+      → (compared b m ≡ Less → Above b r) → Ascending r → Ascending (by o (m ∷ b ∷ bs) (b ∷ bs) (b ∷ r))
+  ascending-by Less m b bs r e h k f g = ((e, above-trans m b bs e h), (h, k))
+  ascending-by Equal m b bs r e h k f g = (h, k)
+  ascending-by Greater m b bs r e h k f g = (f (order-turn (key m) (key b) ∙ ap turned e), g)
+
+  ascending-put : (m : MemberAt) (bs : List MemberAt) → Ascending bs → Ascending (put-in key m bs)
+  unfolding put-in
+  ascending-put m [] h = (tt, tt)
+  ascending-put m (b ∷ bs) h =
+      ascending-by (compared m b) m b bs (put-in key m bs) refl (h .0) (h .1) (λ e. above-put b m bs e (h .0)) (ascending-put m bs (h .1))
+
+  ascending-all : (done ms : List MemberAt) → Ascending done → Ascending (put-all key done ms)
+  unfolding put-all
+  ascending-all done [] h = h
+  ascending-all done (m ∷ ms) h = ascending-all (put-in key m done) ms (ascending-put m done h)
+
+  -- The members in byte order rise strictly.
+  pub rising-sorted : (ms : List MemberAt) → Ascending (sorted key ms)
+  unfolding sorted
+  rising-sorted ms = ascending-all [] ms tt
+
+  -- Of a list that rises, the first above the `k`th is the one after it.
+  above-nth : (x y : MemberAt) (bs : List MemberAt) (j : ℕ) → Above x bs → nth bs j ≡ At y → compared x y ≡ Less
+  unfolding nth
+  above-nth x y [] j h e = cc
+  above-nth x y (b ∷ bs) zero h e = let q : b ≡ y = cc in rw (← q) (h .0)
+  above-nth x y (b ∷ bs) (suc j) h e = above-nth x y bs j (h .1) e
+
+  first-above : (x : MemberAt) (bs : List MemberAt) → Above x bs → first-over (after (key x)) bs ≡ nth bs zero
+  unfolding first-over nth over before
+  first-above x [] h = refl
+  first-above x (b ∷ bs) h = rw (h .0)
+
+  first-after : (bs : List MemberAt) (j : ℕ) (x : MemberAt) → Ascending bs → nth bs j ≡ At x → first-over (after (key x)) bs ≡ nth bs (suc j)
+  unfolding first-over nth over before
+  first-after [] j x h e = cc
+  first-after (b ∷ bs) zero x h e = let q : b ≡ x = cc in rw (← q, order-refl (key b)) (first-above b bs (h .0))
+  first-after (b ∷ bs) (suc j) x h e = rw (order-turn (key b) (key x), above-nth b x bs j (h .0) e) (first-after bs j x (h .1) e)
+
+  nth-some : (bs : List MemberAt) (j : ℕ) → j < length bs → (x : MemberAt) × (nth bs j ≡ At x)
+  unfolding nth
+  nth-some [] j h = absurd (not-suc-le-zero h)
+  nth-some (b ∷ bs) zero h = (b, refl)
+  nth-some (b ∷ bs) (suc j) h = nth-some bs j (le-of-suc-le-suc h)
+
+  first-nth : (bs : List MemberAt) (k : ℕ) → Ascending bs → k ≤ length bs → first-over (bound-at bs k) bs ≡ nth bs k
+  unfolding bound-at first-over nth over
+  first-nth [] zero h l = refl
+  first-nth (b ∷ bs) zero h l = refl
+  first-nth bs (suc j) h l =
+      let w = nth-some bs j l in
+      rw (w .1) (first-after bs j (w .0) h (w .1))
+
+  -- The search behind the members that were found finds the next.
+  pub search-nth : (ms : List MemberAt) (k : ℕ) → k ≤ length (sorted key ms) → least key (bound-at (sorted key ms) k) Nothing ms ≡ nth (sorted key ms) k
+  unfolding first-over sorted
+  search-nth ms k l = search-first (bound-at (sorted key ms) k) [] ms ∙ first-nth (sorted key ms) k (rising-sorted ms) l
+
+  length-by : (o : Ordering) (m b : MemberAt) (bs r : List MemberAt) → length r ≤ suc (length bs) → length (by o (m ∷ b ∷ bs) (b ∷ bs) (b ∷ r)) ≤ suc (suc (length bs))
+  length-by Less m b bs r h = omega arith
+  length-by Equal m b bs r h = omega arith
+  length-by Greater m b bs r h = omega arith
+
+  length-put : (m : MemberAt) (bs : List MemberAt) → length (put-in key m bs) ≤ suc (length bs)
+  unfolding put-in
+  length-put m [] = omega arith
+  length-put m (b ∷ bs) = length-by (compared m b) m b bs (put-in key m bs) (length-put m bs)
+
+  length-all : (done ms : List MemberAt) → length (put-all key done ms) ≤ length done + length ms
+  unfolding put-all
+  length-all done [] = omega arith
+  length-all done (m ∷ ms) = let h = length-all (put-in key m done) ms in let k = length-put m done in omega arith
+
+  pub length-sorted : (ms : List MemberAt) → length (sorted key ms) ≤ length ms
+  unfolding sorted
+  length-sorted ms = let h = length-all [] ms in omega arith
+
+  -- The bound behind the `k`th.
+  pub bound-next : (ms : List MemberAt) (k : ℕ) (m : MemberAt) → nth ms k ≡ At m → bound-at ms (suc k) ≡ after (key m)
+  unfolding bound-at
+  bound-next ms k m e = rw e
+
+pub nth-none : (ms : List MemberAt) (k : ℕ) → nth ms k ≡ Nothing → length ms ≤ k
+unfolding nth
+nth-none [] k e = zero-le
+nth-none (b ∷ ms) zero e = let z : _≡_ {A = ℕ} 0 1 = cc in omega arith
+nth-none (b ∷ ms) (suc k) e = suc-le-suc (nth-none ms k e)
+
+one-zero : _≡_ {A = ℕ} 0 1 → ⊥
+one-zero z = omega arith
+
+pub nth-at : (ms : List MemberAt) (k : ℕ) (m : MemberAt) → nth ms k ≡ At m → (k < length ms) × (take (suc k) ms ≡ take k ms ++ (m ∷ []))
+unfolding nth
+nth-at [] k m e = let z : _≡_ {A = ℕ} 0 1 = cc in absurd (one-zero z)
+nth-at (b ∷ ms) zero m e = let q : b ≡ m = cc in (suc-le-suc zero-le, rw q)
+nth-at (b ∷ ms) (suc k) m e = let h = nth-at ms k m e in (suc-le-suc (h .0), ap (λ (r : List MemberAt). b ∷ r) (h .1))
+
+pub nth-drop : (ms : List MemberAt) (k : ℕ) (m : MemberAt) → nth ms k ≡ At m → drop k ms ≡ m ∷ drop (suc k) ms
+unfolding nth
+nth-drop [] k m e = let z : _≡_ {A = ℕ} 0 1 = cc in absurd (one-zero z)
+nth-drop (b ∷ ms) zero m e = let q : b ≡ m = cc in rw q
+nth-drop (b ∷ ms) (suc k) m e = nth-drop ms k m e
+
+pub length-members : (ks vs : Bytes) (a b p q k : ℕ) → length (members-from ks vs a b p q k) ≡ k
+unfolding members-from
+length-members ks vs a b p q zero = refl
+length-members ks vs a b p q (suc k) =
+    ap suc (length-members ks vs (a + 4) (b + 4) (p + length-of (word-at ks a)) (q + length-of (word-at vs b)) k)

@@ -1,0 +1,120 @@
+-- Members stored one after another, as the code goes.
+use Prim.Native.Nat.{ℕ, suc, _+_, _*_, _^_, _<_, _≤_, zero-le}
+use native.Mathlib.Omega.{arith}
+use native.Mathlib.Numerals.{add-one}
+use mathlib.Core.Path.{_≡_, refl, ap, sym, _∙_}
+use mathlib.Core.Bool.{false}
+use mathlib.Core.List.{List, _∷_}
+use lib.Dec.{eqb}
+use lib.ListN.{length, drop, length-take, drop-of-length-le}
+use borrow.Author.Tests.{ne-eqb}
+use Rattle.layout.specs.Bytes.{Bytes, be32}
+use Rattle.layout.specs.Patch.{patch}
+use Rattle.layout.proofs.Fields.{length-lt}
+use Rattle.layout.proofs.Patches.{length-patch}
+use Rattle.builders.specs.Search.{bytes-at, name-in, value-in, members-at, bound, least, sorted, nth}
+use Rattle.builders.specs.Weave.{behind, stored, woven}
+use Rattle.builders.specs.declared.search.ItemAt.{ItemAt}
+use Rattle.builders.specs.declared.search.MemberAt.{MemberAt}
+use Rattle.builders.specs.declared.search.Places.{Places}
+use Rattle.builders.specs.declared.search.Found.{Found}
+use Rattle.builders.specs.declared.search.Found.the-variants.{Nothing, At}
+use Rattle.builders.proofs.Searches.{bound-at, bound-next, search-nth, length-sorted, length-members, nth-none, nth-at, nth-drop}
+
+-- A payload is no longer than an entry can say.
+pub payload-short : (s r : Bytes) (x : ItemAt) → r ≡ bytes-at s x → length r < 2 ^ 28
+payload-short s r x e = rw (e, length-take) (omega (arith, length-lt (x .jentry)))
+
+module _ (ks vs : Bytes) (m : MemberAt) (n v : Bytes) (hn : n ≡ bytes-at ks (m .key)) (hv : v ≡ bytes-at vs (m .val)) (at : Places) where
+  pub places-behind :
+      record { «key_jentry» = at .«key_jentry» + 4; «val_jentry» = at .«val_jentry» + 4; key = at .key + length n; val = at .val + length v }
+      ≡ behind (name-in ks m) (value-in vs m) at
+  places-behind = rw (hn, hv)
+
+  pub member-stored : (o o₁ o₂ o₃ o₄ : Bytes) → o₁ ≡ patch o (at .«key_jentry») (be32 (m .key .jentry))
+      → o₂ ≡ patch o₁ (at .«val_jentry») (be32 (m .val .jentry)) → o₃ ≡ patch o₂ (at .key) n → o₄ ≡ patch o₃ (at .val) v
+      → o₄ ≡ stored (name-in ks) (value-in vs) o (at .«key_jentry») (at .«val_jentry») (at .key) (at .val) m
+  member-stored o o₁ o₂ o₃ o₄ e₁ e₂ e₃ e₄ = rw (e₄, e₃, e₂, e₁, hn, hv)
+
+-- The loop: `i` members of those in byte order are stored, and the rest is to come.
+module _ (ks vs : Bytes) (from : Places) (n : ℕ) (o : Bytes) (to : Places) where
+  abbrev in-turn : List MemberAt
+  in-turn = sorted (name-in ks) (members-at ks vs from n)
+
+  abbrev weave : Bytes → Places → List MemberAt → Bytes
+  weave out at = woven (name-in ks) (value-in vs) out (at .«key_jentry») (at .«val_jentry») (at .key) (at .val)
+
+  pub record Stored (out last : Bytes) (at : Places) (i : ℕ) : Type 0 where
+    pub count : i ≤ length in-turn
+    pub known : bound (eqb i 0) last ≡ bound-at (name-in ks) in-turn i
+    pub near-key-jentry : at .«key_jentry» ≤ to .«key_jentry» + 4 * i
+    pub near-val-jentry : at .«val_jentry» ≤ to .«val_jentry» + 4 * i
+    pub near-key : at .key ≤ to .key + 2 ^ 28 * i
+    pub near-val : at .val ≤ to .val + 2 ^ 28 * i
+    pub run : weave o to in-turn ≡ weave out at (drop i in-turn)
+    pub kept : length out ≡ length o
+
+  pub begins : (last : Bytes) → Stored o last to 0
+  unfolding bound-at
+  begins last =
+      record {
+        count = zero-le;
+        known = refl;
+        near-key-jentry = omega arith;
+        near-val-jentry = omega arith;
+        near-key = omega arith;
+        near-val = omega arith;
+        run = refl;
+        kept = refl;
+      }
+
+  in-turn-few : length in-turn ≤ n
+  unfolding members-at
+  in-turn-few =
+      omega (
+        arith,
+        length-sorted (name-in ks) (members-at ks vs from n),
+        length-members ks vs (from .«key_jentry») (from .«val_jentry») (from .key) (from .val) n,
+      )
+
+  module _ (out last : Bytes) (at : Places) (i : ℕ) (now : Stored out last at i) where
+    ended : length in-turn ≤ i → out ≡ weave o to in-turn
+    unfolding woven
+    ended h = sym (rw (drop-of-length-le in-turn h) at (now .run))
+
+    pub ends-full : n ≤ i → out ≡ weave o to in-turn
+    ends-full h = ended (omega (arith, in-turn-few))
+
+    module _ (found : Found) (hf : found ≡ least (name-in ks) (bound (eqb i 0) last) Nothing (members-at ks vs from n)) where
+      next-is : found ≡ nth in-turn i
+      next-is =
+          hf ∙ ap (λ b. least (name-in ks) b Nothing (members-at ks vs from n)) (now .known)
+          ∙ search-nth (name-in ks) (members-at ks vs from n) i (now .count)
+
+      pub ends-early : found ≡ Nothing → out ≡ weave o to in-turn
+      ends-early q = ended (nth-none in-turn i (sym next-is ∙ q))
+
+      pub goes : (m : MemberAt) (name out′ : Bytes) (at′ : Places) → found ≡ At m
+          → (at′ ≡ behind (name-in ks m) (value-in vs m) at)
+          × (out′ ≡ stored (name-in ks) (value-in vs) out (at .«key_jentry») (at .«val_jentry») (at .key) (at .val) m)
+          → name ≡ bytes-at ks (m .key) → Stored out′ name at′ (i + 1)
+      unfolding woven
+      goes m name out′ at′ q h hn =
+          let here : nth in-turn i ≡ At m = sym next-is ∙ q in
+          let cut : drop i in-turn ≡ m ∷ drop (suc i) in-turn = nth-drop in-turn i m here in
+          let later : eqb (i + 1) 0 ≡ false = ne-eqb (i + 1) 0 (λ z. omega arith) in
+          let ln = payload-short ks (name-in ks m) (m .key) refl in
+          let lv = payload-short vs (value-in vs m) (m .val) refl in
+          record {
+            count = omega (arith, (nth-at in-turn i m here) .0);
+            known = rw (later, add-one i, hn) (sym (bound-next (name-in ks) in-turn i m here));
+            near-key-jentry = rw (h .0) (omega (arith, now .near-key-jentry));
+            near-val-jentry = rw (h .0) (omega (arith, now .near-val-jentry));
+            near-key = rw (h .0) (omega (arith, now .near-key, ln));
+            near-val = rw (h .0) (omega (arith, now .near-val, lv));
+            run = now .run ∙ rw (cut, add-one i, h .0, h .1);
+            kept = ap length (h .1) ∙ length-stored ∙ now .kept;
+          }
+        where
+          length-stored : length (stored (name-in ks) (value-in vs) out (at .«key_jentry») (at .«val_jentry») (at .key) (at .val) m) ≡ length out
+          length-stored = length-patch _ _ _ ∙ length-patch _ _ _ ∙ length-patch _ _ _ ∙ length-patch _ _ _

@@ -1,0 +1,75 @@
+-- An edit of two records, number by number: document 01's order is the order of these laws.
+use Prim.Native.Nat.{ℕ, _<_, _≤_}
+use native.Mathlib.Omega.{arith}
+use native.Mathlib.Decide.{decLe}
+use mathlib.Core.Path.{_≡_, refl, ap, sym, _∙_}
+use mathlib.Core.Bool.{Bool, true, false, cond, _&&_}
+use lib.Dec.{leb, ltb}
+use lib.ListN.{length}
+use borrow.Author.Tests.{le-leb, lt-leb, le-ltb, lt-ltb}
+use Rattle.layout.specs.Bytes.{Bytes}
+use Rattle.layout.specs.Answer.{Answer, gives, refused, _>>=_, require}
+use Rattle.layout.specs.Tree.{Tree}
+use Rattle.layout.specs.Encode.{encode}
+use Rattle.layout.specs.Read.{read}
+use Rattle.layout.specs.Limits.{depth, record-length}
+use Rattle.layout.specs.Ended.{Ended, Outcome, refusal, into}
+use Rattle.layout.specs.declared.refusal.Refusal.{Refusal}
+use Rattle.layout.specs.declared.refusal.Refusal.the-variants.{Result}
+use Rattle.layout.specs.declared.ending.Ending.{Ending}
+use Rattle.layout.specs.declared.ending.Ending.the-variants.{Refused}
+use Rattle.layout.proofs.Readables.{length-encode}
+use Rattle.builders.specs.Build.{within, written, on-two}
+use Rattle.builders.specs.Join.{sized}
+
+-- A refusal leaves the buffer.
+refuses : (o : Bytes) (p : Outcome) (x : Refusal) → p ≡ refusal x → Ended (Refused x) o o p
+refuses o p x e = rw e (record { answer = refl; bytes = refl })
+
+within-deep : (v : Tree) → 64 < depth v → within v ≡ refused Result
+unfolding within _>>=_ require
+within-deep v h = rw (lt-leb (depth v) 64 h, and-false (leb (record-length v) 65536))
+  where
+    and-false : (a : Bool) → (a && false) ≡ false
+    and-false true = refl
+    and-false false = refl
+
+-- A result within the depth is refused by its length alone.
+written-sized : (v : Tree) (b : Bytes) (room : ℕ) → depth v ≤ 64 → b ≡ encode v → written room (within v) ≡ sized room b
+unfolding within sized _>>=_ require
+written-sized v b room d e =
+    let n : length b ≡ record-length v = ap length e ∙ length-encode v in
+    rw (le-leb (depth v) 64 d, n) (go (decLe (record-length v) 65536))
+  where
+    go : Dec (record-length v ≤ 65536)
+        → written room (require (leb (record-length v) 65536 && true) Result >>= λ _. gives v)
+        ≡ cond (ltb 65536 (record-length v)) (refusal Result) (into room b)
+    go (yes k) = rw (le-leb (record-length v) 65536 k, le-ltb 65536 (record-length v) k, e)
+    go (no k) = rw (lt-leb (record-length v) 65536 (omega arith), lt-ltb 65536 (record-length v) (omega arith))
+
+module _ (edit : Tree → Tree → Answer Tree) (l r o : Bytes) where
+  pub two-left : (x : Refusal) → read l ≡ refused x → Ended (Refused x) o o (on-two edit l r (length o))
+  unfolding on-two
+  two-left x e = refuses o _ x (rw e)
+
+  module _ (t : Tree) (hl : read l ≡ gives t) where
+    pub two-right : (x : Refusal) → read r ≡ refused x → Ended (Refused x) o o (on-two edit l r (length o))
+    unfolding on-two
+    two-right x e = refuses o _ x (rw (hl, e))
+
+    module _ (u : Tree) (hr : read r ≡ gives u) where
+      pub two-edit : (x : Refusal) → edit t u ≡ refused x → Ended (Refused x) o o (on-two edit l r (length o))
+      unfolding on-two
+      two-edit x e = refuses o _ x (rw (hl, hr, e))
+
+      module _ (v : Tree) (he : edit t u ≡ gives v) where
+        two-is : on-two edit l r (length o) ≡ written (length o) (within v)
+        unfolding on-two
+        two-is = rw (hl, hr, he)
+
+        pub two-deep : 64 < depth v → Ended (Refused Result) o o (on-two edit l r (length o))
+        two-deep h = refuses o _ Result (two-is ∙ ap (written (length o)) (within-deep v h))
+
+        pub two-sized : (e : Ending) (o′ b : Bytes) → depth v ≤ 64 → b ≡ encode v → Ended e o o′ (sized (length o) b)
+            → Ended e o o′ (on-two edit l r (length o))
+        two-sized e o′ b d q h = rw (two-is ∙ written-sized v b (length o) d q) h
