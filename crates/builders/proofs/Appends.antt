@@ -3,6 +3,7 @@ use Prim.Native.Nat.{ℕ, _+_, _^_, _≤_, max}
 use native.Mathlib.Omega.{arith}
 use mathlib.Core.Path.{_≡_, refl, ap, sym, _∙_}
 use lib.ListN.{length}
+use lib.Bits.{bitOr, or-shifted}
 use Rattle.layout.specs.Bytes.{Bytes, Octets}
 use Rattle.layout.specs.Answer.{gives, refused, _>>=_}
 use Rattle.layout.specs.Tree.{Tree, null, boolean, number, string, extension, array, object, Items, none, item}
@@ -24,7 +25,7 @@ use Rattle.layout.specs.declared.check.Nesting.the-variants.{Deep, Refused as N
 use Rattle.layout.proofs.Readables.{record-of-length, length-encode}
 use Rattle.layout.proofs.Nestings.{head-of, readable-gives, refused-as}
 use Rattle.builders.specs.Build.{items-of, join, append, on-two}
-use Rattle.builders.specs.Join.{given-start, Lies, as-one, joined, sized}
+use Rattle.builders.specs.Join.{given-count, given-start, Lies, as-one, joined, sized}
 use Rattle.builders.specs.declared.builder.Given.{Given}
 use Rattle.builders.specs.declared.builder.Given.the-variants.{Table}
 use Rattle.builders.proofs.Sides.{Known, known, no-array, an-array, nested-gives, nested-refused, deep-nesting, fits-nesting}
@@ -33,13 +34,13 @@ use Rattle.builders.proofs.Twos.{two-left, two-right, two-edit, two-dee
 
 -- What a readable record gives.
 module _ (a : Bytes) (n : ℕ) (ts : Items) (k : Known a (array ts)) (e : n ≡ length (item-parts ts)) where
-  array-lies : Lies a (Table n)
+  pub array-lies : Lies a (Table n)
   unfolding given-start
   array-lies =
       let l = record-of-length (2 ^ 31 + length (item-parts ts)) (item-parts ts) in
       record { starts = omega (arith, ap length (k .bytes)); short = k .short }
 
-  items-given : Gives a (Table n) ts
+  pub items-given : Gives a (Table n) ts
   items-given = rw (e, ← k .bytes) (array-gives ts)
 
 start-one : (u : Tree) → given-start (as-one (head-of u)) ≤ record-length u
@@ -53,11 +54,11 @@ start-one (array ts) = omega arith
 start-one (object ms) = omega arith
 
 module _ (b : Bytes) (g : Given) (u : Tree) (k : Known b u) (e : g ≡ as-one (header b)) where
-  one-lies : Lies b g
+  pub one-lies : Lies b g
   one-lies =
       rw (e, k .head) (record { starts = omega (arith, start-one u, length-encode u, ap length (k .bytes)); short = k .short })
 
-  one-given : Gives b g (item u none)
+  pub one-given : Gives b g (item u none)
   one-given = rw (e, k .head, ← k .bytes) (one-gives u)
 
 -- The tree of the result.
@@ -72,6 +73,12 @@ append-array ts u = refl
 depth-join : (ts us : Items) → depth-items (join ts us) ≡ max (depth-items ts) (depth-items us)
 depth-join none us = omega arith
 depth-join (item t ts) us = rw (depth-join ts us) (omega arith)
+
+-- The header of an array with one item more.
+one-more : (a : Bytes) (k : ℕ) (b : Bytes) (g : Given) → Lies a (Table k) → given-count g ≡ 1
+    → bitOr (2 ^ 31) (k + 1) ≡ 2 ^ 31 + (given-count (Table k) + given-count g)
+unfolding given-start given-count
+one-more a k b g l e = or-shifted 1 31 (k + 1) (omega (arith, l .starts, l .short)) ∙ rw e
 
 module _ (a b o : Bytes) (oa : Octets a) (ob : Octets b) (c : Check) (hc : c ≡ checked (read a)) where
   pub append-left : (x : Refusal) → c ≡ NotReadable x → Ended (Refused x) o o (on-two append a b (length o))
@@ -110,13 +117,15 @@ module _ (a b o : Bytes) (oa : Octets a) (ob : Octets b) (c : Check) (hc : c ≡
           pub append-lies : Lies a (Table k) × Lies b g
           append-lies = (array-lies a k (items .0) an-items (items .2), one-lies b g (right .0) (right .1) hg)
 
-          pub append-ends : (n ≡ Deep → ⊥) → (e : Ending) (o′ : Bytes) → Ended e o o′ (sized (length o) (joined a (Table k) b g))
+          pub append-ends : (n ≡ Deep → ⊥) → (e : Ending) (o′ : Bytes)
+              → Ended e o o′ (sized (length o) (joined (bitOr (2 ^ 31) (k + 1)) a (Table k) b g))
               → Ended e o o′ (on-two append a b (length o))
           append-ends q e o′ h =
               let d = fits-nesting (right .0) n (hn ∙ ap nesting (right .1 .reads)) q in
               two-sized append a b o (array (items .0)) (an-items .reads) (right .0) (right .1 .reads) _ (append-array (items .0) (right .0))
-              e o′ (joined a (Table k) b g)
+              e o′ (joined (bitOr (2 ^ 31) (k + 1)) a (Table k) b g)
               (omega (arith, depth-join (items .0) (item (right .0) none), an-items .deep))
-              (joined-encode a (Table k) (items .0) b g (item (right .0) none)
-              (items-given a k (items .0) an-items (items .2)) (one-given b g (right .0) (right .1) hg))
+              (joined-encode (bitOr (2 ^ 31) (k + 1)) a (Table k) (items .0) b g (item (right .0) none)
+              (items-given a k (items .0) an-items (items .2)) (one-given b g (right .0) (right .1) hg)
+              (one-more a k b g (append-lies .0) (one-given b g (right .0) (right .1) hg .count)))
               h

@@ -5,7 +5,6 @@ use mathlib.Core.Path.{_≡_, refl, ap, ap₂, sym, _∙_}
 use mathlib.Core.List.{List, [], _∷_, _++_, append-assoc, append-nil}
 use lib.ListN.{length, take, drop, length-append, length-take, length-drop}
 use lib.Seq.{take-all, length-take-le, take-append-seam, drop-append-seam, drop-drop}
-use lib.Bits.{bitOr, or-shifted}
 use borrow.Author.Tests.{lt-ltb, le-ltb}
 use Rattle.layout.specs.Bytes.{Bytes, be32, Octets}
 use Rattle.layout.specs.Entry.{entry-of}
@@ -24,7 +23,7 @@ use Rattle.layout.proofs.Decoding.{payloads-append}
 use Rattle.layout.proofs.Patches.{ended-short, ended-full}
 use Rattle.layout.proofs.Nestings.{head-of}
 use Rattle.builders.specs.Build.{join}
-use Rattle.builders.specs.Join.{given-count, given-entries, given-start, Lies, as-one, joined, sized}
+use Rattle.builders.specs.Join.{given-count, given-entries, given-start, Lies, as-one, joined, joined-length, sized}
 use Rattle.builders.specs.declared.builder.Given.{Given}
 use Rattle.builders.specs.declared.builder.Given.the-variants.{Table, Whole}
 use Rattle.builders.proofs.Weaves.{patch-then, entries-append}
@@ -84,17 +83,21 @@ unfolding given-start given-count given-entries
 length-given s (Table n) h = length-take-le (4 * n) (drop 4 s) (rw (length-drop 4 s) (omega arith))
 length-given s Whole h = length-be32 _
 
--- Where the parts of the array stand, and what its length is.
+pub length-is : (s : Bytes) (g : Given) (r : Bytes) (h : Given) (m n p q : ℕ) → m ≡ given-count g → n ≡ given-count h
+    → p ≡ given-start g → q ≡ given-start h → 4 + 4 * (m + n) + (length s - p + (length r - q)) ≡ joined-length s g r h
+unfolding joined-length
+length-is s g r h m n p q em en ep eq = rw (em, en, ep, eq)
+
+-- What is stored, and its length.
 module _ (s : Bytes) (g : Given) (r : Bytes) (h : Given) (ls : Lies s g) (lr : Lies r h) where
-  pub joined-length : (m n p q : ℕ) → m ≡ given-count g → n ≡ given-count h → p ≡ given-start g → q ≡ given-start h
-      → 4 + 4 * (m + n) + (length s - p + (length r - q)) ≡ length (joined s g r h)
-  unfolding joined
-  joined-length m n p q em en ep eq =
+  pub length-joined : (w n : ℕ) → n ≡ joined-length s g r h → n ≡ length (joined w s g r h)
+  unfolding joined joined-length
+  length-joined w n e =
       omega (
         arith,
-        length-be32 (2 ^ 31 + (given-count g + given-count h)),
-        length-append (be32 (2 ^ 31 + (given-count g + given-count h)))
-            ((given-entries s g ++ given-entries r h) ++ (drop (given-start g) s ++ drop (given-start h) r)),
+        e,
+        length-be32 w,
+        length-append (be32 w) ((given-entries s g ++ given-entries r h) ++ (drop (given-start g) s ++ drop (given-start h) r)),
         length-append (given-entries s g ++ given-entries r h) (drop (given-start g) s ++ drop (given-start h) r),
         length-append (given-entries s g) (given-entries r h),
         length-append (drop (given-start g) s) (drop (given-start h) r),
@@ -104,31 +107,29 @@ module _ (s : Bytes) (g : Given) (r : Bytes) (h : Given) (ls : Lies s g) (lr : L
         length-drop (given-start h) r,
       )
 
-  pub joined-stored : (m n p q w : ℕ) (x y o o₁ o₂ o₃ o₄ o₅ : Bytes) → m ≡ given-count g → n ≡ given-count h
-      → p ≡ given-start g → q ≡ given-start h → w ≡ bitOr (2 ^ 31) (m + n)
+  pub joined-stored : (w m n p q : ℕ) (x y o o₁ o₂ o₃ o₄ o₅ : Bytes) → m ≡ given-count g → n ≡ given-count h
+      → p ≡ given-start g → q ≡ given-start h
       → x ≡ take (length s - p) (drop p s) → y ≡ take (length r - q) (drop q r)
       → o₁ ≡ patch o 0 (be32 w) → o₂ ≡ patch o₁ 4 (given-entries s g) → o₃ ≡ patch o₂ (4 + 4 * m) (given-entries r h)
       → o₄ ≡ patch o₃ (4 + 4 * (m + n)) x → o₅ ≡ patch o₄ (4 + 4 * (m + n) + length x) y
-      → o₅ ≡ patch o 0 (joined s g r h)
+      → o₅ ≡ patch o 0 (joined w s g r h)
   unfolding joined
-  joined-stored m n p q w x y o o₁ o₂ o₃ o₄ o₅ em en ep eq ew ex ey e₁ e₂ e₃ e₄ e₅ =
-      let hx : x ≡ drop (given-start g) s = rw (ex, ep) (take-all (length s - given-start g) (drop (given-start g) s) (rw (length-drop (given-start g) s) (omega arith))) in
-      let hy : y ≡ drop (given-start h) r = rw (ey, eq) (take-all (length r - given-start h) (drop (given-start h) r) (rw (length-drop (given-start h) r) (omega arith))) in
-      let fs = few s g ls in
-      let fr = few r h lr in
-      let hw : w ≡ 2 ^ 31 + (given-count g + given-count h) = ew ∙ or-shifted 1 31 (m + n) (omega arith) ∙ rw (em, en) in
-      let lw = length-be32 (2 ^ 31 + (given-count g + given-count h)) in
+  joined-stored w m n p q x y o o₁ o₂ o₃ o₄ o₅ em en ep eq ex ey e₁ e₂ e₃ e₄ e₅ =
+      let hx : x ≡ drop (given-start g) s = rw (ex, ep) (whole s (given-start g)) in
+      let hy : y ≡ drop (given-start h) r = rw (ey, eq) (whole r (given-start h)) in
+      let lw = length-be32 w in
       let ls′ = length-given s g (ls .starts) in
       let lr′ = length-given r h (lr .starts) in
-      let h₁ : o₁ ≡ patch o 0 (be32 (2 ^ 31 + (given-count g + given-count h))) = rw (← hw) e₁ in
-      let j₂ = patch-then o o₁ o₂ 0 4 _ _ h₁ e₂ (omega arith) in
+      let j₂ = patch-then o o₁ o₂ 0 4 _ _ e₁ e₂ (omega arith) in
       let j₃ = patch-then o o₂ o₃ 0 (4 + 4 * m) _ _ j₂ e₃ (rw (length-append) (omega arith)) in
       let j₄ = patch-then o o₃ o₄ 0 (4 + 4 * (m + n)) _ _ j₃ e₄ (rw (length-append, length-append) (omega arith)) in
       let j₅ = patch-then o o₄ o₅ 0 (4 + 4 * (m + n) + length x) _ _ j₄ e₅ (rw (length-append, length-append, length-append) (omega arith)) in
       j₅ ∙ ap (patch o 0) (rw (hx, hy)
-      (regroup (be32 (2 ^ 31 + (given-count g + given-count h))) (given-entries s g) (given-entries r h) (drop (given-start g) s)
-      (drop (given-start h) r)))
+      (regroup (be32 w) (given-entries s g) (given-entries r h) (drop (given-start g) s) (drop (given-start h) r)))
     where
+      whole : (b : Bytes) (k : ℕ) → take (length b - k) (drop k b) ≡ drop k b
+      whole b k = take-all (length b - k) (drop k b) (rw (length-drop k b) (omega arith))
+
       regroup : (a b c d e : Bytes) → ((((a ++ b) ++ c) ++ d) ++ e) ≡ a ++ ((b ++ c) ++ (d ++ e))
       regroup a b c d e =
           append-assoc ((a ++ b) ++ c) d e ∙ ap (λ x. x ++ (d ++ e)) (append-assoc a b c) ∙ append-assoc a (b ++ c) (d ++ e)
@@ -158,8 +159,7 @@ pub record Gives (s : Bytes) (g : Given) (ts : Items) : Type 0 where
 table-gives : (w n : ℕ) (ps : List Part) → n ≡ length ps
     → (take (4 * n) (drop 4 (record-of w ps)) ≡ entries ps) × (drop (4 + 4 * n) (record-of w ps) ≡ payloads ps)
 table-gives w n ps e =
-    let l : length (entries ps) ≡ 4 * n = entries-length ps ∙ ap (λ k. 4 * k) (sym e) in
-    (
+    let l : length (entries ps) ≡ 4 * n = entries-length ps ∙ ap (λ k. 4 * k) (sym e) in (
       rw (drop-be32 w (entries ps ++ payloads ps), ← l) (take-append-seam (entries ps) (payloads ps)),
       rw (← drop-drop (4 * n) 4 (record-of w ps), drop-be32 w (entries ps ++ payloads ps), ← l) (drop-append-seam (entries ps) (payloads ps)),
     )
@@ -190,12 +190,13 @@ join-parts : (ts us : Items) → item-parts (join ts us) ≡ item-parts ts ++ it
 join-parts none us = refl
 join-parts (item t ts) us = ap (λ ps. part t ∷ ps) (join-parts ts us)
 
--- So what is written is the array of both.
-pub joined-encode : (s : Bytes) (g : Given) (ts : Items) (r : Bytes) (h : Given) (us : Items) → Gives s g ts → Gives r h us
-    → joined s g r h ≡ encode (array (join ts us))
+-- So what is written, with the right header, is the array of both.
+pub joined-encode : (w : ℕ) (s : Bytes) (g : Given) (ts : Items) (r : Bytes) (h : Given) (us : Items) → Gives s g ts → Gives r h us
+    → w ≡ 2 ^ 31 + (given-count g + given-count h) → joined w s g r h ≡ encode (array (join ts us))
 unfolding joined
-joined-encode s g ts r h us a b =
+joined-encode w s g ts r h us a b e =
     rw (
+      e,
       join-parts ts us,
       length-append (item-parts ts) (item-parts us),
       entries-append (item-parts ts) (item-parts us),

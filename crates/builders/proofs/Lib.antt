@@ -11,3 +11,4 @@ pub mod Joins
 pub mod Twos
 pub mod Sides
 pub mod Appends
+pub mod Builds

@@ -1,16 +1,22 @@
 -- Members by their places that stand for members of a tree: in order they still do, and their columns are the object's parts.
-use Prim.Native.Nat.{suc}
-use mathlib.Core.Path.{_≡_, refl, ap, ap₂}
-use mathlib.Core.List.{List, [], _∷_, _++_}
-use lib.ListN.{length}
-use Rattle.layout.specs.Bytes.{Bytes, be32}
-use Rattle.layout.specs.Tree.{Tree, Members, empty, member, names}
-use Rattle.layout.specs.Encode.{entry-word, entries, payloads, name-part, name-parts, payload, member-parts, part}
+use Prim.Native.Nat.{ℕ, suc, _+_}
+use native.Mathlib.Omega.{arith}
+use mathlib.Core.Path.{_≡_, refl, ap, ap₂, sym, _∙_}
+use mathlib.Core.List.{List, [], _∷_, _++_, append-assoc}
+use lib.ListN.{length, take, drop}
+use lib.Seq.{take-append-seam, drop-append-seam, drop-drop}
+use Rattle.layout.specs.Bytes.{Bytes, be32, word, word-at}
+use Rattle.layout.specs.Entry.{code, length-of}
+use Rattle.layout.specs.Tree.{Tree, Items, none, item, Members, empty, member, names, pair}
+use Rattle.layout.specs.Encode.{Part, entry-word, entries, payloads, name-part, name-parts, payload, item-parts, member-parts, part}
 use Rattle.layout.specs.Order.{order}
 use Rattle.layout.specs.declared.order.Ordering.{Ordering}
 use Rattle.layout.specs.declared.order.Ordering.the-variants.{Less, Equal, Greater}
+use Rattle.layout.proofs.Words.{word-be32, drop-be32}
+use Rattle.layout.proofs.Fields.{length-entry}
+use Rattle.layout.proofs.Level.{Fits, AllFit, code-small}
 use Rattle.builders.specs.Order.{by, insert, insert-all, in-order}
-use Rattle.builders.specs.Search.{put-in, put-all, sorted}
+use Rattle.builders.specs.Search.{name-in, value-in, members-from, put-in, put-all, sorted}
 use Rattle.builders.specs.Weave.{column}
 use Rattle.builders.specs.declared.search.MemberAt.{MemberAt}
 
@@ -89,3 +95,37 @@ module _ (name value : MemberAt → Bytes) where
   stand-length [] (member n t ms) h = absurd h
   stand-length (x ∷ xs) empty h = absurd h
   stand-length (x ∷ xs) (member n t ms) h = ap suc (stand-length xs ms (h .1))
+
+-- A table row: an entry and its payload, with those of other parts behind them.
+table-row : (s : Bytes) (a p : ℕ) (e : Part) (ps : List Part) (x y : Bytes) → Fits e
+    → drop a s ≡ entries (e ∷ ps) ++ x → drop p s ≡ payloads (e ∷ ps) ++ y
+    → (word-at s a ≡ entry-word e) × (take (length-of (word-at s a)) (drop p s) ≡ e .bytes)
+    × (drop (a + 4) s ≡ entries ps ++ x) × (drop (p + length-of (word-at s a)) s ≡ payloads ps ++ y)
+unfolding word-at
+table-row s a p e ps x y f ha hp =
+    let head : drop a s ≡ be32 (entry-word e) ++ (entries ps ++ x) = ha ∙ append-assoc (be32 (entry-word e)) (entries ps) x in
+    let body : drop p s ≡ e .bytes ++ (payloads ps ++ y) = hp ∙ append-assoc (e .bytes) (payloads ps) y in
+    let w : word (drop a s) ≡ entry-word e = rw head (word-be32 (entry-word e) (entries ps ++ x) (omega (arith, code-small (e .kind), f .1))) in
+    let l : length-of (word (drop a s)) ≡ length (e .bytes) = rw w (length-entry (code (e .kind)) (length (e .bytes)) (f .1)) in (
+      w,
+      rw (l, body) (take-append-seam (e .bytes) (payloads ps ++ y)),
+      sym (drop-drop 4 a s) ∙ ap (drop 4) head ∙ drop-be32 (entry-word e) (entries ps ++ x),
+      rw l (sym (drop-drop (length (e .bytes)) p s) ∙ ap (drop (length (e .bytes))) body ∙ drop-append-seam (e .bytes) (payloads ps ++ y)),
+    )
+
+-- Members whose names and values have their entries and their payloads in a row, in one record or in two.
+pub stand-from : (ks vs : Bytes) (a b p q : ℕ) (ns : List Bytes) (us : Items) (w x y z : Bytes) → length ns ≡ length (item-parts us)
+    → AllFit (name-parts ns) → AllFit (item-parts us)
+    → drop a ks ≡ entries (name-parts ns) ++ w → drop p ks ≡ payloads (name-parts ns) ++ x
+    → drop b vs ≡ entries (item-parts us) ++ y → drop q vs ≡ payloads (item-parts us) ++ z
+    → Stand (name-in ks) (value-in vs) (members-from ks vs a b p q (length ns)) (pair ns us)
+unfolding members-from
+stand-from ks vs a b p q [] us w x y z l fn fu ha hp hb hq = tt
+stand-from ks vs a b p q (n ∷ ns) none w x y z l fn fu ha hp hb hq = let v : ⊥ = omega arith in absurd v
+stand-from ks vs a b p q (n ∷ ns) (item u us) w x y z l fn fu ha hp hb hq =
+    let k = table-row ks a p (name-part n) (name-parts ns) w x (fn .0) ha hp in
+    let v = table-row vs b q (part u) (item-parts us) y z (fu .0) hb hq in (
+      (k .0, v .0, k .1, v .1),
+      stand-from ks vs (a + 4) (b + 4) (p + length-of (word-at ks a)) (q + length-of (word-at vs b)) ns us w x y z
+          (omega arith) (fn .1) (fu .1) (k .2) (k .3) (v .2) (v .3),
+    )

@@ -1,6 +1,6 @@
--- Two records written as one array. What a record gives to it are the items of its table, a scalar's one item among them, or the
--- record whole as one item.
-use Prim.Native.Nat.{ℕ, _+_, _*_, _^_, _≤_}
+-- Two records written as one container: the header, the entries that each gives, the payloads that each gives. A record gives the
+-- items of its table, of which a scalar has one, or itself whole as one item.
+use Prim.Native.Nat.{ℕ, _+_, _*_, _-_, _≤_}
 use mathlib.Core.Bool.{cond}
 use mathlib.Core.List.{_++_}
 use lib.Dec.{ltb}
@@ -40,10 +40,13 @@ as-one (Object n) = Whole
 as-one (Scalar n) = Table 1
 as-one (Refused r) = Whole
 
-unfoldable pub joined : Bytes → Given → Bytes → Given → Bytes
-joined s g r h =
-    be32 (2 ^ 31 + (given-count g + given-count h))
-    ++ ((given-entries s g ++ given-entries r h) ++ (drop (given-start g) s ++ drop (given-start h) r))
+unfoldable pub joined : ℕ → Bytes → Given → Bytes → Given → Bytes
+joined w s g r h =
+    be32 w ++ ((given-entries s g ++ given-entries r h) ++ (drop (given-start g) s ++ drop (given-start h) r))
+
+unfoldable pub joined-length : Bytes → Given → Bytes → Given → ℕ
+joined-length s g r h =
+    4 + 4 * (given-count g + given-count h) + ((length s - given-start g) + (length r - given-start h))
 
 -- 9 by the length, then 10.
 unfoldable pub sized : ℕ → Bytes → Outcome

@@ -1,6 +1,7 @@
 -- The members of an object by their places, and the search for the next name in byte order. `search-nth` of proofs/Searches.antt
 -- says that the search, repeated, gives `sorted`, and proofs/Stands.antt that `sorted` is `in-order`.
 use Prim.Native.Nat.{ℕ, zero, suc, _+_}
+use mathlib.Core.Path.{_≡_}
 use mathlib.Core.Bool.{Bool, true, false, cond, _&&_}
 use mathlib.Core.List.{List, [], _∷_}
 use lib.Dec.{eqb}
@@ -8,7 +9,11 @@ use lib.ListN.{take, drop}
 use Rattle.layout.specs.Bytes.{Bytes, word-at}
 use Rattle.layout.specs.Entry.{code-of, length-of, entry-at}
 use Rattle.layout.specs.Encode.{Part}
+use Rattle.layout.specs.Read.{header, read}
+use Rattle.layout.specs.Check.{checked}
 use Rattle.layout.specs.Order.{order, before}
+use Rattle.layout.specs.declared.util.Header.the-variants.{Array}
+use Rattle.layout.specs.declared.check.Check.the-variants.{Readable}
 use Rattle.builders.specs.Order.{by}
 use Rattle.builders.specs.declared.search.ItemAt.{ItemAt}
 use Rattle.builders.specs.declared.search.MemberAt.{MemberAt}
@@ -91,8 +96,16 @@ module _ (key : MemberAt → Bytes) where
   unfoldable pub sorted : List MemberAt → List MemberAt
   sorted ms = put-all [] ms
 
--- The `k`th of a list, and the bound that the one before it sets.
+-- The `k`th of a list.
 unfoldable pub nth : List MemberAt → ℕ → Found
 nth [] k = Nothing
 nth (m ∷ ms) zero = At m
 nth (m ∷ ms) (suc k) = nth ms k
+
+-- Readable arrays of `n` names, all strings, and of `n` values.
+pub record Pairs (ks vs : Bytes) (n : ℕ) : Type 0 where
+  pub names : checked (read ks) ≡ Readable
+  pub values : checked (read vs) ≡ Readable
+  pub keys : header ks ≡ Array n
+  pub vals : header vs ≡ Array n
+  pub strings : strings-at ks 0 n ≡ true

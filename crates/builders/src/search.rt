@@ -95,7 +95,14 @@ fn step_of(keys: &[u8], is_first: bool, last: &[u8], best: Found, member: Member
 }
 
 // Of `count` members the first with the least name behind the last one taken.
-pub fn next_member(keys: &[u8], vals: &[u8], from: Places, count: usize, is_first: bool, last: &[u8]) -> Found
+pub fn next_member(
+    keys: &[u8],
+    vals: &[u8],
+    from: Places,
+    count: usize,
+    is_first: bool,
+    last: &[u8],
+) -> Found
     requires { ⌜ (count < 2 ^ 29) × (from .«key_jentry» < 2 ^ 32) × (from .«val_jentry» < 2 ^ 32) × (from .key < 2 ^ 32) × (from .val < 2 ^ 32) ⌝ }
     ensures { λ r. ⌜ r ≡ least (nameIn (now (keys .entry))) (bound «is_first» (now (last .entry))) Found.Nothing
         (membersAt (now (keys .entry)) (now (vals .entry)) from count) ⌝ }

@@ -131,18 +131,18 @@ names-sound (suc n) (p ∷ ps) ns a e =
     rw (← gives-inj {x = m ∷ ms} e₂)
     (ap₂ _∷_ (rw (text-is (p .bytes) hm, ← string-kind (p .kind) (a .0))) (r .0), (text-valid (p .bytes) m hm, r .1))
 
-length-name-parts : (ns : List Bytes) → length (name-parts ns) ≡ length ns
+pub length-name-parts : (ns : List Bytes) → length (name-parts ns) ≡ length ns
 length-name-parts [] = refl
 length-name-parts (n ∷ ns) = ap suc (length-name-parts ns)
 
-names-pair : (ns : List Bytes) (ts : Items) → length ns ≡ length (item-parts ts) → names (pair ns ts) ≡ ns
+pub names-pair : (ns : List Bytes) (ts : Items) → length ns ≡ length (item-parts ts) → names (pair ns ts) ≡ ns
 names-pair [] ts h = refl
 names-pair (n ∷ ns) none h = let w : ⊥ = omega arith in absurd w
 names-pair (n ∷ ns) (item t ts) h =
     let l : length ns ≡ length (item-parts ts) = omega arith in
     ap (λ r. n ∷ r) (names-pair ns ts l)
 
-parts-pair : (ns : List Bytes) (ts : Items) → length ns ≡ length (item-parts ts) → member-parts (pair ns ts) ≡ item-parts ts
+pub parts-pair : (ns : List Bytes) (ts : Items) → length ns ≡ length (item-parts ts) → member-parts (pair ns ts) ≡ item-parts ts
 parts-pair [] none h = refl
 parts-pair [] (item t ts) h = let w : ⊥ = omega arith in absurd w
 parts-pair (n ∷ ns) none h = let w : ⊥ = omega arith in absurd w

@@ -9,14 +9,9 @@ use Rattle.builders.specs.declared.search.Found.the-variants.{Nothing}
 use Rattle.builders.proofs.Steps.{search-starts, search-turns, search-ends}
 use Rattle.builders.proofs.search.next_member.Statement.{statement}
 use Rattle.builders.proofs.search.next_member.Tie as tie
-use Rattle.builders.proofs.search.next_member.Reads as reads
-use Rattle.builders.proofs.search.next_member.Lts as lts
-use Rattle.builders.proofs.search.read_member.Reads as read-member-reads
-use Rattle.builders.proofs.search.step_of.Reads as step-of-reads
-use Rattle.layout.proofs.jentry.payload_len.Reads as payload-len-reads
 
 abbrev Inv-loop : tie.InvT-loop
-Inv-loop keys vals count is-first last best₀ at₀ i₀ best at i = 
+Inv-loop keys vals count is-first last best₀ at₀ i₀ best at i =
     (i ≤ count)
     × (at .«key_jentry» ≤ at₀ .«key_jentry» + 4 * i)
     × (at .«val_jentry» ≤ at₀ .«val_jentry» + 4 * i)
@@ -28,61 +23,11 @@ Inv-loop keys vals count is-first last best₀ at₀ i₀ best at i =
 abbrev μ-loop : tie.MeasureT-loop
 μ-loop keys vals count is-first last best₀ at₀ i₀ best at i = count - i
 
--- src/search.rt:107:5
 loop-holds : tie.Need-loop-holds Inv-loop μ-loop
 loop-holds c = (omega arith, omega arith, omega arith, omega arith, omega arith, search-starts _ _ _ _ _ _)
 
--- src/search.rt:108:13
-read-member-requires : tie.Need-read-member-requires Inv-loop μ-loop
-read-member-requires c κs = search needs
-
--- src/search.rt:109:9
-step-of-requires : tie.Need-step-of-requires Inv-loop μ-loop
-step-of-requires c κs = search needs
-
--- src/search.rt:111:25
-add-t12 : tie.Need-add-t12 Inv-loop μ-loop
-add-t12 c = search needs
-
--- src/search.rt:112:25
-add-t13 : tie.Need-add-t13 Inv-loop μ-loop
-add-t13 c = search needs
-
--- src/search.rt:113:27
-payload-len-requires : tie.Need-payload-len-requires Inv-loop μ-loop
-payload-len-requires c κs = search needs
-
--- src/search.rt:113:27
-cast-t15 : tie.Need-cast-t15 Inv-loop μ-loop
-cast-t15 c = search needs
-
--- src/search.rt:113:18
-add-t16 : tie.Need-add-t16 Inv-loop μ-loop
-add-t16 c = search needs
-
--- src/search.rt:114:27
-payload-len-requires-2 : tie.Need-payload-len-requires-2 Inv-loop μ-loop
-payload-len-requires-2 c κs = search needs
-
--- src/search.rt:114:27
-cast-t18 : tie.Need-cast-t18 Inv-loop μ-loop
-cast-t18 c = search needs
-
--- src/search.rt:114:18
-add-t19 : tie.Need-add-t19 Inv-loop μ-loop
-add-t19 c = search needs
-
--- src/search.rt:116:9
-add-i : tie.Need-add-i Inv-loop μ-loop
-add-i c = search needs
-
--- src/search.rt:107:5
-loop-less : tie.Need-loop-less Inv-loop μ-loop
-loop-less c = search needs
-
--- src/search.rt:107:5
 loop-again : tie.Need-loop-again Inv-loop μ-loop
-loop-again c = 
+loop-again c =
     let l = c .before .before .before .before .before .before .before .before .before in (
       omega arith,
       omega arith,
@@ -93,7 +38,6 @@ loop-again c =
           (c .before .before .before .payload-len .ensures) (c .before .payload-len2 .ensures),
     )
 
--- src/search.rt:99:1
 returns : tie.Need-returns Inv-loop μ-loop
 returns c = sym (c .before .loop .inv .5 ∙ search-ends _ _ _ _ _ _ _ (c .loop-test .left))
 
@@ -104,17 +48,17 @@ next-member-spec =
     Inv-loop
     μ-loop
     loop-holds
-    read-member-requires
-    step-of-requires
-    add-t12
-    add-t13
-    payload-len-requires
-    cast-t15
-    add-t16
-    payload-len-requires-2
-    cast-t18
-    add-t19
-    add-i
-    loop-less
+    (λ c κs. search needs)
+    (λ c κs. search needs)
+    (λ c. search needs)
+    (λ c. search needs)
+    (λ c κs. search needs)
+    (λ c. search needs)
+    (λ c. search needs)
+    (λ c κs. search needs)
+    (λ c. search needs)
+    (λ c. search needs)
+    (λ c. search needs)
+    (λ c. search needs)
     loop-again
     returns)

@@ -1,0 +1,451 @@
+-- Object build: from what the checks and the tests of names say to the outcome.
+use Prim.Native.Nat.{ℕ, zero, suc, _+_, _*_, _-_, _^_, _<_, _≤_}
+use native.Mathlib.Omega.{arith}
+use mathlib.Core.Path.{_≡_, refl, ap, ap₂, sym, _∙_}
+use mathlib.Core.Bool.{Bool, true, false, cond, _&&_}
+use mathlib.Core.List.{List, [], _∷_, _++_, append-nil}
+use lib.Dec.{eqb}
+use lib.ListN.{length, drop, length-append}
+use lib.Bits.{bitOr, or-shifted}
+use borrow.Author.Tests.{eq-eqb, ne-eqb}
+use Rattle.layout.specs.Bytes.{Bytes, Octets, be32}
+use Rattle.layout.specs.Answer.{Answer, gives, refused, _>>=_, require}
+use Rattle.layout.specs.Entry.{code-of, entry-at, kind-of}
+use Rattle.layout.specs.Tree.{Tree, null, boolean, number, string, extension, array, object, Items, none, item, Members, names, pair}
+use Rattle.layout.specs.Encode.{Part, entries, payloads, name-parts, item-parts, member-parts, part, encode}
+use Rattle.layout.specs.Read.{header, is-string, read}
+use Rattle.layout.specs.Limits.{depth, depth-items, depth-members}
+use Rattle.layout.specs.Order.{rising}
+use Rattle.layout.specs.Sound.{Rising}
+use Rattle.layout.specs.Place.{parts-at, rising-parts}
+use Rattle.layout.specs.Check.{checked}
+use Rattle.layout.specs.Ended.{Ended}
+use Rattle.layout.specs.Patch.{patch}
+use Rattle.layout.specs.declared.refusal.Refusal.{Refusal}
+use Rattle.layout.specs.declared.refusal.Refusal.the-variants.{Kind, Repeated, Result, Buffer}
+use Rattle.layout.specs.declared.ending.Ending.{Ending}
+use Rattle.layout.specs.declared.ending.Ending.the-variants.{Done, Refused}
+use Rattle.layout.specs.declared.util.Header.{Header}
+use Rattle.layout.specs.declared.util.Header.the-variants.{Array}
+use Rattle.layout.specs.declared.check.Check.{Check}
+use Rattle.layout.specs.declared.check.Check.the-variants.{Readable, Refused as NotReadable}
+use Rattle.layout.proofs.Words.{drop-be32}
+use Rattle.layout.proofs.Fields.{code-lt}
+use Rattle.layout.proofs.Decoding.{names-pair, parts-pair, length-name-parts, payloads-append}
+use Rattle.layout.proofs.Encoding.{array-fits, names-count}
+use Rattle.layout.proofs.Level.{AllFit}
+use Rattle.layout.proofs.Readables.{record-of-length, length-encode}
+use Rattle.layout.proofs.Places.{parts-at-record}
+use Rattle.layout.proofs.Sounds.{rising-test, rising-names}
+use Rattle.layout.proofs.Nestings.{readable-gives, refused-as}
+use Rattle.builders.specs.Order.{in-order, distinct}
+use Rattle.builders.specs.Build.{items-of, texts-of, count, build, on-two}
+use Rattle.builders.specs.Join.{given-count, given-entries, given-start, Lies, joined, sized}
+use Rattle.builders.specs.Search.{texts, strings-at, name-in, value-in, members-from, members-at, sorted, Pairs}
+use Rattle.builders.specs.Weave.{woven}
+use Rattle.builders.specs.declared.builder.Given.the-variants.{Table}
+use Rattle.builders.specs.declared.search.Places.{Places}
+use Rattle.builders.proofs.InOrders.{rising-in-order, rising-distinct, in-order-count, in-order-names, in-order-size, in-order-depth}
+use Rattle.builders.proofs.Stands.{Stand, stand-sorted, stand-from}
+use Rattle.builders.proofs.Weaves.{woven-record, entries-append}
+use Rattle.builders.proofs.Joins.{Gives, few, count-table, sized-long, sized-short, sized-full}
+use Rattle.builders.proofs.Sides.{Known, known, no-array, an-array}
+use Rattle.builders.proofs.Appends.{array-lies, items-given}
+use Rattle.builders.proofs.Twos.{two-left, two-right, two-edit, two-sized}
+
+-- Items that are all strings are names.
+abbrev all-strings : List Part → Bool
+all-strings [] = true
+all-strings (p ∷ ps) = is-string (p .kind) && all-strings ps
+
+string-code : (c : ℕ) → c < 8 → eqb c 1 ≡ is-string (kind-of c)
+unfolding kind-of
+string-code zero h = refl
+string-code (suc zero) h = refl
+string-code (suc (suc zero)) h = refl
+string-code (suc (suc (suc zero))) h = refl
+string-code (suc (suc (suc (suc zero)))) h = refl
+string-code (suc (suc (suc (suc (suc zero))))) h = refl
+string-code (suc (suc (suc (suc (suc (suc zero)))))) h = refl
+string-code (suc (suc (suc (suc (suc (suc (suc zero))))))) h = refl
+string-code (suc (suc (suc (suc (suc (suc (suc (suc c)))))))) h = let z : ⊥ = omega arith in absurd z
+
+strings-parts : (s : Bytes) (i p k : ℕ) → strings-at s i k ≡ all-strings (parts-at s i p k)
+unfolding strings-at parts-at
+strings-parts s i p zero = refl
+strings-parts s i p (suc k) = ap₂ _&&_ (string-code (code-of (entry-at s i)) (code-lt (entry-at s i))) (strings-parts s (i + 1) _ k)
+
+cond-text : (b : Bool) (n : Bytes) (ns : List Bytes)
+    → (cond b (gives ns) (refused Kind) >>= λ ms. gives (n ∷ ms)) ≡ cond b (gives (n ∷ ns)) (refused Kind)
+unfolding _>>=_
+cond-text true n ns = refl
+cond-text false n ns = refl
+
+texts-by : (ts : Items) → texts-of ts ≡ cond (all-strings (item-parts ts)) (gives (texts (item-parts ts))) (refused Kind)
+unfolding _>>=_
+texts-by none = refl
+texts-by (item null ts) = refl
+texts-by (item (boolean true) ts) = refl
+texts-by (item (boolean false) ts) = refl
+texts-by (item (number b) ts) = refl
+texts-by (item (string b) ts) = ap (λ m. m >>= λ ns. gives (b ∷ ns)) (texts-by ts) ∙ cond-text (all-strings (item-parts ts)) b _
+texts-by (item (extension b) ts) = refl
+texts-by (item (array us) ts) = refl
+texts-by (item (object ms) ts) = refl
+
+strings-named : (ts : Items) → all-strings (item-parts ts) ≡ true → item-parts ts ≡ name-parts (texts (item-parts ts))
+strings-named none h = refl
+strings-named (item null ts) h = cc
+strings-named (item (boolean true) ts) h = cc
+strings-named (item (boolean false) ts) h = cc
+strings-named (item (number b) ts) h = cc
+strings-named (item (string b) ts) h = ap (λ ps. part (string b) ∷ ps) (strings-named ts h)
+strings-named (item (extension b) ts) h = cc
+strings-named (item (array us) ts) h = cc
+strings-named (item (object ms) ts) h = cc
+
+count-parts : (ts : Items) → count ts ≡ length (item-parts ts)
+count-parts none = refl
+count-parts (item t ts) = ap suc (count-parts ts)
+
+length-texts : (ps : List Part) → length (texts ps) ≡ length ps
+length-texts [] = refl
+length-texts (p ∷ ps) = ap suc (length-texts ps)
+
+pair-depth : (ns : List Bytes) (us : Items) → depth-members (pair ns us) ≤ depth-items us
+pair-depth [] us = omega arith
+pair-depth (n ∷ ns) none = omega arith
+pair-depth (n ∷ ns) (item u us) = omega (arith, pair-depth ns us)
+
+array-parts : (s : Bytes) (n : ℕ) (ts : Items) → Known s (array ts) → n ≡ length (item-parts ts)
+    → (parts-at s 0 (4 + 4 * n) n ≡ item-parts ts) × AllFit (item-parts ts)
+array-parts s n ts k e =
+    let f = array-fits ts (omega (arith, k .short, ap length (k .bytes))) in
+    (rw (e, ← k .bytes) (parts-at-record (2 ^ 31 + length (item-parts ts)) 0 (item-parts ts) (f .fits) tt), f .fits)
+
+-- What gives 7.
+no-names : (t u : Tree) → items-of t ≡ refused Kind → build t u ≡ refused Kind
+unfolding build _>>=_
+no-names t u e = rw e
+
+no-values : (t u : Tree) → items-of u ≡ refused Kind → build t u ≡ refused Kind
+unfolding build _>>=_
+no-values null u e = refl
+no-values (boolean x) u e = refl
+no-values (number b) u e = refl
+no-values (string b) u e = refl
+no-values (extension b) u e = refl
+no-values (array ts) u e = rw e
+no-values (object ms) u e = refl
+
+unequal : (ts us : Items) → (count ts ≡ count us → ⊥) → build (array ts) (array us) ≡ refused Kind
+unfolding build _>>=_ require
+unequal ts us q = rw (texts-by ts, ne-eqb (count ts) (count us) q) (go (all-strings (item-parts ts)))
+  where
+    go : (b : Bool) → (cond b (gives (texts (item-parts ts))) (refused Kind) >>= λ ns. require false Kind >>= λ _.
+        require (distinct ns) Repeated >>= λ _. gives (object (in-order (pair ns us)))) ≡ refused Kind
+    go true = refl
+    go false = refl
+
+-- Arrays of as many strings as there are values.
+module _ (ks vs : Bytes) (n : ℕ) (ts us : Items) (kk : Known ks (array ts)) (kv : Known vs (array us))
+    (en : n ≡ length (item-parts ts)) (eu : n ≡ length (item-parts us)) where
+  texts-none : strings-at ks 0 n ≡ false → build (array ts) (array us) ≡ refused Kind
+  unfolding build _>>=_
+  texts-none q =
+      let z : all-strings (item-parts ts) ≡ false =
+      ap all-strings (sym (array-parts ks n ts kk en .0)) ∙ sym (strings-parts ks 0 (4 + 4 * n) n) ∙ q in
+      rw (texts-by ts, z)
+
+  module _ (st : strings-at ks 0 n ≡ true) (o : Bytes) where
+    abbrev ns : List Bytes
+    ns = texts (item-parts ts)
+
+    abbrev ms : Members
+    ms = pair (texts (item-parts ts)) us
+
+    parts-are : parts-at ks 0 (4 + 4 * n) n ≡ item-parts ts
+    parts-are = array-parts ks n ts kk en .0
+
+    strings : all-strings (item-parts ts) ≡ true
+    strings = ap all-strings (sym parts-are) ∙ sym (strings-parts ks 0 (4 + 4 * n) n) ∙ st
+
+    named : item-parts ts ≡ name-parts ns
+    named = strings-named ts strings
+
+    as-many : length ns ≡ length (item-parts us)
+    as-many = length-texts (item-parts ts) ∙ sym en ∙ eu
+
+    names-ms : names ms ≡ ns
+    names-ms = names-pair ns us as-many
+
+    parts-ms : member-parts ms ≡ item-parts us
+    parts-ms = parts-pair ns us as-many
+
+    built : (d : Bool) → distinct ns ≡ d → build (array ts) (array us) ≡ cond d (gives (object (in-order ms))) (refused Repeated)
+    unfolding build _>>=_ require
+    built d e =
+        let c : count ts ≡ count us = count-parts ts ∙ sym en ∙ eu ∙ sym (count-parts us) in
+        rw (texts-by ts, strings, eq-eqb (count ts) (count us) c, e) (by-test d)
+      where
+        by-test : (d : Bool) → (require d Repeated >>= λ _. gives (object (in-order ms))) ≡ cond d (gives (object (in-order ms))) (refused Repeated)
+        by-test true = refl
+        by-test false = refl
+
+    deep : depth (object (in-order ms)) ≤ 64
+    deep = omega (arith, in-order-depth ms, pair-depth ns us, kv .deep)
+
+    -- A result is what is stored, where its names are distinct.
+    ends : (e : Ending) (o′ b : Bytes) → distinct ns ≡ true → b ≡ encode (object (in-order ms)) → Ended e o o′ (sized (length o) b)
+        → Ended e o o′ (on-two build ks vs (length o))
+    ends e o′ b d q h =
+        two-sized build ks vs o (array ts) (kk .reads) (array us) (kv .reads) (object (in-order ms)) (built true d) e o′ b deep q h
+
+    pub build-repeated : distinct (texts (parts-at ks 0 (4 + 4 * n) n)) ≡ false → Ended (Refused Repeated) o o (on-two build ks vs (length o))
+    build-repeated q =
+        two-edit build ks vs o (array ts) (kk .reads) (array us) (kv .reads) Repeated
+        (built false (ap (λ ps. distinct (texts ps)) (sym parts-are) ∙ q))
+
+    given-keys : Gives ks (Table n) ts
+    given-keys = items-given ks n ts kk en
+
+    given-vals : Gives vs (Table n) us
+    given-vals = items-given vs n us kv eu
+
+    header-word : bitOr (2 ^ 30) n ≡ 2 ^ 30 + length (member-parts ms)
+    header-word =
+        or-shifted 1 30 n (omega (arith, few ks (Table n) (array-lies ks n ts kk en), count-table (Table n) n refl))
+        ∙ ap (λ k. 2 ^ 30 + k) (eu ∙ sym (ap length parts-ms))
+
+    -- Names that rise: the two tables and the two rows of payloads as they stand.
+    joined-object : joined (bitOr (2 ^ 30) n) ks (Table n) vs (Table n) ≡ encode (object ms)
+    unfolding joined
+    joined-object =
+        rw (
+          header-word,
+          given-keys .table,
+          given-vals .table,
+          given-keys .rest,
+          given-vals .rest,
+          names-ms,
+          ← named,
+          parts-ms,
+          entries-append,
+          payloads-append,
+        )
+
+    pub build-rising : rising-parts (parts-at ks 0 (4 + 4 * n) n) ≡ true → (e : Ending) (o′ : Bytes)
+        → Ended e o o′ (sized (length o) (joined (bitOr (2 ^ 30) n) ks (Table n) vs (Table n)))
+        → Ended e o o′ (on-two build ks vs (length o))
+    build-rising q e o′ h =
+        let r : rising ns ≡ true = sym (rising-names ns) ∙ ap rising-parts (sym named) ∙ ap rising-parts (sym parts-are) ∙ q in
+        let up : Rising ns = rising-test ns .0 (rw r tt) in
+        let same : in-order ms ≡ ms = rising-in-order ms (rw names-ms up) in
+        ends e o′ _ (rising-distinct ns up) (joined-object ∙ ap (λ m. encode (object m)) (sym same)) h
+
+    -- Other names: the members in byte order, one after another.
+    module _ (dist : distinct (texts (parts-at ks 0 (4 + 4 * n) n)) ≡ true) where
+      distinct-ns : distinct ns ≡ true
+      distinct-ns = ap (λ ps. distinct (texts ps)) (sym parts-are) ∙ dist
+
+      distinct-ms : distinct (names ms) ≡ true
+      distinct-ms = ap distinct names-ms ∙ distinct-ns
+
+      length-keys : length ks ≡ 4 + 4 * n + length (payloads (item-parts ts))
+      length-keys = omega (arith, ap length (kk .bytes), record-of-length (2 ^ 31 + length (item-parts ts)) (item-parts ts))
+
+      length-vals : length vs ≡ 4 + 4 * n + length (payloads (item-parts us))
+      length-vals = omega (arith, ap length (kv .bytes), record-of-length (2 ^ 31 + length (item-parts us)) (item-parts us))
+
+      name-bytes : length (payloads (name-parts (names ms))) ≡ length (payloads (item-parts ts))
+      name-bytes = ap (λ k. length (payloads k)) (ap name-parts names-ms ∙ sym named)
+
+      result-length : length ks + (length vs - 4) ≡ length (encode (object (in-order ms)))
+      result-length =
+          omega (
+            arith,
+            length-keys,
+            length-vals,
+            name-bytes,
+            ap length parts-ms,
+            ap (λ k. length (payloads k)) parts-ms,
+            names-count ms,
+            length-encode (object (in-order ms)),
+            in-order-size ms distinct-ms,
+            length-encode (object ms),
+            record-of-length (2 ^ 30 + length (member-parts ms)) (name-parts (names ms) ++ member-parts ms),
+            length-append (name-parts (names ms)) (member-parts ms),
+            ap length (payloads-append (name-parts (names ms)) (member-parts ms)),
+            length-append (payloads (name-parts (names ms))) (payloads (member-parts ms)),
+          )
+
+      abbrev from : Places
+      from = record { «key_jentry» = 4; «val_jentry» = 4; key = 4 + 4 * n; val = 4 + 4 * n }
+
+      behind-header : (s : Bytes) (ws : Items) → Known s (array ws) → drop 4 s ≡ entries (item-parts ws) ++ payloads (item-parts ws)
+      behind-header s ws k =
+          ap (drop 4) (sym (k .bytes)) ∙ drop-be32 (2 ^ 31 + length (item-parts ws)) (entries (item-parts ws) ++ payloads (item-parts ws))
+
+      stand : Stand (name-in ks) (value-in vs) (members-at ks vs from n) ms
+      unfolding members-at given-start
+      stand =
+          let ln : n ≡ length ns = en ∙ sym (length-texts (item-parts ts)) in
+          let fk : AllFit (name-parts ns) = rw (← named) (array-parts ks n ts kk en .1) in
+          let e₁ : drop 4 ks ≡ entries (name-parts ns) ++ payloads (name-parts ns) = rw (← named) (behind-header ks ts kk) in
+          let e₂ : drop (4 + 4 * n) ks ≡ payloads (name-parts ns) ++ [] = rw (← named, append-nil (payloads (item-parts ts))) (given-keys .rest) in
+          let e₃ : drop (4 + 4 * n) vs ≡ payloads (item-parts us) ++ [] = rw (append-nil (payloads (item-parts us))) (given-vals .rest) in
+          let all = stand-from ks vs 4 4 (4 + 4 * n) (4 + 4 * n) ns us (payloads (name-parts ns)) [] (payloads (item-parts us)) [] as-many
+          fk (array-parts vs n us kv eu .1) e₁ e₂ (behind-header vs us kv) e₃ in
+          rw (← ln) at all
+
+      module _ (len : ℕ) (el : len ≡ length ks + (length vs - 4)) where
+        pub sorted-long : 65536 < len → Ended (Refused Result) o o (on-two build ks vs (length o))
+        sorted-long h = ends _ o _ distinct-ns refl (sized-long (encode (object (in-order ms))) o len (el ∙ result-length) h)
+
+        module _ (within : len ≤ 65536) where
+          pub sorted-short : length o < len → Ended (Refused Buffer) o o (on-two build ks vs (length o))
+          sorted-short h = ends _ o _ distinct-ns refl (sized-short (encode (object (in-order ms))) o len (el ∙ result-length) within h)
+
+          pub sorted-full : (w : ℕ) (o₁ o₂ : Bytes) → len ≤ length o → w ≡ bitOr (2 ^ 30) n → o₁ ≡ patch o 0 (be32 w)
+              → o₂ ≡ woven (name-in ks) (value-in vs) o₁ 4 (4 + 4 * n) (4 + 4 * n + 4 * n) (length ks + 4 * n)
+              (sorted (name-in ks) (members-at ks vs from n))
+              → Ended (Done len) o o₂ (on-two build ks vs (length o))
+          sorted-full w o₁ o₂ room ew e₁ e₂ =
+              let a : 4 + 4 * n + 4 * n ≡ 4 + 8 * n = omega arith in
+              let b : length ks + 4 * n ≡ 4 + 8 * n + length (payloads (name-parts (names ms))) = omega (arith, length-keys, name-bytes) in
+              let k : n ≡ length (member-parts (in-order ms)) = eu ∙ sym (ap length parts-ms) ∙ sym (in-order-count ms distinct-ms) in
+              let hw : w ≡ 2 ^ 30 + n = ew ∙ header-word ∙ ap (λ j. 2 ^ 30 + j) (ap length parts-ms ∙ sym eu) in
+              let e₂′ =
+              e₂ ∙ ap₂ (λ c d. woven (name-in ks) (value-in vs) o₁ 4 (4 + 4 * n) c d (sorted (name-in ks) (members-at ks vs from n))) a b in
+              let st = stand-sorted (name-in ks) (value-in vs) (members-at ks vs from n) ms stand in
+              let r = woven-record (name-in ks) (value-in vs) _ (in-order ms) o o₁ o₂ n _ st k (sym (in-order-names ms distinct-ms))
+              (rw (← hw) e₁) e₂′ in
+              ends _ o₂ _ distinct-ns refl (sized-full (encode (object (in-order ms))) o len (el ∙ result-length) within o₂ room r)
+
+-- What a readable array is.
+pub array-known : (s : Bytes) (n : ℕ) → Octets s → checked (read s) ≡ Readable → header s ≡ Array n
+    → (ts : Items) × Known s (array ts) × (n ≡ length (item-parts ts))
+array-known s n o c h =
+    let w = readable-gives (read s) Readable (sym c) refl in
+    let k = known s (w .0) o (w .1) in
+    let a = an-array (w .0) n (sym (k .head) ∙ h) in
+    (a .0, rw (a .1) at k, a .2)
+
+-- How much there is, in the code's terms.
+pub record Bounds (ks vs : Bytes) (n : ℕ) : Type 0 where
+  pub few : n ≤ 16384
+  pub table : 4 + 4 * n ≤ length ks
+  pub keys : length ks ≤ 65536
+  pub some : 4 + 4 * n ≤ length vs
+  pub vals : length vs ≤ 65536
+
+module _ (ks vs : Bytes) (ok : Octets ks) (ov : Octets vs) (n : ℕ) (pairs : Pairs ks vs n) where
+  keys-known : (ts : Items) × Known ks (array ts) × (n ≡ length (item-parts ts))
+  keys-known = array-known ks n ok (pairs .names) (pairs .keys)
+
+  vals-known : (us : Items) × Known vs (array us) × (n ≡ length (item-parts us))
+  vals-known = array-known vs n ov (pairs .values) (pairs .vals)
+
+  pub pairs-lie : Lies ks (Table n) × Lies vs (Table n)
+  pairs-lie = (
+    array-lies ks n (keys-known .0) (keys-known .1) (keys-known .2),
+    array-lies vs n (vals-known .0) (vals-known .1) (vals-known .2),
+  )
+
+  pub pairs-bounds : Bounds ks vs n
+  unfolding given-start
+  pairs-bounds =
+      record {
+        few = omega (arith, pairs-lie .0 .starts, pairs-lie .0 .short);
+        table = pairs-lie .0 .starts;
+        keys = pairs-lie .0 .short;
+        some = pairs-lie .1 .starts;
+        vals = pairs-lie .1 .short;
+      }
+
+  module _ (o : Bytes) where
+    abbrev On : Ending → Bytes → Type 0
+    On e o′ = Ended e o o′ (on-two build ks vs (length o))
+
+    pub pairs-repeated : distinct (texts (parts-at ks 0 (4 + 4 * n) n)) ≡ false → On (Refused Repeated) o
+    pairs-repeated =
+        build-repeated ks vs n (keys-known .0) (vals-known .0) (keys-known .1) (vals-known .1) (keys-known .2) (vals-known .2) (pairs .strings) o
+
+    pub pairs-rising : rising-parts (parts-at ks 0 (4 + 4 * n) n) ≡ true → (e : Ending) (o′ : Bytes)
+        → Ended e o o′ (sized (length o) (joined (bitOr (2 ^ 30) n) ks (Table n) vs (Table n))) → On e o′
+    pairs-rising =
+        build-rising ks vs n (keys-known .0) (vals-known .0) (keys-known .1) (vals-known .1) (keys-known .2) (vals-known .2) (pairs .strings) o
+
+    module _ (dist : distinct (texts (parts-at ks 0 (4 + 4 * n) n)) ≡ true) (len : ℕ) (el : len ≡ length ks + (length vs - 4)) where
+      pub pairs-long : 65536 < len → On (Refused Result) o
+      pairs-long =
+          sorted-long ks vs n (keys-known .0) (vals-known .0) (keys-known .1) (vals-known .1) (keys-known .2) (vals-known .2) (pairs .strings) o
+          dist len el
+
+      module _ (within : len ≤ 65536) where
+        pub pairs-short : length o < len → On (Refused Buffer) o
+        pairs-short =
+            sorted-short ks vs n (keys-known .0) (vals-known .0) (keys-known .1) (vals-known .1) (keys-known .2) (vals-known .2) (pairs .strings) o
+            dist len el within
+
+        pub pairs-full : (w : ℕ) (o₁ o₂ : Bytes) → len ≤ length o → w ≡ bitOr (2 ^ 30) n → o₁ ≡ patch o 0 (be32 w)
+            → o₂ ≡ woven (name-in ks) (value-in vs) o₁ 4 (4 + 4 * n) (4 + 4 * n + 4 * n) (length ks + 4 * n)
+            (sorted (name-in ks) (members-at ks vs (record { «key_jentry» = 4; «val_jentry» = 4; key = 4 + 4 * n; val = 4 + 4 * n }) n))
+            → On (Done len) o₂
+        pairs-full =
+            sorted-full ks vs n (keys-known .0) (vals-known .0) (keys-known .1) (vals-known .1) (keys-known .2) (vals-known .2) (pairs .strings) o
+            dist len el within
+
+-- Before the pairs are known: the numbers in their order.
+module _ (ks vs o : Bytes) (ok : Octets ks) (ov : Octets vs) (c : Check) (hc : c ≡ checked (read ks)) where
+  pub build-left : (x : Refusal) → c ≡ NotReadable x → Ended (Refused x) o o (on-two build ks vs (length o))
+  build-left x q = two-left build ks vs o x (refused-as (read ks) c x hc q)
+
+  module _ (qc : c ≡ Readable) (d : Check) (hd : d ≡ checked (read vs)) where
+    left : (t : Tree) × Known ks t
+    left = let w = readable-gives (read ks) c hc qc in (w .0, known ks (w .0) ok (w .1))
+
+    pub build-right : (x : Refusal) → d ≡ NotReadable x → Ended (Refused x) o o (on-two build ks vs (length o))
+    build-right x q = two-right build ks vs o (left .0) (left .1 .reads) x (refused-as (read vs) d x hd q)
+
+    module _ (qd : d ≡ Readable) (h : Header) (hh : h ≡ header ks) where
+      right : (u : Tree) × Known vs u
+      right = let w = readable-gives (read vs) d hd qd in (w .0, known vs (w .0) ov (w .1))
+
+      kind : build (left .0) (right .0) ≡ refused Kind → Ended (Refused Kind) o o (on-two build ks vs (length o))
+      kind = two-edit build ks vs o (left .0) (left .1 .reads) (right .0) (right .1 .reads) Kind
+
+      pub build-no-names : ((k : ℕ) → h ≡ Array k → ⊥) → Ended (Refused Kind) o o (on-two build ks vs (length o))
+      build-no-names q = kind (no-names (left .0) (right .0) (no-array (left .0) (λ k e. q k (hh ∙ left .1 .head ∙ e))))
+
+      module _ (n : ℕ) (qh : h ≡ Array n) (j : Header) (hj : j ≡ header vs) where
+        pub build-no-values : ((k : ℕ) → j ≡ Array k → ⊥) → Ended (Refused Kind) o o (on-two build ks vs (length o))
+        build-no-values q = kind (no-values (left .0) (right .0) (no-array (right .0) (λ k e. q k (hj ∙ right .1 .head ∙ e))))
+
+        module _ (m : ℕ) (qj : j ≡ Array m) where
+          keys : (ts : Items) × (left .0 ≡ array ts) × (n ≡ length (item-parts ts))
+          keys = an-array (left .0) n (sym (left .1 .head) ∙ sym hh ∙ qh)
+
+          vals : (us : Items) × (right .0 ≡ array us) × (m ≡ length (item-parts us))
+          vals = an-array (right .0) m (sym (right .1 .head) ∙ sym hj ∙ qj)
+
+          pub build-unequal : (n ≡ m → ⊥) → Ended (Refused Kind) o o (on-two build ks vs (length o))
+          build-unequal q =
+              kind (rw (keys .1, vals .1) (unequal (keys .0) (vals .0)
+              (λ e. q (keys .2 ∙ sym (count-parts (keys .0)) ∙ e ∙ count-parts (vals .0) ∙ sym (vals .2)))))
+
+          module _ (e : n ≡ m) (g : Bool) (hg : g ≡ strings-at ks 0 n) where
+            pub build-no-strings : g ≡ false → Ended (Refused Kind) o o (on-two build ks vs (length o))
+            build-no-strings q =
+                kind (rw (keys .1, vals .1) (texts-none ks vs n (keys .0) (vals .0) (rw (keys .1) at (left .1)) (rw (vals .1) at (right .1))
+                (keys .2) (e ∙ vals .2) (sym hg ∙ q)))
+
+            pub build-pairs : g ≡ true → Pairs ks vs n
+            build-pairs q =
+                record {
+                  names = sym hc ∙ qc;
+                  values = sym hd ∙ qd;
+                  keys = sym hh ∙ qh;
+                  vals = sym hj ∙ qj ∙ ap Array (sym e);
+                  strings = sym hg ∙ q;
+                }
