@@ -7,9 +7,9 @@ use lib.Bits.{bitOr, or-shifted}
 use Rattle.layout.specs.Bytes.{Bytes, Octets}
 use Rattle.layout.specs.Answer.{gives, refused, _>>=_}
 use Rattle.layout.specs.Tree.{Tree, null, boolean, number, string, extension, array, object, Items, none, item}
-use Rattle.layout.specs.Encode.{item-parts, encode}
+use Rattle.layout.specs.Encode.{item-parts}
 use Rattle.layout.specs.Read.{header, read}
-use Rattle.layout.specs.Limits.{depth, depth-items, record-length}
+use Rattle.layout.specs.Limits.{depth-items, record-length}
 use Rattle.layout.specs.Check.{checked, nesting}
 use Rattle.layout.specs.Ended.{Ended}
 use Rattle.layout.specs.declared.refusal.Refusal.{Refusal}

@@ -9,7 +9,7 @@ use lib.ListN.{length, drop, length-append}
 use lib.Bits.{bitOr, or-shifted}
 use borrow.Author.Tests.{eq-eqb, ne-eqb}
 use Rattle.layout.specs.Bytes.{Bytes, Octets, be32}
-use Rattle.layout.specs.Answer.{Answer, gives, refused, _>>=_, require}
+use Rattle.layout.specs.Answer.{gives, refused, _>>=_, require}
 use Rattle.layout.specs.Entry.{code-of, entry-at, kind-of}
 use Rattle.layout.specs.Tree.{Tree, null, boolean, number, string, extension, array, object, Items, none, item, Members, names, pair}
 use Rattle.layout.specs.Encode.{Part, entries, payloads, name-parts, item-parts, member-parts, part, encode}
@@ -31,7 +31,7 @@ use Rattle.layout.specs.declared.check.Check.{Check}
 use Rattle.layout.specs.declared.check.Check.the-variants.{Readable, Refused as NotReadable}
 use Rattle.layout.proofs.Words.{drop-be32}
 use Rattle.layout.proofs.Fields.{code-lt}
-use Rattle.layout.proofs.Decoding.{names-pair, parts-pair, length-name-parts, payloads-append}
+use Rattle.layout.proofs.Decoding.{names-pair, parts-pair, payloads-append}
 use Rattle.layout.proofs.Encoding.{array-fits, names-count}
 use Rattle.layout.proofs.Level.{AllFit}
 use Rattle.layout.proofs.Readables.{record-of-length, length-encode}
@@ -40,8 +40,8 @@ use Rattle.layout.proofs.Sounds.{rising-test, rising-names}
 use Rattle.layout.proofs.Nestings.{readable-gives, refused-as}
 use Rattle.builders.specs.Order.{in-order, distinct}
 use Rattle.builders.specs.Build.{items-of, texts-of, count, build, on-two}
-use Rattle.builders.specs.Join.{given-count, given-entries, given-start, Lies, joined, sized}
-use Rattle.builders.specs.Search.{texts, strings-at, name-in, value-in, members-from, members-at, sorted, Pairs}
+use Rattle.builders.specs.Join.{given-start, Lies, joined, sized}
+use Rattle.builders.specs.Search.{texts, strings-at, name-in, value-in, members-at, sorted, Pairs}
 use Rattle.builders.specs.Weave.{woven}
 use Rattle.builders.specs.declared.builder.Given.the-variants.{Table}
 use Rattle.builders.specs.declared.search.Places.{Places}
@@ -104,7 +104,7 @@ strings-named (item (extension b) ts) h = cc
 strings-named (item (array us) ts) h = cc
 strings-named (item (object ms) ts) h = cc
 
-count-parts : (ts : Items) → count ts ≡ length (item-parts ts)
+pub count-parts : (ts : Items) → count ts ≡ length (item-parts ts)
 count-parts none = refl
 count-parts (item t ts) = ap suc (count-parts ts)
 

@@ -1,18 +1,18 @@
 -- Two records written as one array: what the code stores is the array's record.
 use Prim.Native.Nat.{ℕ, _+_, _*_, _-_, _%_, _^_, _<_, _≤_}
 use native.Mathlib.Omega.{arith}
-use mathlib.Core.Path.{_≡_, refl, ap, ap₂, sym, _∙_}
+use mathlib.Core.Path.{_≡_, refl, ap, sym, _∙_}
 use mathlib.Core.List.{List, [], _∷_, _++_, append-assoc, append-nil}
-use lib.ListN.{length, take, drop, length-append, length-take, length-drop}
+use lib.ListN.{length, take, drop, length-append, length-drop}
 use lib.Seq.{take-all, length-take-le, take-append-seam, drop-append-seam, drop-drop}
 use borrow.Author.Tests.{lt-ltb, le-ltb}
-use Rattle.layout.specs.Bytes.{Bytes, be32, Octets}
+use Rattle.layout.specs.Bytes.{Bytes, be32}
 use Rattle.layout.specs.Entry.{entry-of}
 use Rattle.layout.specs.Tree.{Tree, null, boolean, number, string, extension, array, object, Items, none, item}
 use Rattle.layout.specs.Encode.{Part, entries, payloads, item-parts, part, encode, record-of}
 use Rattle.layout.specs.Patch.{patch}
 use Rattle.layout.specs.Read.{header}
-use Rattle.layout.specs.Ended.{Ended, into}
+use Rattle.layout.specs.Ended.{Ended}
 use Rattle.layout.specs.declared.ending.Ending.the-variants.{Done, Refused}
 use Rattle.layout.specs.declared.refusal.Refusal.the-variants.{Result, Buffer}
 use Rattle.layout.specs.declared.util.Header.{Header}

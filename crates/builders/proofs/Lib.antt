@@ -12,3 +12,5 @@ pub mod Twos
 pub mod Sides
 pub mod Appends
 pub mod Builds
+pub mod Results
+pub mod BuildCases

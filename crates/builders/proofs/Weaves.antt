@@ -21,10 +21,6 @@ use Rattle.builders.proofs.Stands.{Stand, stand-key-entries, stand-val-
 pub patch-then : (o o₁ o₂ : Bytes) (at p : ℕ) (a b : Bytes) → o₁ ≡ patch o at a → o₂ ≡ patch o₁ p b → p ≡ at + length a → o₂ ≡ patch o at (a ++ b)
 patch-then o o₁ o₂ at p a b e₁ e₂ e₃ = rw (e₂, e₁, e₃) (patch-append o at a b)
 
--- What is stored last, in front of what was stored.
-pub patch-front : (o o₁ o₂ : Bytes) (at p : ℕ) (a b : Bytes) → o₁ ≡ patch o p b → o₂ ≡ patch o₁ at a → p ≡ at + length a → o₂ ≡ patch o at (a ++ b)
-patch-front o o₁ o₂ at p a b e₁ e₂ e₃ = rw (e₂, e₁, e₃) (patch-comm o at (at + length a) a b (omega arith) ∙ patch-append o at a b)
-
 -- Of two, three or four regions in a row, the first grows at its end.
 module _ (o : Bytes) (p : ℕ) (u t : Bytes) (q : ℕ) (v : Bytes) where
   pub slip : p + length u + length t ≤ q → patch (patch (patch o p u) q v) (p + length u) t ≡ patch (patch o p (u ++ t)) q v

@@ -1,17 +1,14 @@
 -- A record inside another: what the check with a level less says of it. And the header of a tree's record.
-use Prim.Native.Nat.{ℕ, _+_, _≤_, _<_}
+use Prim.Native.Nat.{ℕ, _≤_, _<_}
 use native.Mathlib.Omega.{arith}
 use mathlib.Core.Path.{_≡_, refl, ap, sym, _∙_}
-use mathlib.Core.Bool.{cond}
-use mathlib.Core.List.{_++_}
-use lib.Dec.{leb}
 use lib.ListN.{length}
 use native.Mathlib.Decide.{decLe}
 use borrow.Author.Tests.{le-leb, lt-leb}
 use Rattle.layout.specs.Bytes.{Bytes, Octets}
 use Rattle.layout.specs.Answer.{Answer, gives, refused}
-use Rattle.layout.specs.Tree.{Tree, null, boolean, number, string, extension, array, object, Items, Members, names, kind}
-use Rattle.layout.specs.Encode.{Part, entries, payloads, name-parts, item-parts, member-parts, part, encode}
+use Rattle.layout.specs.Tree.{Tree, null, boolean, number, string, extension, array, object, kind}
+use Rattle.layout.specs.Encode.{item-parts, member-parts, part, encode}
 use Rattle.layout.specs.Read.{header, nested, read}
 use Rattle.layout.specs.Limits.{Valid, depth}
 use Rattle.layout.specs.Check.{checked, nesting}
