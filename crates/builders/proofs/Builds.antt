@@ -43,7 +43,7 @@ use Rattle.builders.specs.Build.{items-of, texts-of, count, build, on-tw
 use Rattle.builders.specs.Join.{given-start, Lies, joined, sized}
 use Rattle.builders.specs.Search.{texts, strings-at, name-in, value-in, members-at, sorted, Pairs}
 use Rattle.builders.specs.Weave.{woven}
-use Rattle.builders.specs.declared.builder.Given.the-variants.{Table}
+use Rattle.builders.specs.declared.join.Given.the-variants.{Table}
 use Rattle.builders.specs.declared.search.Places.{Places}
 use Rattle.builders.proofs.InOrders.{rising-in-order, rising-distinct, in-order-count, in-order-names, in-order-size, in-order-depth}
 use Rattle.builders.proofs.Stands.{Stand, stand-sorted, stand-from}

@@ -24,8 +24,8 @@ use Rattle.layout.proofs.Patches.{ended-short, ended-full}
 use Rattle.layout.proofs.Nestings.{head-of}
 use Rattle.builders.specs.Build.{join}
 use Rattle.builders.specs.Join.{given-count, given-entries, given-start, Lies, as-one, joined, joined-length, sized}
-use Rattle.builders.specs.declared.builder.Given.{Given}
-use Rattle.builders.specs.declared.builder.Given.the-variants.{Table, Whole}
+use Rattle.builders.specs.declared.join.Given.{Given}
+use Rattle.builders.specs.declared.join.Given.the-variants.{Table, Whole}
 use Rattle.builders.proofs.Weaves.{patch-then, entries-append}
 
 -- What a record is as one item.

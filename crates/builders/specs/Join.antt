@@ -11,8 +11,8 @@ use Rattle.layout.specs.Ended.{Outcome, refusal, into}
 use Rattle.layout.specs.declared.refusal.Refusal.the-variants.{Result}
 use Rattle.layout.specs.declared.util.Header.{Header}
 use Rattle.layout.specs.declared.util.Header.the-variants.{Array, Object, Scalar, Refused}
-use Rattle.builders.specs.declared.builder.Given.{Given}
-use Rattle.builders.specs.declared.builder.Given.the-variants.{Table, Whole}
+use Rattle.builders.specs.declared.join.Given.{Given}
+use Rattle.builders.specs.declared.join.Given.the-variants.{Table, Whole}
 
 -- How many items.
 unfoldable pub given-count : Given → ℕ

@@ -13,7 +13,7 @@ ghost use Rattle.builders.specs.Order.{same, has, distinct};
 ghost use Rattle.builders.specs.Search.{texts, «strings-at» as stringsAt};
 
 // Whether the first n entries are those of strings.
-pub fn are_strings(s: &[u8], n: usize) -> bool
+pub(crate) fn are_strings(s: &[u8], n: usize) -> bool
     requires { ⌜ n < 2 ^ 29 ⌝ }
     ensures { λ r. ⌜ r ≡ stringsAt (now (s .entry)) 0 n ⌝ }
 {
@@ -27,7 +27,7 @@ pub fn are_strings(s: &[u8], n: usize) -> bool
     true
 }
 
-pub fn is_same(a: &[u8], b: &[u8]) -> bool
+pub(crate) fn is_same(a: &[u8], b: &[u8]) -> bool
     ensures { λ r. ⌜ r ≡ same (now (a .entry)) (now (b .entry)) ⌝ }
 {
     if a.len() != b.len() {
@@ -59,7 +59,7 @@ fn is_among(name: &[u8], s: &[u8], from: usize, n: usize, start: usize) -> bool
 }
 
 // Whether no name is there twice.
-pub fn is_distinct(s: &[u8], n: usize, start: usize) -> bool
+pub(crate) fn is_distinct(s: &[u8], n: usize, start: usize) -> bool
     requires { ⌜ (n < 2 ^ 29) × (start < 2 ^ 33) ⌝ }
     ensures { λ r. ⌜ r ≡ distinct (texts (partsAt (now (s .entry)) 0 start n)) ⌝ }
 {

@@ -38,7 +38,7 @@ pub enum Found {
 }
 
 // The payload of an item.
-pub fn payload_at(s: &[u8], item: ItemAt) -> &[u8]
+pub(crate) fn payload_at(s: &[u8], item: ItemAt) -> &[u8]
     ensures { λ r. ⌜ now r ≡ bytesAt (now (s .entry)) item ⌝ }
 {
     slice(s, item.offset, payload_len(item.jentry) as usize)
@@ -95,7 +95,7 @@ fn step_of(keys: &[u8], is_first: bool, last: &[u8], best: Found, member: Member
 }
 
 // Of `count` members the first with the least name behind the last one taken.
-pub fn next_member(
+pub(crate) fn next_member(
     keys: &[u8],
     vals: &[u8],
     from: Places,
@@ -146,7 +146,14 @@ fn put_member(keys: &[u8], vals: &[u8], member: MemberAt, out: &mut [u8], at: Pl
 }
 
 // Stores `count` members in byte order of their names, of equal names the first, each behind the one before.
-pub fn put_members(keys: &[u8], vals: &[u8], from: Places, count: usize, out: &mut [u8], to: Places)
+pub(crate) fn put_members(
+    keys: &[u8],
+    vals: &[u8],
+    from: Places,
+    count: usize,
+    out: &mut [u8],
+    to: Places,
+)
     requires { ⌜ (count < 2 ^ 29) × (from .«key_jentry» < 2 ^ 32) × (from .«val_jentry» < 2 ^ 32) × (from .key < 2 ^ 32) × (from .val < 2 ^ 32) ⌝ }
     requires { ⌜ (to .«key_jentry» < 2 ^ 32) × (to .«val_jentry» < 2 ^ 32) × (to .key < 2 ^ 32) × (to .val < 2 ^ 32) ⌝ }
     ensures { λ _. ⌜ now (out .exit)

@@ -1,8 +1,8 @@
--- `builders::builder::write_joined` meets its contract.
+-- `builders::join::write_joined` meets its contract.
 use Rattle.builders.proofs.Joins.{length-joined, sized-long, sized-short, sized-full}
 use borrow.Author.Needs.{needs}
-use Rattle.builders.proofs.builder.write_joined.Statement.{statement}
-use Rattle.builders.proofs.builder.write_joined.Tie as tie
+use Rattle.builders.proofs.join.write_joined.Statement.{statement}
+use Rattle.builders.proofs.join.write_joined.Tie as tie
 
 returns : tie.Need-returns
 returns c = sized-long _ _ _ (length-joined _ _ _ _ (c .before .before .before .before .before .pre .0) (c .before .before .before .before .before .pre .1) _ _ (c .before .joined-len .ensures)) (c .if1 .taken)

@@ -1,9 +1,9 @@
--- `builders::builder::given_start` meets its contract.
+-- `builders::join::given_start` meets its contract.
 use native.Mathlib.Omega.{arith}
 use Rattle.builders.proofs.Joins.{count-table, start-table, start-whole}
 use borrow.Author.Needs.{needs}
-use Rattle.builders.proofs.builder.given_start.Statement.{statement}
-use Rattle.builders.proofs.builder.given_start.Tie as tie
+use Rattle.builders.proofs.join.given_start.Statement.{statement}
+use Rattle.builders.proofs.join.given_start.Tie as tie
 
 mul-result : tie.Need-mul-result
 mul-result c = omega (arith, count-table _ _ (c .before .given .given .1), c .before .before .before .pre)

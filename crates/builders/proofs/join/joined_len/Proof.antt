@@ -1,9 +1,9 @@
--- `builders::builder::joined_len` meets its contract.
+-- `builders::join::joined_len` meets its contract.
 use native.Mathlib.Omega.{arith}
 use Rattle.builders.proofs.Joins.{few, length-is}
 use borrow.Author.Needs.{needs}
-use Rattle.builders.proofs.builder.joined_len.Statement.{statement}
-use Rattle.builders.proofs.builder.joined_len.Tie as tie
+use Rattle.builders.proofs.join.joined_len.Statement.{statement}
+use Rattle.builders.proofs.join.joined_len.Tie as tie
 
 add-count : tie.Need-add-count
 add-count c = omega (arith, few _ _ (c .before .before .before .before .pre .0), few _ _ (c .before .before .before .before .pre .1), c .before .given-count .ensures, c .given-count2 .ensures)

@@ -1,10 +1,10 @@
--- `builders::builder::as_item` meets its contract.
+-- `builders::join::as_item` meets its contract.
 use native.Mathlib.Omega.{arith}
 use Rattle.layout.proofs.Walks.{none-of}
 use Rattle.builders.proofs.Joins.{one-scalar, one-other}
 use borrow.Author.Needs.{needs}
-use Rattle.builders.proofs.builder.as_item.Statement.{statement}
-use Rattle.builders.proofs.builder.as_item.Tie as tie
+use Rattle.builders.proofs.join.as_item.Statement.{statement}
+use Rattle.builders.proofs.join.as_item.Tie as tie
 
 returns : tie.Need-returns
 returns c = one-scalar _ _ _ (c .before .before .read-header .ensures) (c .enum-told .given .1)

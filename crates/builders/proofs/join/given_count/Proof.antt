@@ -1,8 +1,8 @@
--- `builders::builder::given_count` meets its contract.
+-- `builders::join::given_count` meets its contract.
 use Rattle.builders.proofs.Joins.{count-table, count-whole}
 use borrow.Author.Needs.{needs}
-use Rattle.builders.proofs.builder.given_count.Statement.{statement}
-use Rattle.builders.proofs.builder.given_count.Tie as tie
+use Rattle.builders.proofs.join.given_count.Statement.{statement}
+use Rattle.builders.proofs.join.given_count.Tie as tie
 
 returns : tie.Need-returns
 returns c = count-table _ _ (c .before .given .given .1)

@@ -1,9 +1,9 @@
--- `builders::builder::put_jentries` meets its contract.
+-- `builders::join::put_jentries` meets its contract.
 use native.Mathlib.Omega.{arith}
 use Rattle.builders.proofs.Joins.{count-table, entries-table, entries-whole}
 use borrow.Author.Needs.{needs}
-use Rattle.builders.proofs.builder.put_jentries.Statement.{statement}
-use Rattle.builders.proofs.builder.put_jentries.Tie as tie
+use Rattle.builders.proofs.join.put_jentries.Statement.{statement}
+use Rattle.builders.proofs.join.put_jentries.Tie as tie
 
 mul-slice : tie.Need-mul-slice
 mul-slice c = omega (arith, count-table _ _ (c .before .given .given .1), c .before .before .before .before .before .pre)

@@ -1,10 +1,10 @@
--- `builders::builder::put_joined` meets its contract.
+-- `builders::join::put_joined` meets its contract.
 use native.Mathlib.Omega.{arith}
 use mathlib.Core.Path.{refl}
 use Rattle.builders.proofs.Joins.{few, joined-stored}
 use borrow.Author.Needs.{needs}
-use Rattle.builders.proofs.builder.put_joined.Statement.{statement}
-use Rattle.builders.proofs.builder.put_joined.Tie as tie
+use Rattle.builders.proofs.join.put_joined.Statement.{statement}
+use Rattle.builders.proofs.join.put_joined.Tie as tie
 
 add-count : tie.Need-add-count
 add-count c = omega (arith, few _ _ (c .before .before .before .before .before .pre .0), few _ _ (c .before .before .before .before .before .pre .1), c .before .given-count .ensures, c .given-count2 .ensures)
