@@ -1,21 +1,22 @@
 // The calls of the console.
-use crate::hex::Decoded;
+use crate::hex::RECORD_ROOM;
 use crate::hex::decode;
 use crate::say::say;
+use crate::say::say_fault;
 use crate::say::say_refused;
+use crate::text::Taken;
 use crate::text::count_arguments;
 use crate::text::is_word;
 use crate::text::trim;
 use crate::text::word_end;
+use crate::writing::Edit;
+use crate::writing::answer_two;
 use layout::check::Check;
 use layout::check::check_record;
 use layout::sound::Soundness;
 use layout::sound::check_sound;
 use layout::util::byte;
 use layout::util::slice;
-
-// Room for a record of one byte too many: what is longer is refused as that is.
-const RECORD_ROOM: usize = 65537;
 
 fn say_check(record: &[u8]) {
     match check_record(record) {
@@ -52,10 +53,8 @@ fn answer_one(call: Call, text: &[u8]) {
     }
     let mut record = [0u8; RECORD_ROOM];
     match decode(text, &mut record) {
-        Decoded::Bytes(n) => answer_record(call, slice(&record, 0, n)),
-        Decoded::Missing => say(b"? a record is missing; an empty one is -\n"),
-        Decoded::NotHex => say(b"? an argument is not hexadecimal\n"),
-        Decoded::Odd => say(b"? an argument has half a byte at its end\n"),
+        Taken::Bytes(n) => answer_record(call, slice(&record, 0, n)),
+        Taken::Wrong(fault) => say_fault(fault),
     }
 }
 
@@ -75,5 +74,11 @@ pub(crate) fn answer(line: &[u8]) {
     if is_word(word, b"sound") {
         return answer_one(Call::Sound, rest);
     }
-    say(b"? there is no such call; there are check and sound\n");
+    if is_word(word, b"append") {
+        return answer_two(Edit::Append, rest);
+    }
+    if is_word(word, b"build") {
+        return answer_two(Edit::Build, rest);
+    }
+    say(b"? there is no such call; there are check, sound, append and build\n");
 }

@@ -1,21 +1,21 @@
-// Arguments in hexadecimal.
+// Bytes in hexadecimal, as arguments and in answers.
+use crate::text::Fault;
+use crate::text::Taken;
 use crate::text::is_space;
 use crate::text::trim;
+use layout::constants::RECORD_LIMIT;
 use layout::util::byte;
 use layout::writer::put;
-ghost use Prim.Native.Nat.{_≤_};
+ghost use Prim.Native.Nat.{_<_, _≤_};
 
-pub(crate) enum Decoded {
-    Bytes(usize),
-    Missing,
-    NotHex,
-    Odd,
-}
+// Room for a record of one byte too many: what is longer is refused as that is.
+pub(crate) const RECORD_ROOM: usize = RECORD_LIMIT + 1;
 
 // No digit; no first digit of a byte.
 const NONE: u8 = 16;
 
-fn digit(c: u8) -> u8
+// The value of a digit, and NONE where it is none.
+pub(crate) fn digit(c: u8) -> u8
     ensures { λ r. ⌜ r ≤ 16 ⌝ }
 {
     match c {
@@ -26,7 +26,7 @@ fn digit(c: u8) -> u8
     }
 }
 
-fn decode_digits(text: &[u8], out: &mut [u8]) -> Decoded {
+fn decode_digits(text: &[u8], out: &mut [u8]) -> Taken {
     let mut high = NONE;
     let mut n: usize = 0;
     let mut i = 0;
@@ -38,7 +38,7 @@ fn decode_digits(text: &[u8], out: &mut [u8]) -> Decoded {
         }
         let low = digit(c);
         if low == NONE {
-            return Decoded::NotHex;
+            return Taken::Wrong(Fault::NotHex);
         }
         if high == NONE {
             high = low;
@@ -49,19 +49,50 @@ fn decode_digits(text: &[u8], out: &mut [u8]) -> Decoded {
         high = NONE;
     }
     if high == NONE {
-        return Decoded::Bytes(n);
+        return Taken::Bytes(n);
     }
-    Decoded::Odd
+    Taken::Wrong(Fault::Odd)
 }
 
 // The bytes that a text spells: how many there are, of which `out` gets as many as it has room for.
-pub(crate) fn decode(text: &[u8], out: &mut [u8]) -> Decoded {
+pub(crate) fn decode(text: &[u8], out: &mut [u8]) -> Taken {
     let digits = trim(text);
     if digits.len() == 0 {
-        return Decoded::Missing;
+        return Taken::Wrong(Fault::Missing);
     }
     if (digits.len() == 1) & (byte(digits, 0) == b'-') {
-        return Decoded::Bytes(0);
+        return Taken::Bytes(0);
     }
     decode_digits(digits, out)
+}
+
+// How a digit is written.
+fn letter(digit: u8) -> u8
+    requires { ⌜ digit < 16 ⌝ }
+{
+    if digit < 10 {
+        return b'0' + digit;
+    }
+    b'a' + (digit - 10)
+}
+
+fn first_letter(b: u8) -> u8 {
+    letter(b / 16)
+}
+
+fn second_letter(b: u8) -> u8 {
+    letter(b % 16)
+}
+
+// Spells bytes in lower case, two letters for a byte, as far as `out` goes.
+pub(crate) fn encode(bytes: &[u8], out: &mut [u8]) {
+    let mut at: usize = 0;
+    let mut i = 0;
+    while i < bytes.len() {
+        let b = bytes[i];
+        put(out, at, first_letter(b));
+        put(out, at + 1, second_letter(b));
+        at += 2;
+        i += 1;
+    }
 }

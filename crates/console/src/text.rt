@@ -5,6 +5,20 @@ use layout::util::slice;
 ghost use Prim.Native.Nat.{_≤_};
 ghost use lib.ListN.{length};
 
+// What is wrong with an argument.
+pub(crate) enum Fault {
+    Missing,
+    NotHex,
+    Odd,
+    NotDecimal,
+}
+
+// An argument as it was taken: how many bytes it spells, or is the length of.
+pub(crate) enum Taken {
+    Bytes(usize),
+    Wrong(Fault),
+}
+
 pub(crate) fn is_space(c: u8) -> bool {
     (c == b' ') | ((c == b'\t') | (c == b'\r'))
 }
@@ -80,6 +94,46 @@ pub(crate) fn count_arguments(text: &[u8]) -> usize {
         i += 1;
     }
     n
+}
+
+// The place where an argument starts, of which the first is number 0, and the text's end where there are fewer.
+fn argument_start(text: &[u8], number: usize) -> usize
+    ensures { λ r. ⌜ r ≤ length (now (text .entry)) ⌝ }
+{
+    let mut n: usize = 0;
+    let mut i = 0;
+    while i < text.len() {
+        if n == number {
+            return i;
+        }
+        if text[i] == b';' {
+            n += 1;
+        }
+        i += 1;
+    }
+    i
+}
+
+// The place of the `;` behind the argument that starts at a place, or the text's end.
+fn argument_end(text: &[u8], start: usize) -> usize
+    requires { ⌜ start ≤ length (now text) ⌝ }
+    ensures { λ r. ⌜ (start ≤ r) × (r ≤ length (now (text .entry))) ⌝ }
+{
+    let mut i = start;
+    while i < text.len() {
+        if text[i] == b';' {
+            return i;
+        }
+        i += 1;
+    }
+    i
+}
+
+// The argument of a number, without the `;` around it.
+pub(crate) fn argument(text: &[u8], number: usize) -> &[u8] {
+    let start = argument_start(text, number);
+    let end = argument_end(text, start);
+    slice(text, start, end - start)
 }
 
 // The place behind the first line's end, and 0 where there is none.

@@ -1,0 +1,51 @@
+// The length of the result's buffer, in decimal.
+use crate::hex::digit;
+use crate::text::Fault;
+use crate::text::Taken;
+use crate::text::argument;
+use crate::text::count_arguments;
+use crate::text::trim;
+use layout::constants::RECORD_LIMIT;
+ghost use Prim.Native.Nat.{_≤_};
+
+// The longest result, and the buffer's length where none is given.
+pub(crate) const RESULT_ROOM: usize = RECORD_LIMIT;
+
+// A digit's value is below this.
+const BASE: u8 = 10;
+
+pub(crate) fn least(a: usize, b: usize) -> usize
+    ensures { λ r. ⌜ r ≤ b ⌝ }
+{
+    if a < b {
+        return a;
+    }
+    b
+}
+
+// A number of any digits. It stops growing at the longest result, from which on every length serves alike.
+fn read_decimal(text: &[u8]) -> Taken {
+    let mut n: usize = 0;
+    let mut i = 0;
+    while i < text.len() {
+        let value = digit(text[i]);
+        if BASE <= value {
+            return Taken::Wrong(Fault::NotDecimal);
+        }
+        n = least(n * BASE as usize + value as usize, RESULT_ROOM);
+        i += 1;
+    }
+    Taken::Bytes(n)
+}
+
+// The argument behind the records of a call that takes as many, where there is one.
+pub(crate) fn take_length(text: &[u8], records: usize) -> Taken {
+    if count_arguments(text) <= records {
+        return Taken::Bytes(RESULT_ROOM);
+    }
+    let digits = trim(argument(text, records));
+    if digits.len() == 0 {
+        return Taken::Wrong(Fault::NotDecimal);
+    }
+    read_decimal(digits)
+}
