@@ -33,7 +33,7 @@ byte-less : on-two append empty-array root-null 7 ≡ refusal Buffer
 unfolding on-two be32
 byte-less = refl
 
--- "7 append to a non-array", behind the numbers of both records and before 10.
+-- 7, "append to a non-array", behind the numbers of both records and before 10.
 to-null : on-two append root-null root-null 0 ≡ refusal Kind
 unfolding on-two
 to-null = refl

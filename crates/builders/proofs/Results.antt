@@ -196,7 +196,7 @@ build-sound t u v su e =
     let ss : SoundItems (b .values) = rw (b .right) at su in
     rw (b .is) (in-order-rising (pair (b .texts) (b .values)), in-order-sound (pair (b .texts) (b .values)) (pair-sound (b .texts) (b .values) ss))
 
--- "The first array's strings as names, in turn, with the second's values", in no order.
+-- "the first array's strings as names, in turn, with the second's values", in no order.
 pub build-value : (t u v : Tree) → (e : build t u ≡ gives v) → Same (object (pair (build-is t u v e .texts) (build-is t u v e .values))) v
 build-value t u v e =
     let b = build-is t u v e in
