@@ -131,7 +131,7 @@ names-sound (suc n) (p ∷ ps) ns a e =
     rw (← gives-inj {x = m ∷ ms} e₂)
     (ap₂ _∷_ (rw (text-is (p .bytes) hm, ← string-kind (p .kind) (a .0))) (r .0), (text-valid (p .bytes) m hm, r .1))
 
-pub length-name-parts : (ns : List Bytes) → length (name-parts ns) ≡ length ns
+length-name-parts : (ns : List Bytes) → length (name-parts ns) ≡ length ns
 length-name-parts [] = refl
 length-name-parts (n ∷ ns) = ap suc (length-name-parts ns)
 
