@@ -25,10 +25,11 @@ use Rattle.layout.specs.declared.check.Nesting.the-variants.{Deep, Refused as N
 use Rattle.layout.proofs.Readables.{record-of-length, length-encode}
 use Rattle.layout.proofs.Nestings.{head-of, readable-gives, refused-as}
 use Rattle.builders.specs.Build.{items-of, join, append, on-two}
-use Rattle.builders.specs.Join.{given-count, given-start, Lies, as-one, joined, sized}
+use Rattle.builders.specs.Join.{given-count, given-start, Lies, as-one, joined}
+use Rattle.builders.specs.Room.{sized}
 use Rattle.builders.specs.declared.join.Given.{Given}
 use Rattle.builders.specs.declared.join.Given.the-variants.{Table}
-use Rattle.builders.proofs.Sides.{Known, known, no-array, an-array, nested-gives, nested-refused, deep-nesting, fits-nesting}
+use Rattle.builders.proofs.Knowns.{Known, known, no-array, an-array, nested-gives, nested-refused, deep-nesting, fits-nesting}
 use Rattle.builders.proofs.Joins.{Gives, array-gives, one-gives, joined-encode}
 use Rattle.builders.proofs.Twos.{two-left, two-right, two-edit, two-deep, two-sized}
 

@@ -22,7 +22,7 @@ use Rattle.layout.specs.Check.{checked}
 use Rattle.layout.specs.Ended.{Ended}
 use Rattle.layout.specs.Patch.{patch}
 use Rattle.layout.specs.declared.refusal.Refusal.{Refusal}
-use Rattle.layout.specs.declared.refusal.Refusal.the-variants.{Kind, Repeated, Result, Buffer}
+use Rattle.layout.specs.declared.refusal.Refusal.the-variants.{Kind, Repeated}
 use Rattle.layout.specs.declared.ending.Ending.{Ending}
 use Rattle.layout.specs.declared.ending.Ending.the-variants.{Done, Refused}
 use Rattle.layout.specs.declared.util.Header.{Header}
@@ -40,7 +40,10 @@ use Rattle.layout.proofs.Sounds.{rising-test, rising-names}
 use Rattle.layout.proofs.Nestings.{readable-gives, refused-as}
 use Rattle.builders.specs.Order.{in-order, distinct}
 use Rattle.builders.specs.Build.{items-of, texts-of, count, build, on-two}
-use Rattle.builders.specs.Join.{given-start, Lies, joined, sized}
+use Rattle.builders.specs.Join.{given-start, Lies, joined}
+use Rattle.builders.specs.Room.{room-for, sized}
+use Rattle.builders.specs.declared.room.Room.{Room}
+use Rattle.builders.specs.declared.room.Room.the-variants.{Serves, Refused as NoRoom}
 use Rattle.builders.specs.Search.{texts, strings-at, name-in, value-in, members-at, sorted, Pairs}
 use Rattle.builders.specs.Weave.{woven}
 use Rattle.builders.specs.declared.join.Given.the-variants.{Table}
@@ -48,8 +51,9 @@ use Rattle.builders.specs.declared.search.Places.{Places}
 use Rattle.builders.proofs.InOrders.{rising-in-order, rising-distinct, in-order-count, in-order-names, in-order-size, in-order-depth}
 use Rattle.builders.proofs.Stands.{Stand, stand-sorted, stand-from}
 use Rattle.builders.proofs.Weaves.{woven-record, entries-append}
-use Rattle.builders.proofs.Joins.{Gives, few, count-table, sized-long, sized-short, sized-full}
-use Rattle.builders.proofs.Sides.{Known, known, no-array, an-array}
+use Rattle.builders.proofs.Joins.{Gives, few, count-table}
+use Rattle.builders.proofs.Rooms.{sized-refused, sized-done}
+use Rattle.builders.proofs.Knowns.{Known, known, no-array, an-array}
 use Rattle.builders.proofs.Appends.{array-lies, items-given}
 use Rattle.builders.proofs.Twos.{two-left, two-right, two-edit, two-sized}
 
@@ -298,29 +302,26 @@ module _ (ks vs : Bytes) (n : ℕ) (ts us : Items) (kk : Known ks (array ts)) (k
           fk (array-parts vs n us kv eu .1) e₁ e₂ (behind-header vs us kv) e₃ in
           rw (← ln) at all
 
-      module _ (len : ℕ) (el : len ≡ length ks + (length vs - 4)) where
-        pub sorted-long : 65536 < len → Ended (Refused Result) o o (on-two build ks vs (length o))
-        sorted-long h = ends _ o _ distinct-ns refl (sized-long (encode (object (in-order ms))) o len (el ∙ result-length) h)
+      module _ (len : ℕ) (el : len ≡ length ks + (length vs - 4)) (room : Room) (hr : room ≡ room-for len (length o)) where
+        pub sorted-refused : (x : Refusal) → room ≡ NoRoom x → Ended (Refused x) o o (on-two build ks vs (length o))
+        sorted-refused x q =
+            ends _ o _ distinct-ns refl (sized-refused (encode (object (in-order ms))) o len (el ∙ result-length) room hr x q)
 
-        module _ (within : len ≤ 65536) where
-          pub sorted-short : length o < len → Ended (Refused Buffer) o o (on-two build ks vs (length o))
-          sorted-short h = ends _ o _ distinct-ns refl (sized-short (encode (object (in-order ms))) o len (el ∙ result-length) within h)
-
-          pub sorted-full : (w : ℕ) (o₁ o₂ : Bytes) → len ≤ length o → w ≡ bitOr (2 ^ 30) n → o₁ ≡ patch o 0 (be32 w)
-              → o₂ ≡ woven (name-in ks) (value-in vs) o₁ 4 (4 + 4 * n) (4 + 4 * n + 4 * n) (length ks + 4 * n)
-              (sorted (name-in ks) (members-at ks vs from n))
-              → Ended (Done len) o o₂ (on-two build ks vs (length o))
-          sorted-full w o₁ o₂ room ew e₁ e₂ =
-              let a : 4 + 4 * n + 4 * n ≡ 4 + 8 * n = omega arith in
-              let b : length ks + 4 * n ≡ 4 + 8 * n + length (payloads (name-parts (names ms))) = omega (arith, length-keys, name-bytes) in
-              let k : n ≡ length (member-parts (in-order ms)) = eu ∙ sym (ap length parts-ms) ∙ sym (in-order-count ms distinct-ms) in
-              let hw : w ≡ 2 ^ 30 + n = ew ∙ header-word ∙ ap (λ j. 2 ^ 30 + j) (ap length parts-ms ∙ sym eu) in
-              let e₂′ =
-              e₂ ∙ ap₂ (λ c d. woven (name-in ks) (value-in vs) o₁ 4 (4 + 4 * n) c d (sorted (name-in ks) (members-at ks vs from n))) a b in
-              let st = stand-sorted (name-in ks) (value-in vs) (members-at ks vs from n) ms stand in
-              let r = woven-record (name-in ks) (value-in vs) _ (in-order ms) o o₁ o₂ n _ st k (sym (in-order-names ms distinct-ms))
-              (rw (← hw) e₁) e₂′ in
-              ends _ o₂ _ distinct-ns refl (sized-full (encode (object (in-order ms))) o len (el ∙ result-length) within o₂ room r)
+        pub sorted-done : (w : ℕ) (o₁ o₂ : Bytes) → room ≡ Serves → w ≡ bitOr (2 ^ 30) n → o₁ ≡ patch o 0 (be32 w)
+            → o₂ ≡ woven (name-in ks) (value-in vs) o₁ 4 (4 + 4 * n) (4 + 4 * n + 4 * n) (length ks + 4 * n)
+            (sorted (name-in ks) (members-at ks vs from n))
+            → Ended (Done len) o o₂ (on-two build ks vs (length o))
+        sorted-done w o₁ o₂ serves ew e₁ e₂ =
+            let a : 4 + 4 * n + 4 * n ≡ 4 + 8 * n = omega arith in
+            let b : length ks + 4 * n ≡ 4 + 8 * n + length (payloads (name-parts (names ms))) = omega (arith, length-keys, name-bytes) in
+            let k : n ≡ length (member-parts (in-order ms)) = eu ∙ sym (ap length parts-ms) ∙ sym (in-order-count ms distinct-ms) in
+            let hw : w ≡ 2 ^ 30 + n = ew ∙ header-word ∙ ap (λ j. 2 ^ 30 + j) (ap length parts-ms ∙ sym eu) in
+            let e₂′ =
+            e₂ ∙ ap₂ (λ c d. woven (name-in ks) (value-in vs) o₁ 4 (4 + 4 * n) c d (sorted (name-in ks) (members-at ks vs from n))) a b in
+            let st = stand-sorted (name-in ks) (value-in vs) (members-at ks vs from n) ms stand in
+            let r = woven-record (name-in ks) (value-in vs) _ (in-order ms) o o₁ o₂ n _ st k (sym (in-order-names ms distinct-ms))
+            (rw (← hw) e₁) e₂′ in
+            ends _ o₂ _ distinct-ns refl (sized-done (encode (object (in-order ms))) o len (el ∙ result-length) room hr o₂ serves r)
 
 -- What a readable array is.
 pub array-known : (s : Bytes) (n : ℕ) → Octets s → checked (read s) ≡ Readable → header s ≡ Array n
@@ -334,9 +335,9 @@ array-known s n o c h =
 -- How much there is, in the code's terms.
 pub record Bounds (ks vs : Bytes) (n : ℕ) : Type 0 where
   pub few : n ≤ 16384
-  pub table : 4 + 4 * n ≤ length ks
+  pub keys-table : 4 + 4 * n ≤ length ks
   pub keys : length ks ≤ 65536
-  pub some : 4 + 4 * n ≤ length vs
+  pub vals-table : 4 + 4 * n ≤ length vs
   pub vals : length vs ≤ 65536
 
 module _ (ks vs : Bytes) (ok : Octets ks) (ov : Octets vs) (n : ℕ) (pairs : Pairs ks vs n) where
@@ -357,9 +358,9 @@ module _ (ks vs : Bytes) (ok : Octets ks) (ov : Octets vs) (n : ℕ) (pairs : Pa
   pairs-bounds =
       record {
         few = omega (arith, pairs-lie .0 .starts, pairs-lie .0 .short);
-        table = pairs-lie .0 .starts;
+        keys-table = pairs-lie .0 .starts;
         keys = pairs-lie .0 .short;
-        some = pairs-lie .1 .starts;
+        vals-table = pairs-lie .1 .starts;
         vals = pairs-lie .1 .short;
       }
 
@@ -376,25 +377,20 @@ module _ (ks vs : Bytes) (ok : Octets ks) (ov : Octets vs) (n : ℕ) (pairs : Pa
     pairs-rising =
         build-rising ks vs n (keys-known .0) (vals-known .0) (keys-known .1) (vals-known .1) (keys-known .2) (vals-known .2) (pairs .strings) o
 
-    module _ (dist : distinct (texts (parts-at ks 0 (4 + 4 * n) n)) ≡ true) (len : ℕ) (el : len ≡ length ks + (length vs - 4)) where
-      pub pairs-long : 65536 < len → On (Refused Result) o
-      pairs-long =
-          sorted-long ks vs n (keys-known .0) (vals-known .0) (keys-known .1) (vals-known .1) (keys-known .2) (vals-known .2) (pairs .strings) o
-          dist len el
+    module _ (dist : distinct (texts (parts-at ks 0 (4 + 4 * n) n)) ≡ true) (len : ℕ) (el : len ≡ length ks + (length vs - 4))
+        (room : Room) (hr : room ≡ room-for len (length o)) where
+      pub pairs-refused : (x : Refusal) → room ≡ NoRoom x → On (Refused x) o
+      pairs-refused =
+          sorted-refused ks vs n (keys-known .0) (vals-known .0) (keys-known .1) (vals-known .1) (keys-known .2) (vals-known .2)
+          (pairs .strings) o dist len el room hr
 
-      module _ (within : len ≤ 65536) where
-        pub pairs-short : length o < len → On (Refused Buffer) o
-        pairs-short =
-            sorted-short ks vs n (keys-known .0) (vals-known .0) (keys-known .1) (vals-known .1) (keys-known .2) (vals-known .2) (pairs .strings) o
-            dist len el within
-
-        pub pairs-full : (w : ℕ) (o₁ o₂ : Bytes) → len ≤ length o → w ≡ bitOr (2 ^ 30) n → o₁ ≡ patch o 0 (be32 w)
-            → o₂ ≡ woven (name-in ks) (value-in vs) o₁ 4 (4 + 4 * n) (4 + 4 * n + 4 * n) (length ks + 4 * n)
-            (sorted (name-in ks) (members-at ks vs (record { «key_jentry» = 4; «val_jentry» = 4; key = 4 + 4 * n; val = 4 + 4 * n }) n))
-            → On (Done len) o₂
-        pairs-full =
-            sorted-full ks vs n (keys-known .0) (vals-known .0) (keys-known .1) (vals-known .1) (keys-known .2) (vals-known .2) (pairs .strings) o
-            dist len el within
+      pub pairs-done : (w : ℕ) (o₁ o₂ : Bytes) → room ≡ Serves → w ≡ bitOr (2 ^ 30) n → o₁ ≡ patch o 0 (be32 w)
+          → o₂ ≡ woven (name-in ks) (value-in vs) o₁ 4 (4 + 4 * n) (4 + 4 * n + 4 * n) (length ks + 4 * n)
+          (sorted (name-in ks) (members-at ks vs (record { «key_jentry» = 4; «val_jentry» = 4; key = 4 + 4 * n; val = 4 + 4 * n }) n))
+          → On (Done len) o₂
+      pairs-done =
+          sorted-done ks vs n (keys-known .0) (vals-known .0) (keys-known .1) (vals-known .1) (keys-known .2) (vals-known .2)
+          (pairs .strings) o dist len el room hr
 
 -- Before the pairs are known: the numbers in their order.
 module _ (ks vs o : Bytes) (ok : Octets ks) (ov : Octets vs) (c : Check) (hc : c ≡ checked (read ks)) where

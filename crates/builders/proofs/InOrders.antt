@@ -288,7 +288,7 @@ module _ (n : Bytes) (t : Tree) (ms : Members) (d : distinct (n ∷ names ms) �
       ⊎-elim (λ j. has-not n (names ms) (distinct-cons n (names ms) d .0) j) (λ j. absurd j) (all-names ms empty n i)
 
 -- A sum over the members.
-abbrev pub weigh : (Bytes → Tree → ℕ) → Members → ℕ
+abbrev weigh : (Bytes → Tree → ℕ) → Members → ℕ
 weigh f empty = 0
 weigh f (member n t ms) = f n t + weigh f ms
 
@@ -298,7 +298,7 @@ weigh-insert f n t (member m u ms) h =
     by-order n m (λ (a : Members). weigh f a ≡ f n t + weigh f (member m u ms)) _ _ _
     (λ _. refl) (λ e. absurd (h (inl e))) (λ _. omega (arith, weigh-insert f n t ms (λ i. h (inr i))))
 
-pub weigh-in-order : (f : Bytes → Tree → ℕ) (ms : Members) → distinct (names ms) ≡ true → weigh f (in-order ms) ≡ weigh f ms
+weigh-in-order : (f : Bytes → Tree → ℕ) (ms : Members) → distinct (names ms) ≡ true → weigh f (in-order ms) ≡ weigh f ms
 weigh-in-order f empty d = refl
 weigh-in-order f (member n t ms) d =
     ap (weigh f) (in-order-member n t ms d)

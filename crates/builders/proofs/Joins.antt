@@ -5,25 +5,19 @@ use mathlib.Core.Path.{_≡_, refl, ap, sym, _∙_}
 use mathlib.Core.List.{List, [], _∷_, _++_, append-assoc, append-nil}
 use lib.ListN.{length, take, drop, length-append, length-drop}
 use lib.Seq.{take-all, length-take-le, take-append-seam, drop-append-seam, drop-drop}
-use borrow.Author.Tests.{lt-ltb, le-ltb}
 use Rattle.layout.specs.Bytes.{Bytes, be32}
 use Rattle.layout.specs.Entry.{entry-of}
 use Rattle.layout.specs.Tree.{Tree, null, boolean, number, string, extension, array, object, Items, none, item}
 use Rattle.layout.specs.Encode.{Part, entries, payloads, item-parts, part, encode, record-of}
 use Rattle.layout.specs.Patch.{patch}
-use Rattle.layout.specs.Read.{header}
-use Rattle.layout.specs.Ended.{Ended}
-use Rattle.layout.specs.declared.ending.Ending.the-variants.{Done, Refused}
-use Rattle.layout.specs.declared.refusal.Refusal.the-variants.{Result, Buffer}
 use Rattle.layout.specs.declared.util.Header.{Header}
 use Rattle.layout.specs.declared.util.Header.the-variants.{Array, Object, Scalar, Refused as NoHeader}
 use Rattle.layout.proofs.Words.{length-be32, drop-be32}
 use Rattle.layout.proofs.Level.{entries-length}
 use Rattle.layout.proofs.Decoding.{payloads-append}
-use Rattle.layout.proofs.Patches.{ended-short, ended-full}
 use Rattle.layout.proofs.Nestings.{head-of}
 use Rattle.builders.specs.Build.{join}
-use Rattle.builders.specs.Join.{given-count, given-entries, given-start, Lies, as-one, joined, joined-length, sized}
+use Rattle.builders.specs.Join.{given-count, given-entries, given-start, Lies, as-one, joined, joined-length}
 use Rattle.builders.specs.declared.join.Given.{Given}
 use Rattle.builders.specs.declared.join.Given.the-variants.{Table, Whole}
 use Rattle.builders.proofs.Weaves.{patch-then, entries-append}
@@ -133,21 +127,6 @@ module _ (s : Bytes) (g : Given) (r : Bytes) (h : Given) (ls : Lies s g) (lr : L
       regroup : (a b c d e : Bytes) → ((((a ++ b) ++ c) ++ d) ++ e) ≡ a ++ ((b ++ c) ++ (d ++ e))
       regroup a b c d e =
           append-assoc ((a ++ b) ++ c) d e ∙ ap (λ x. x ++ (d ++ e)) (append-assoc a b c) ∙ append-assoc a (b ++ c) (d ++ e)
-
--- 9 by the length, then 10, then the result.
-module _ (b o : Bytes) (n : ℕ) (e : n ≡ length b) where
-  pub sized-long : 65536 < n → Ended (Refused Result) o o (sized (length o) b)
-  unfolding sized
-  sized-long h = rw (lt-ltb 65536 (length b) (omega arith)) (record { answer = refl; bytes = refl })
-
-  module _ (l : n ≤ 65536) where
-    pub sized-short : length o < n → Ended (Refused Buffer) o o (sized (length o) b)
-    unfolding sized
-    sized-short h = rw (le-ltb 65536 (length b) (omega arith)) (ended-short b o (omega arith))
-
-    pub sized-full : (o′ : Bytes) → n ≤ length o → o′ ≡ patch o 0 b → Ended (Done n) o o′ (sized (length o) b)
-    unfolding sized
-    sized-full o′ h p = rw (le-ltb 65536 (length b) (omega arith)) (ended-full b o o′ n (omega arith) e p)
 
 -- What is given are the parts of these items.
 pub record Gives (s : Bytes) (g : Given) (ts : Items) : Type 0 where

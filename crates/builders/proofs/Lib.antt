@@ -7,9 +7,10 @@ pub mod Weaves
 pub mod Steps
 pub mod Naming
 pub mod Storing
+pub mod Rooms
 pub mod Joins
 pub mod Twos
-pub mod Sides
+pub mod Knowns
 pub mod Appends
 pub mod Builds
 pub mod Results

@@ -27,7 +27,7 @@ by-order {A} a b P x y z f g h = go (order a b) (says a b)
     go Equal s = g s
     go Greater s = h s
 
-pub less-says : (a b : Bytes) → order a b ≡ Less → a ≺ b
+less-says : (a b : Bytes) → order a b ≡ Less → a ≺ b
 less-says a b e = subst (Says a b) e (says a b)
 
 pub order-equal : (a b : Bytes) → order a b ≡ Equal → a ≡ b

@@ -27,7 +27,7 @@ use Rattle.builders.specs.Build.{items-of, text-of, texts-of, count, joi
 use Rattle.builders.proofs.InOrders.{in-order-rising, in-order-valid, in-order-sound, in-order-same}
 use Rattle.builders.proofs.Builds.{count-parts}
 
--- An edit that keeps texts and numbers as they may be.
+-- An edit that gives a valid tree of valid trees.
 abbrev pub Keeps : (Tree → Tree → Answer Tree) → Type 0
 Keeps edit = (t u v : Tree) → Valid t → Valid u → edit t u ≡ gives v → Valid v
 
@@ -54,10 +54,10 @@ written-result room (gives v) b e = go (ltb room (length (encode v))) (nltb→le
     go true h q = let z : _≡_ {A = ℕ} 0 1 = cc in let w : ⊥ = omega arith in absurd w
     go false h q = let f : b ≡ encode v = cc in (v, refl, f, rw f (h tt))
 
-two-is : (edit : Tree → Tree → Answer Tree) (l r : Bytes) (room : ℕ)
+on-two-is : (edit : Tree → Tree → Answer Tree) (l r : Bytes) (room : ℕ)
     → on-two edit l r room ≡ written room (read l >>= λ t. read r >>= λ u. edit t u >>= λ v. within v)
 unfolding on-two
-two-is edit l r room = refl
+on-two-is edit l r room = refl
 
 within-is : (v : Tree) → within v ≡ (require (leb (record-length v) 65536 && leb (depth v) 64) Result >>= λ _. gives v)
 unfolding within
@@ -70,7 +70,7 @@ both-true false b h = absurd h
 pub result-made : (edit : Tree → Tree → Answer Tree) → Keeps edit → (l r b : Bytes) (room : ℕ) → Octets l → Octets r
     → on-two edit l r room ≡ result b → Made edit l r b room
 result-made edit keeps l r b room ol or e =
-    let w = written-result room _ b (sym (two-is edit l r room) ∙ e) in
+    let w = written-result room _ b (sym (on-two-is edit l r room) ∙ e) in
     from-bind (w .1) λ t ht e₁. from-bind e₁ λ u hu e₂. from-bind e₂ λ v hv e₃.
     from-require _ _ _ (sym (within-is v) ∙ e₃) λ test e₄.
     let same : v ≡ w .0 = gives-inj e₄ in
@@ -99,19 +99,19 @@ join-sound : (ts us : Items) → SoundItems ts → SoundItems us → SoundItems 
 join-sound none us s r = r
 join-sound (item t ts) us s r = (s .0, join-sound ts us (s .1) r)
 
-an-array : (t : Tree) (ts : Items) → items-of t ≡ gives ts → t ≡ array ts
-an-array null ts e = refused-gives e
-an-array (boolean x) ts e = refused-gives e
-an-array (number b) ts e = refused-gives e
-an-array (string b) ts e = refused-gives e
-an-array (extension b) ts e = refused-gives e
-an-array (array us) ts e = ap array (gives-inj e)
-an-array (object ms) ts e = refused-gives e
+items-array : (t : Tree) (ts : Items) → items-of t ≡ gives ts → t ≡ array ts
+items-array null ts e = refused-gives e
+items-array (boolean x) ts e = refused-gives e
+items-array (number b) ts e = refused-gives e
+items-array (string b) ts e = refused-gives e
+items-array (extension b) ts e = refused-gives e
+items-array (array us) ts e = ap array (gives-inj e)
+items-array (object ms) ts e = refused-gives e
 
 -- The array's items, then the other's tree as one more.
 pub append-items : (t u v : Tree) → append t u ≡ gives v → (ts : Items) × (t ≡ array ts) × (v ≡ array (join ts (item u none)))
 unfolding append
-append-items t u v e = from-bind e λ ts ht e₁. (ts, an-array t ts ht, sym (gives-inj e₁))
+append-items t u v e = from-bind e λ ts ht e₁. (ts, items-array t ts ht, sym (gives-inj e₁))
 
 pub append-keeps : Keeps append
 append-keeps t u v vt vu e =
@@ -145,8 +145,8 @@ build-is t u v e =
       items = ts;
       values = us;
       texts = ns;
-      left = an-array t ts ht;
-      right = an-array u us hu;
+      left = items-array t ts ht;
+      right = items-array u us hu;
       strings = hn;
       apart = is-true (distinct ns) d;
       as-many = eqb→eq (count ts) (count us) c;
@@ -157,21 +157,21 @@ build-is t u v e =
     is-true true h = refl
     is-true false h = absurd h
 
-text-valid : (t : Tree) (n : Bytes) → text-of t ≡ gives n → Valid t → T (utf8 n)
-text-valid null n e v = refused-gives e
-text-valid (boolean x) n e v = refused-gives e
-text-valid (number b) n e v = refused-gives e
-text-valid (string b) n e v = rw (← gives-inj {x = b} e) v
-text-valid (extension b) n e v = refused-gives e
-text-valid (array ts) n e v = refused-gives e
-text-valid (object ms) n e v = refused-gives e
+name-valid : (t : Tree) (n : Bytes) → text-of t ≡ gives n → Valid t → T (utf8 n)
+name-valid null n e v = refused-gives e
+name-valid (boolean x) n e v = refused-gives e
+name-valid (number b) n e v = refused-gives e
+name-valid (string b) n e v = rw (← gives-inj {x = b} e) v
+name-valid (extension b) n e v = refused-gives e
+name-valid (array ts) n e v = refused-gives e
+name-valid (object ms) n e v = refused-gives e
 
 pair-valid : (ts us : Items) (ns : List Bytes) → texts-of ts ≡ gives ns → ValidItems ts → ValidItems us → ValidMembers (pair ns us)
 pair-valid none us ns e v w = rw (← gives-inj {x = []} e) tt
 pair-valid (item t ts) none ns e v w = from-bind e λ n hn e₁. from-bind e₁ λ ms hm e₂. rw (← gives-inj {x = n ∷ ms} e₂) tt
 pair-valid (item t ts) (item u us) ns e v w =
     from-bind e λ n hn e₁. from-bind e₁ λ ms hm e₂.
-    rw (← gives-inj {x = n ∷ ms} e₂) (text-valid t n hn (v .0), w .0, pair-valid ts us ms hm (v .1) (w .1))
+    rw (← gives-inj {x = n ∷ ms} e₂) (name-valid t n hn (v .0), w .0, pair-valid ts us ms hm (v .1) (w .1))
 
 pair-sound : (ns : List Bytes) (us : Items) → SoundItems us → SoundMembers (pair ns us)
 pair-sound [] us s = tt

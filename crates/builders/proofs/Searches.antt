@@ -4,8 +4,8 @@ use native.Mathlib.Nat.{le-of-suc-le-suc, not-suc-le-zero}
 use native.Mathlib.Omega.{arith}
 use mathlib.Core.Path.{_≡_, refl, sym, ap, _∙_}
 use mathlib.Core.Bool.{Bool, true, false, cond}
-use mathlib.Core.List.{List, [], _∷_, _++_}
-use lib.ListN.{length, take, drop}
+use mathlib.Core.List.{List, [], _∷_}
+use lib.ListN.{length, drop}
 use Rattle.layout.specs.Bytes.{Bytes, word-at}
 use Rattle.layout.specs.Entry.{length-of}
 use Rattle.layout.specs.Order.{order, is-less, before}
@@ -211,11 +211,11 @@ nth-none (b ∷ ms) (suc k) e = suc-le-suc (nth-none ms k e)
 one-zero : _≡_ {A = ℕ} 0 1 → ⊥
 one-zero z = omega arith
 
-pub nth-at : (ms : List MemberAt) (k : ℕ) (m : MemberAt) → nth ms k ≡ At m → (k < length ms) × (take (suc k) ms ≡ take k ms ++ (m ∷ []))
+pub nth-inside : (ms : List MemberAt) (k : ℕ) (m : MemberAt) → nth ms k ≡ At m → k < length ms
 unfolding nth
-nth-at [] k m e = let z : _≡_ {A = ℕ} 0 1 = cc in absurd (one-zero z)
-nth-at (b ∷ ms) zero m e = let q : b ≡ m = cc in (suc-le-suc zero-le, rw q)
-nth-at (b ∷ ms) (suc k) m e = let h = nth-at ms k m e in (suc-le-suc (h .0), ap (λ (r : List MemberAt). b ∷ r) (h .1))
+nth-inside [] k m e = let z : _≡_ {A = ℕ} 0 1 = cc in let w : ⊥ = omega arith in absurd w
+nth-inside (b ∷ bs) zero m e = suc-le-suc zero-le
+nth-inside (b ∷ bs) (suc k) m e = suc-le-suc (nth-inside bs k m e)
 
 pub nth-drop : (ms : List MemberAt) (k : ℕ) (m : MemberAt) → nth ms k ≡ At m → drop k ms ≡ m ∷ drop (suc k) ms
 unfolding nth

@@ -1,5 +1,5 @@
 -- Members by their places that stand for members of a tree: in order they still do, and their columns are the object's parts.
-use Prim.Native.Nat.{ℕ, suc, _+_}
+use Prim.Native.Nat.{ℕ, _+_}
 use native.Mathlib.Omega.{arith}
 use mathlib.Core.Path.{_≡_, refl, ap, ap₂, sym, _∙_}
 use mathlib.Core.List.{List, [], _∷_, _++_, append-assoc}
@@ -89,12 +89,6 @@ module _ (name value : MemberAt → Bytes) where
   stand-values [] (member n t ms) h = absurd h
   stand-values (x ∷ xs) empty h = absurd h
   stand-values (x ∷ xs) (member n t ms) h = ap₂ _++_ (h .0 .3) (stand-values xs ms (h .1))
-
-  pub stand-length : (xs : List MemberAt) (ms : Members) → Stand xs ms → length xs ≡ length (member-parts ms)
-  stand-length [] empty h = refl
-  stand-length [] (member n t ms) h = absurd h
-  stand-length (x ∷ xs) empty h = absurd h
-  stand-length (x ∷ xs) (member n t ms) h = ap suc (stand-length xs ms (h .1))
 
 -- A table row: an entry and its payload, with those of other parts behind them.
 table-row : (s : Bytes) (a p : ℕ) (e : Part) (ps : List Part) (x y : Bytes) → Fits e

@@ -19,7 +19,7 @@ use Rattle.builders.specs.declared.search.MemberAt.{MemberAt}
 use Rattle.builders.specs.declared.search.Places.{Places}
 use Rattle.builders.specs.declared.search.Found.{Found}
 use Rattle.builders.specs.declared.search.Found.the-variants.{Nothing, At}
-use Rattle.builders.proofs.Searches.{bound-at, bound-next, search-nth, length-sorted, length-members, nth-none, nth-at, nth-drop}
+use Rattle.builders.proofs.Searches.{bound-at, bound-next, search-nth, length-sorted, length-members, nth-none, nth-inside, nth-drop}
 
 -- A payload is no longer than an entry can say.
 pub payload-short : (s r : Bytes) (x : ItemAt) → r ≡ bytes-at s x → length r < 2 ^ 28
@@ -106,7 +106,7 @@ module _ (ks vs : Bytes) (from : Places) (n : ℕ) (o : Bytes) (to : Places) whe
           let ln = payload-short ks (name-in ks m) (m .key) refl in
           let lv = payload-short vs (value-in vs m) (m .val) refl in
           record {
-            count = omega (arith, (nth-at in-turn i m here) .0);
+            count = omega (arith, nth-inside in-turn i m here);
             known = rw (later, add-one i, hn) (sym (bound-next (name-in ks) in-turn i m here));
             near-key-jentry = rw (h .0) (omega (arith, now .near-key-jentry));
             near-val-jentry = rw (h .0) (omega (arith, now .near-val-jentry));

@@ -1,4 +1,4 @@
--- An edit of two records, number by number: document 01's order is the order of these laws.
+-- An edit of two records, step by step: document 01's order of numbers is the order of these laws.
 use Prim.Native.Nat.{ℕ, _<_, _≤_}
 use native.Mathlib.Omega.{arith}
 use native.Mathlib.Decide.{decLe}
@@ -20,7 +20,7 @@ use Rattle.layout.specs.declared.ending.Ending.{Ending}
 use Rattle.layout.specs.declared.ending.Ending.the-variants.{Refused}
 use Rattle.layout.proofs.Readables.{length-encode}
 use Rattle.builders.specs.Build.{within, written, on-two}
-use Rattle.builders.specs.Join.{sized}
+use Rattle.builders.specs.Room.{sized}
 
 -- A refusal leaves the buffer.
 refuses : (o : Bytes) (p : Outcome) (x : Refusal) → p ≡ refusal x → Ended (Refused x) o o p
@@ -35,7 +35,7 @@ within-deep v h = rw (lt-leb (depth v) 64 h, and-false (leb (record-length v) 65
     and-false false = refl
 
 -- A result within the depth is refused by its length alone.
-written-sized : (v : Tree) (b : Bytes) (room : ℕ) → depth v ≤ 64 → b ≡ encode v → written room (within v) ≡ sized room b
+pub written-sized : (v : Tree) (b : Bytes) (room : ℕ) → depth v ≤ 64 → b ≡ encode v → written room (within v) ≡ sized room b
 unfolding within sized _>>=_ require
 written-sized v b room d e =
     let n : length b ≡ record-length v = ap length e ∙ length-encode v in

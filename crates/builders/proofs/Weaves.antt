@@ -23,14 +23,14 @@ patch-then o o₁ o₂ at p a b e₁ e₂ e₃ = rw (e₂, e₁, e₃) (patch-ap
 
 -- Of two, three or four regions in a row, the first grows at its end.
 module _ (o : Bytes) (p : ℕ) (u t : Bytes) (q : ℕ) (v : Bytes) where
-  pub slip : p + length u + length t ≤ q → patch (patch (patch o p u) q v) (p + length u) t ≡ patch (patch o p (u ++ t)) q v
+  slip : p + length u + length t ≤ q → patch (patch (patch o p u) q v) (p + length u) t ≡ patch (patch o p (u ++ t)) q v
   slip h = patch-comm (patch o p u) (p + length u) q t v h ∙ ap (λ (l : Bytes). patch l q v) (patch-append o p u t)
 
-  pub slip₂ : (r : ℕ) (w : Bytes) → p + length u + length t ≤ q → p + length u + length t ≤ r
+  slip₂ : (r : ℕ) (w : Bytes) → p + length u + length t ≤ q → p + length u + length t ≤ r
       → patch (patch (patch (patch o p u) q v) r w) (p + length u) t ≡ patch (patch (patch o p (u ++ t)) q v) r w
   slip₂ r w h k = patch-comm (patch (patch o p u) q v) (p + length u) r t w k ∙ ap (λ (l : Bytes). patch l r w) (slip h)
 
-  pub slip₃ : (r : ℕ) (w : Bytes) (m : ℕ) (x : Bytes) → p + length u + length t ≤ q → p + length u + length t ≤ r → p + length u + length t ≤ m
+  slip₃ : (r : ℕ) (w : Bytes) (m : ℕ) (x : Bytes) → p + length u + length t ≤ q → p + length u + length t ≤ r → p + length u + length t ≤ m
       → patch (patch (patch (patch (patch o p u) q v) r w) m x) (p + length u) t ≡ patch (patch (patch (patch o p (u ++ t)) q v) r w) m x
   slip₃ r w m x h k j = patch-comm (patch (patch (patch o p u) q v) r w) (p + length u) m t x j ∙ ap (λ (l : Bytes). patch l m x) (slip₂ r w h k)
 
@@ -53,15 +53,15 @@ module _ (o : Bytes) (a b c d : ℕ) (x xs y ys z zs w ws : Bytes) where
       ∙ ap (λ (r : Bytes). patch r (d + length w) ws) (slip b₁ c z zs d w l₁)
       ∙ patch-append (patch b₁ c (z ++ zs)) d w ws
 
-abbrev pub key-entry : MemberAt → Bytes
+abbrev key-entry : MemberAt → Bytes
 key-entry m = be32 (m .key .jentry)
 
-abbrev pub val-entry : MemberAt → Bytes
+abbrev val-entry : MemberAt → Bytes
 val-entry m = be32 (m .val .jentry)
 
 module _ (name value : MemberAt → Bytes) where
   -- Where the regions do not overlap, the loop stores the four columns.
-  pub woven-is : (o : Bytes) (a b c d : ℕ) (ms : List MemberAt)
+  woven-is : (o : Bytes) (a b c d : ℕ) (ms : List MemberAt)
       → a + length (column key-entry ms) ≤ b → b + length (column val-entry ms) ≤ c → c + length (column name ms) ≤ d
       → woven name value o a b c d ms
       ≡ patch (patch (patch (patch o a (column key-entry ms)) b (column val-entry ms)) c (column name ms)) d (column value ms)

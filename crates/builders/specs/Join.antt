@@ -1,14 +1,11 @@
 -- Two records written as one container: the header, the entries that each gives, the payloads that each gives. A record gives the
--- items of its table, of which a scalar has one, or itself whole as one item.
+-- items of its table, of which a scalar has one, or itself whole as one item. That this is an array's record is `joined-encode` of
+-- proofs/Joins.antt, and that it is an object's `joined-object` of proofs/Builds.antt.
 use Prim.Native.Nat.{ℕ, _+_, _*_, _-_, _≤_}
-use mathlib.Core.Bool.{cond}
 use mathlib.Core.List.{_++_}
-use lib.Dec.{ltb}
 use lib.ListN.{length, take, drop}
 use Rattle.layout.specs.Bytes.{Bytes, be32}
 use Rattle.layout.specs.Entry.{entry-of}
-use Rattle.layout.specs.Ended.{Outcome, refusal, into}
-use Rattle.layout.specs.declared.refusal.Refusal.the-variants.{Result}
 use Rattle.layout.specs.declared.util.Header.{Header}
 use Rattle.layout.specs.declared.util.Header.the-variants.{Array, Object, Scalar, Refused}
 use Rattle.builders.specs.declared.join.Given.{Given}
@@ -47,7 +44,3 @@ joined w s g r h =
 unfoldable pub joined-length : Bytes → Given → Bytes → Given → ℕ
 joined-length s g r h =
     4 + 4 * (given-count g + given-count h) + ((length s - given-start g) + (length r - given-start h))
-
--- 9 by the length, then 10.
-unfoldable pub sized : ℕ → Bytes → Outcome
-sized room b = cond (ltb 65536 (length b)) (refusal Result) (into room b)

@@ -4,6 +4,7 @@
 pub mod Order
 pub mod Build
 -- Forms that follow the code, for the contracts inside the crate; theorems of proofs/ tie each to the definitions above.
+pub mod Room
 pub mod Join
 pub mod Search
 pub mod Weave

@@ -33,7 +33,7 @@ strings-at s i (suc k) = eqb (code-of (entry-at s i)) 1 && strings-at s (i + 1) 
 
 -- The payload of an item.
 abbrev pub bytes-at : Bytes → ItemAt → Bytes
-bytes-at s x = take (length-of (x .jentry)) (drop (x .offset) s)
+bytes-at s x = take (length-of (x .jentry)) (drop (x .place) s)
 
 -- A member's name, which it is ordered by, and its value.
 abbrev pub name-in : Bytes → MemberAt → Bytes
@@ -46,7 +46,7 @@ value-in vals m = bytes-at vals (m .val)
 -- are in `ks`, values in `vs`.
 abbrev pub member-at : Bytes → Bytes → ℕ → ℕ → ℕ → ℕ → MemberAt
 member-at ks vs a b p q =
-    record { key = record { jentry = word-at ks a; offset = p }; val = record { jentry = word-at vs b; offset = q } }
+    record { key = record { jentry = word-at ks a; place = p }; val = record { jentry = word-at vs b; place = q } }
 
 unfoldable pub members-from : Bytes → Bytes → ℕ → ℕ → ℕ → ℕ → ℕ → List MemberAt
 members-from ks vs a b p q zero = []

@@ -4,6 +4,8 @@ use crate::join::as_item;
 use crate::join::write_joined;
 use crate::names::are_strings;
 use crate::names::is_distinct;
+use crate::room::Room;
+use crate::room::check_room;
 use crate::search::Places;
 use crate::search::put_members;
 use layout::check::Check;
@@ -14,7 +16,6 @@ use layout::constants::ARRAY_CONTAINER_TAG;
 use layout::constants::HEADER_SIZE;
 use layout::constants::JENTRY_SIZE;
 use layout::constants::OBJECT_CONTAINER_TAG;
-use layout::constants::RECORD_LIMIT;
 use layout::ending::Ending;
 use layout::refusal::Refusal;
 use layout::sound::is_rising;
@@ -53,18 +54,16 @@ pub fn append(array: &[u8], item: &[u8], out: &mut [u8]) -> Ending
     write_joined(header, array, Given::Table(n), item, as_item(item), out)
 }
 
-// Stores an object of n members, whose names do not rise, in byte order of the names.
+// Stores the object of n members with distinct names, in byte order of the names, where there is room for it. It is as long as both
+// records less one header.
 fn write_sorted(names: &[u8], values: &[u8], n: usize, out: &mut [u8]) -> Ending
     requires { ⌜ Pairs (now names) (now values) n × (distinct (texts (partsAt (now names) 0 (4 + 4 * n) n)) ≡ true) ⌝ }
     ensures { λ e. ⌜ Ended e (now (out .entry)) (now (out .exit))
         (onTwo build (now (names .entry)) (now (values .entry)) (length (now (out .entry)))) ⌝ }
 {
     let len = names.len() + (values.len() - HEADER_SIZE);
-    if RECORD_LIMIT < len {
-        return Ending::Refused(Refusal::Result);
-    }
-    if out.len() < len {
-        return Ending::Refused(Refusal::Buffer);
+    if let Room::Refused(refusal) = check_room(len, out.len()) {
+        return Ending::Refused(refusal);
     }
     let start = HEADER_SIZE + JENTRY_SIZE * n;
     let from = Places {

@@ -1,11 +1,11 @@
 // Two records written as one container: the header, the entries that each gives, the payloads that each gives.
+use crate::room::Room;
+use crate::room::check_room;
 use layout::constants::CONTAINER_CODE;
 use layout::constants::HEADER_SIZE;
 use layout::constants::JENTRY_SIZE;
-use layout::constants::RECORD_LIMIT;
 use layout::ending::Ending;
 use layout::jentry::encoded;
-use layout::refusal::Refusal;
 use layout::util::Header;
 use layout::util::read_header;
 use layout::util::slice;
@@ -18,7 +18,8 @@ ghost use Rattle.layout.specs.Read.{header};
 ghost use Rattle.layout.specs.Patch.{patch};
 ghost use Rattle.layout.specs.Ended.{Ended};
 ghost use Rattle.builders.specs.Join.{«given-count» as givenCount, «given-entries» as givenEntries, «given-start» as givenStart};
-ghost use Rattle.builders.specs.Join.{«as-one» as asOne, Lies, joined, «joined-length» as joinedLength, sized};
+ghost use Rattle.builders.specs.Join.{«as-one» as asOne, Lies, joined, «joined-length» as joinedLength};
+ghost use Rattle.builders.specs.Room.{sized};
 
 // What a record gives to an array: the items of its table, of which a scalar record has one, or itself whole as one item.
 pub enum Given {
@@ -108,11 +109,8 @@ pub(crate) fn write_joined(
         (sized (length (now (out .entry))) (joined header (now (left .entry)) l (now (right .entry)) r)) ⌝ }
 {
     let len = joined_len(left, l, right, r);
-    if RECORD_LIMIT < len {
-        return Ending::Refused(Refusal::Result);
-    }
-    if out.len() < len {
-        return Ending::Refused(Refusal::Buffer);
+    if let Room::Refused(refusal) = check_room(len, out.len()) {
+        return Ending::Refused(refusal);
     }
     put_joined(header, left, l, right, r, out);
     Ending::Done(len)

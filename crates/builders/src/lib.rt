@@ -2,4 +2,5 @@
 pub mod builder;
 pub mod join;
 pub mod names;
+pub mod room;
 pub mod search;

@@ -16,7 +16,7 @@ ghost use Rattle.builders.specs.Weave.{behind, stored, woven};
 // An item as it stands in a record: its entry, and the place of its payload.
 pub struct ItemAt {
     pub jentry: u32,
-    pub offset: usize,
+    pub place: usize,
 }
 
 pub struct MemberAt {
@@ -41,7 +41,7 @@ pub enum Found {
 pub(crate) fn payload_at(s: &[u8], item: ItemAt) -> &[u8]
     ensures { λ r. ⌜ now r ≡ bytesAt (now (s .entry)) item ⌝ }
 {
-    slice(s, item.offset, payload_len(item.jentry) as usize)
+    slice(s, item.place, payload_len(item.jentry) as usize)
 }
 
 // The member at these places.
@@ -51,11 +51,11 @@ fn read_member(keys: &[u8], vals: &[u8], at: Places) -> MemberAt
     MemberAt {
         key: ItemAt {
             jentry: read_u32(keys, at.key_jentry),
-            offset: at.key,
+            place: at.key,
         },
         val: ItemAt {
             jentry: read_u32(vals, at.val_jentry),
-            offset: at.val,
+            place: at.val,
         },
     }
 }

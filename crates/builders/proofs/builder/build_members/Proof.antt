@@ -8,16 +8,16 @@ use Rattle.builders.proofs.builder.build_members.Statement.{statement}
 use Rattle.builders.proofs.builder.build_members.Tie as tie
 
 mul-start : tie.Need-mul-start
-mul-start c = let b = pairs-bounds (c .before .before .before .args .names .now) (c .before .before .before .args .values .now) (octets-of (c .before .before .before .args .names .now) (λ i. omega (arith, c .before .before .shared-slice-known .given i))) (octets-of (c .before .before .before .args .values .now) (λ i. omega (arith, c .before .shared-slice-known2 .given i))) _ (c .before .before .before .pre) in omega (arith, b .few, b .table, b .keys, b .some, b .vals)
+mul-start c = let b = pairs-bounds (c .before .before .before .args .names .now) (c .before .before .before .args .values .now) (octets-of (c .before .before .before .args .names .now) (λ i. omega (arith, c .before .before .shared-slice-known .given i))) (octets-of (c .before .before .before .args .values .now) (λ i. omega (arith, c .before .shared-slice-known2 .given i))) _ (c .before .before .before .pre) in omega (arith, b .few, b .keys-table, b .keys, b .vals-table, b .vals)
 
 add-start : tie.Need-add-start
-add-start c = let b = pairs-bounds (c .before .before .before .args .names .now) (c .before .before .before .args .values .now) (octets-of (c .before .before .before .args .names .now) (λ i. omega (arith, c .before .before .shared-slice-known .given i))) (octets-of (c .before .before .before .args .values .now) (λ i. omega (arith, c .before .shared-slice-known2 .given i))) _ (c .before .before .before .pre) in omega (arith, b .few, b .table, b .keys, b .some, b .vals)
+add-start c = let b = pairs-bounds (c .before .before .before .args .names .now) (c .before .before .before .args .values .now) (octets-of (c .before .before .before .args .names .now) (λ i. omega (arith, c .before .before .shared-slice-known .given i))) (octets-of (c .before .before .before .args .values .now) (λ i. omega (arith, c .before .shared-slice-known2 .given i))) _ (c .before .before .before .pre) in omega (arith, b .few, b .keys-table, b .keys, b .vals-table, b .vals)
 
 is-rising-requires : tie.Need-is-rising-requires
 is-rising-requires c κs = let b = pairs-bounds (c .before .before .before .args .names .now) (c .before .before .before .args .values .now) (octets-of (c .before .before .before .args .names .now) (λ i. omega (arith, c .before .before .shared-slice-known .given i))) (octets-of (c .before .before .before .args .values .now) (λ i. omega (arith, c .before .shared-slice-known2 .given i))) _ (c .before .before .before .pre) in (omega (arith, b .few), omega (arith, b .few))
 
 cast-header : tie.Need-cast-header
-cast-header c = let b = pairs-bounds (c .before .before .before .before .before .args .names .now) (c .before .before .before .before .before .args .values .now) (octets-of (c .before .before .before .before .before .args .names .now) (λ i. omega (arith, c .before .before .before .before .shared-slice-known .given i))) (octets-of (c .before .before .before .before .before .args .values .now) (λ i. omega (arith, c .before .before .before .shared-slice-known2 .given i))) _ (c .before .before .before .before .before .pre) in omega (arith, b .few, b .table, b .keys, b .some, b .vals)
+cast-header c = let b = pairs-bounds (c .before .before .before .before .before .args .names .now) (c .before .before .before .before .before .args .values .now) (octets-of (c .before .before .before .before .before .args .names .now) (λ i. omega (arith, c .before .before .before .before .shared-slice-known .given i))) (octets-of (c .before .before .before .before .before .args .values .now) (λ i. omega (arith, c .before .before .before .shared-slice-known2 .given i))) _ (c .before .before .before .before .before .pre) in omega (arith, b .few, b .keys-table, b .keys, b .vals-table, b .vals)
 
 write-joined-requires : tie.Need-write-joined-requires
 write-joined-requires c κs = pairs-lie (c .before .before .before .before .before .before .args .names .now) (c .before .before .before .before .before .before .args .values .now) (octets-of (c .before .before .before .before .before .before .args .names .now) (λ i. omega (arith, c .before .before .before .before .before .shared-slice-known .given i))) (octets-of (c .before .before .before .before .before .before .args .values .now) (λ i. omega (arith, c .before .before .before .before .shared-slice-known2 .given i))) _ (c .before .before .before .before .before .before .pre)
