@@ -1,12 +1,14 @@
 -- Cases of append and object build worked out: what document 01 says of them, and the order of their numbers.
-use Prim.Native.Nat.{ℕ, _+_}
+use Prim.Native.Nat.{ℕ, zero, suc, _+_}
 use mathlib.Core.Path.{_≡_, refl}
 use mathlib.Core.List.{[], _∷_, _++_}
 use lib.ListN.{replicate}
 use Rattle.layout.specs.Bytes.{Bytes, be32}
+use Rattle.layout.specs.Tree.{Tree, array, none, item}
+use Rattle.layout.specs.Encode.{encode}
 use Rattle.layout.specs.Ended.{result, refusal}
 use Rattle.layout.specs.Order.{order}
-use Rattle.layout.specs.declared.refusal.Refusal.the-variants.{Short, Layout, Kind, Repeated, Result, Buffer}
+use Rattle.layout.specs.declared.refusal.Refusal.the-variants.{Short, Layout, Limit, Kind, Repeated, Result, Buffer}
 use Rattle.builders.specs.Order.{same, has, distinct}
 use Rattle.builders.specs.Build.{append, build, on-two}
 
@@ -27,6 +29,19 @@ scalar-in = refl
 container-in : on-two append empty-array empty-array 12 ≡ result (0x80 ∷ 0 ∷ 0 ∷ 1 ∷ 0x50 ∷ 0 ∷ 0 ∷ 4 ∷ 0x80 ∷ 0 ∷ 0 ∷ 0 ∷ [])
 unfolding on-two be32
 container-in = refl
+
+-- What goes in is copied, an object with a repeated name too.
+abbrev twice-a : Bytes
+twice-a = 0x40 ∷ 0 ∷ 0 ∷ 2 ∷ 0x10 ∷ 0 ∷ 0 ∷ 1 ∷ 0x10 ∷ 0 ∷ 0 ∷ 1 ∷ 0 ∷ 0 ∷ 0 ∷ 0 ∷ 0x40 ∷ 0 ∷ 0 ∷ 0 ∷ 0x61 ∷ 0x61 ∷ []
+
+unsound-in : on-two append empty-array twice-a 30 ≡ result (0x80 ∷ 0 ∷ 0 ∷ 1 ∷ 0x50 ∷ 0 ∷ 0 ∷ 22 ∷ twice-a)
+unfolding on-two be32
+unsound-in = refl
+
+-- But a scalar record inside it is refused: "Letting a nested scalar record through" is a trap.
+nested-scalar : on-two append empty-array (0x80 ∷ 0 ∷ 0 ∷ 1 ∷ 0x50 ∷ 0 ∷ 0 ∷ 8 ∷ root-null) 100 ≡ refusal Layout
+unfolding on-two
+nested-scalar = refl
 
 -- "A buffer of exactly the result's length serves; one byte less: 10."
 byte-less : on-two append empty-array root-null 7 ≡ refusal Buffer
@@ -58,6 +73,23 @@ too-long : on-two append nulls (extended 65525) 0 ≡ refusal Result
 unfolding on-two be32
 too-long = refl
 
+-- "Deeper than 64": an array of 63 levels goes in, one of 64 does not, and one of 65 is not readable. An array of `n` levels more:
+abbrev deep : ℕ → Tree
+deep zero = array none
+deep (suc n) = array (item (deep n) none)
+
+levels-63 : on-two append empty-array (encode (deep 62)) 0 ≡ refusal Buffer
+unfolding on-two be32
+levels-63 = refl
+
+levels-64 : on-two append empty-array (encode (deep 63)) 0 ≡ refusal Result
+unfolding on-two be32
+levels-64 = refl
+
+levels-65 : on-two append empty-array (encode (deep 64)) 0 ≡ refusal Limit
+unfolding on-two be32
+levels-65 = refl
+
 -- Names by their bytes: "" before "aa" before "b".
 by-bytes :
     on-two build
@@ -81,6 +113,14 @@ twice = 0x80 ∷ 0 ∷ 0 ∷ 2 ∷ 0x10 ∷ 0 ∷ 0 ∷ 1 ∷ 0x10 ∷ 0 ∷ 0 �
 repeated : on-two build twice (0x80 ∷ 0 ∷ 0 ∷ 2 ∷ 0 ∷ 0 ∷ 0 ∷ 0 ∷ 0 ∷ 0 ∷ 0 ∷ 0 ∷ []) 0 ≡ refusal Repeated
 unfolding on-two order same has distinct
 repeated = refl
+
+-- The result of these would be too long for any buffer.
+abbrev long-values : Bytes
+long-values = 0x80 ∷ 0 ∷ 0 ∷ 2 ∷ be32 (0x60000000 + 65523) ++ (0 ∷ 0 ∷ 0 ∷ 0 ∷ replicate 65523 0)
+
+repeated-first : on-two build twice long-values 0 ≡ refusal Repeated
+unfolding on-two be32 order same has distinct
+repeated-first = refl
 
 unequal-counts : on-two build twice nulls 0 ≡ refusal Kind
 unfolding on-two

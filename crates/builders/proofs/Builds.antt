@@ -186,13 +186,15 @@ module _ (ks vs : Bytes) (n : ℕ) (ts us : Items) (kk : Known ks (array ts)) (k
     parts-ms : member-parts ms ≡ item-parts us
     parts-ms = parts-pair ns us as-many
 
-    built : (d : Bool) → distinct ns ≡ d → build (array ts) (array us) ≡ cond d (gives (object (in-order ms))) (refused Repeated)
+    built : (d : Bool) → distinct ns ≡ d
+        → build (array ts) (array us) ≡ cond d (gives (object (in-order ms))) (refused Repeated)
     unfolding build _>>=_ require
     built d e =
         let c : count ts ≡ count us = count-parts ts ∙ sym en ∙ eu ∙ sym (count-parts us) in
         rw (texts-by ts, strings, eq-eqb (count ts) (count us) c, e) (by-test d)
       where
-        by-test : (d : Bool) → (require d Repeated >>= λ _. gives (object (in-order ms))) ≡ cond d (gives (object (in-order ms))) (refused Repeated)
+        by-test : (d : Bool)
+            → (require d Repeated >>= λ _. gives (object (in-order ms))) ≡ cond d (gives (object (in-order ms))) (refused Repeated)
         by-test true = refl
         by-test false = refl
 
@@ -200,12 +202,14 @@ module _ (ks vs : Bytes) (n : ℕ) (ts us : Items) (kk : Known ks (array ts)) (k
     deep = omega (arith, in-order-depth ms, pair-depth ns us, kv .deep)
 
     -- A result is what is stored, where its names are distinct.
-    ends : (e : Ending) (o′ b : Bytes) → distinct ns ≡ true → b ≡ encode (object (in-order ms)) → Ended e o o′ (sized (length o) b)
+    ends : (e : Ending) (o′ b : Bytes) → distinct ns ≡ true → b ≡ encode (object (in-order ms))
+        → Ended e o o′ (sized (length o) b)
         → Ended e o o′ (on-two build ks vs (length o))
     ends e o′ b d q h =
         two-sized build ks vs o (array ts) (kk .reads) (array us) (kv .reads) (object (in-order ms)) (built true d) e o′ b deep q h
 
-    pub build-repeated : distinct (texts (parts-at ks 0 (4 + 4 * n) n)) ≡ false → Ended (Refused Repeated) o o (on-two build ks vs (length o))
+    pub build-repeated : distinct (texts (parts-at ks 0 (4 + 4 * n) n)) ≡ false
+        → Ended (Refused Repeated) o o (on-two build ks vs (length o))
     build-repeated q =
         two-edit build ks vs o (array ts) (kk .reads) (array us) (kv .reads) Repeated
         (built false (ap (λ ps. distinct (texts ps)) (sym parts-are) ∙ q))
@@ -286,7 +290,8 @@ module _ (ks vs : Bytes) (n : ℕ) (ts us : Items) (kk : Known ks (array ts)) (k
       abbrev from : Places
       from = record { «key_jentry» = 4; «val_jentry» = 4; key = 4 + 4 * n; val = 4 + 4 * n }
 
-      behind-header : (s : Bytes) (ws : Items) → Known s (array ws) → drop 4 s ≡ entries (item-parts ws) ++ payloads (item-parts ws)
+      behind-header : (s : Bytes) (ws : Items) → Known s (array ws)
+          → drop 4 s ≡ entries (item-parts ws) ++ payloads (item-parts ws)
       behind-header s ws k =
           ap (drop 4) (sym (k .bytes)) ∙ drop-be32 (2 ^ 31 + length (item-parts ws)) (entries (item-parts ws) ++ payloads (item-parts ws))
 

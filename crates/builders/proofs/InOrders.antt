@@ -1,4 +1,4 @@
--- Members in byte order: the names rise, each name finds what it found, and where no name is there twice the members are the same.
+-- Members in byte order: the names rise, each name finds what it found, and where no name is there twice no member is lost.
 use Prim.Native.Nat.{ℕ, _+_, _≤_, max}
 use native.Mathlib.Omega.{arith}
 use mathlib.Core.Path.{_≡_, refl, ap, sym, _∙_}
@@ -105,7 +105,8 @@ follow-empty : (done : Members) → follow done empty ≡ done
 follow-empty empty = refl
 follow-empty (member n t done) = ap (member n t) (follow-empty done)
 
-follow-member : (n : Bytes) (t : Tree) (done ms : Members) → follow (follow done (member n t empty)) ms ≡ follow done (member n t ms)
+follow-member : (n : Bytes) (t : Tree) (done ms : Members)
+    → follow (follow done (member n t empty)) ms ≡ follow done (member n t ms)
 follow-member n t empty ms = refl
 follow-member n t (member m u done) ms = ap (member m u) (follow-member n t done ms)
 
@@ -113,7 +114,8 @@ follow-in : (n : Bytes) (t : Tree) (done ms : Members) → In n (names (follow d
 follow-in n t empty ms = inl refl
 follow-in n t (member m u done) ms = inr (follow-in n t done ms)
 
-insert-end : (n : Bytes) (t : Tree) (done ms : Members) → Rising (names (follow done (member n t ms))) → insert n t done ≡ follow done (member n t empty)
+insert-end : (n : Bytes) (t : Tree) (done ms : Members) → Rising (names (follow done (member n t ms)))
+    → insert n t done ≡ follow done (member n t empty)
 insert-end n t empty ms h = refl
 insert-end n t (member m u done) ms h =
     rw (order-greater n m (rising-all m (names (follow done (member n t ms))) h n (follow-in n t done ms)))
@@ -152,7 +154,8 @@ not-found n (member m u ms) h =
 
 -- A member that goes in front of others in order, or whose name is the first, or that goes behind the first.
 module _ (x n : Bytes) (t : Tree) (m : Bytes) (u : Tree) (ms : Members) where
-  find-less : n ≺ m → Rising (m ∷ names ms) → find x (member n t (member m u ms)) ≡ or-else (find x (member m u ms)) (find x (member n t empty))
+  find-less : n ≺ m → Rising (m ∷ names ms)
+      → find x (member n t (member m u ms)) ≡ or-else (find x (member m u ms)) (find x (member n t empty))
   find-less l h =
       order-cases x n
       (λ o. by o (find x (member m u ms)) (some t) (find x (member m u ms)) ≡ or-else (find x (member m u ms)) (by o none (some t) none))
@@ -174,12 +177,14 @@ module _ (x n : Bytes) (t : Tree) (m : Bytes) (u : Tree) (ms : Members) where
       f ∙ ap (λ (a : Option Tree). or-else a (some t)) (sym f))
       (λ _. sym (or-none (find x (member m u ms))))
 
-  find-greater : (r : Members) (b : Option Tree) → find x r ≡ or-else (find x ms) b → find x (member m u r) ≡ or-else (find x (member m u ms)) b
+  find-greater : (r : Members) (b : Option Tree) → find x r ≡ or-else (find x ms) b
+      → find x (member m u r) ≡ or-else (find x (member m u ms)) b
   find-greater r b e =
       order-cases x m (λ o. by o (find x r) (some u) (find x r) ≡ or-else (by o (find x ms) (some u) (find x ms)) b)
       (λ _. e) (λ _. refl) (λ _. e)
 
-find-insert : (x n : Bytes) (t : Tree) (ms : Members) → Rising (names ms) → find x (insert n t ms) ≡ or-else (find x ms) (find x (member n t empty))
+find-insert : (x n : Bytes) (t : Tree) (ms : Members) → Rising (names ms)
+    → find x (insert n t ms) ≡ or-else (find x ms) (find x (member n t empty))
 find-insert x n t empty h = refl
 find-insert x n t (member m u ms) h =
     by-order n m (λ (a : Members). find x a ≡ or-else (find x (member m u ms)) (find x (member n t empty))) _ _ _
@@ -195,7 +200,8 @@ find-head x n t ms = go (order x n)
     go Equal = refl
     go Greater = refl
 
-find-all : (x : Bytes) (ms done : Members) → Rising (names done) → find x (insert-all ms done) ≡ or-else (find x done) (find x ms)
+find-all : (x : Bytes) (ms done : Members) → Rising (names done)
+    → find x (insert-all ms done) ≡ or-else (find x done) (find x ms)
 find-all x empty done h = sym (or-none (find x done))
 find-all x (member n t ms) done h =
     find-all x ms (insert n t done) (insert-rising n t done h)
@@ -267,7 +273,8 @@ insert-comm a b x y ms h =
     order-cases a b (λ _. insert a x (insert b y ms) ≡ insert b y (insert a x ms))
     (λ l. insert-before a b x y ms l) (λ e. absurd (h e)) (λ l. sym (insert-before b a y x ms l))
 
-insert-last : (n : Bytes) (t : Tree) (ms done : Members) → (In n (names ms) → ⊥) → insert-all ms (insert n t done) ≡ insert n t (insert-all ms done)
+insert-last : (n : Bytes) (t : Tree) (ms done : Members) → (In n (names ms) → ⊥)
+    → insert-all ms (insert n t done) ≡ insert n t (insert-all ms done)
 insert-last n t empty done h = refl
 insert-last n t (member m u ms) done h =
     ap (insert-all ms) (insert-comm m n u t done (λ e. h (inl (sym e)))) ∙ insert-last n t ms (insert m u done) (λ i. h (inr i))
@@ -292,7 +299,8 @@ abbrev weigh : (Bytes → Tree → ℕ) → Members → ℕ
 weigh f empty = 0
 weigh f (member n t ms) = f n t + weigh f ms
 
-weigh-insert : (f : Bytes → Tree → ℕ) (n : Bytes) (t : Tree) (ms : Members) → (In n (names ms) → ⊥) → weigh f (insert n t ms) ≡ f n t + weigh f ms
+weigh-insert : (f : Bytes → Tree → ℕ) (n : Bytes) (t : Tree) (ms : Members) → (In n (names ms) → ⊥)
+    → weigh f (insert n t ms) ≡ f n t + weigh f ms
 weigh-insert f n t empty h = refl
 weigh-insert f n t (member m u ms) h =
     by-order n m (λ (a : Members). weigh f a ≡ f n t + weigh f (member m u ms)) _ _ _

@@ -56,7 +56,8 @@ module _ (g : Given) where
     unfolding given-entries
     entries-table n r e h p = rw (p, h, e)
 
-    pub entries-whole : (v : ℕ) → g ≡ Whole → length s < 2 ^ 28 → v ≡ entry-of (5 % 2 ^ 3) (length s % 2 ^ 28) → o′ ≡ patch o at (be32 v)
+    pub entries-whole : (v : ℕ) → g ≡ Whole → length s < 2 ^ 28 → v ≡ entry-of (5 % 2 ^ 3) (length s % 2 ^ 28)
+        → o′ ≡ patch o at (be32 v)
         → o′ ≡ patch o at (given-entries s g)
     unfolding given-entries
     entries-whole v e l h p =
@@ -170,7 +171,8 @@ join-parts none us = refl
 join-parts (item t ts) us = ap (λ ps. part t ∷ ps) (join-parts ts us)
 
 -- So what is written, with the right header, is the array of both.
-pub joined-encode : (w : ℕ) (s : Bytes) (g : Given) (ts : Items) (r : Bytes) (h : Given) (us : Items) → Gives s g ts → Gives r h us
+pub joined-encode : (w : ℕ) (s : Bytes) (g : Given) (ts : Items) (r : Bytes) (h : Given) (us : Items) → Gives s g ts
+    → Gives r h us
     → w ≡ 2 ^ 31 + (given-count g + given-count h) → joined w s g r h ≡ encode (array (join ts us))
 unfolding joined
 joined-encode w s g ts r h us a b e =

@@ -64,7 +64,8 @@ an-array (array ts) n e = (ts, refl, cc)
 an-array (object ms) n e = let z : _≡_ {A = ℕ} 0 1 = cc in let w : ⊥ = omega arith in absurd w
 
 -- A record as an item.
-pub nested-gives : (m : Answer Tree) (n : Nesting) → n ≡ nesting m → ((r : Refusal) → n ≡ NotNested r → ⊥) → (u : Tree) × (m ≡ gives u)
+pub nested-gives : (m : Answer Tree) (n : Nesting) → n ≡ nesting m → ((r : Refusal) → n ≡ NotNested r → ⊥)
+    → (u : Tree) × (m ≡ gives u)
 nested-gives (gives u) n e h = (u, refl)
 nested-gives (refused r) n e h = absurd (h r e)
 

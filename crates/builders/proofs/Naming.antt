@@ -65,7 +65,8 @@ module _ (name s : Bytes) (from start n i p : ℕ)
   among-end h = let z : n - i ≡ 0 = omega arith in rw (inv, z)
 
 -- Distinct.
-pub distinct-start : (s : Bytes) (start n : ℕ) → distinct (texts (parts-at s 0 start n)) ≡ distinct (texts (parts-at s 0 start (n - 0)))
+pub distinct-start : (s : Bytes) (start n : ℕ)
+    → distinct (texts (parts-at s 0 start n)) ≡ distinct (texts (parts-at s 0 start (n - 0)))
 distinct-start s start n = rw (sub-zero n)
 
 module _ (s : Bytes) (start n i p : ℕ) (inv : distinct (texts (parts-at s 0 start n)) ≡ distinct (texts (parts-at s i p (n - i)))) where
@@ -75,7 +76,8 @@ module _ (s : Bytes) (start n i p : ℕ) (inv : distinct (texts (parts-at s 0 st
     unfolding distinct
     distinct-twice q = rw (inv, parts-step s i p n lt, ← he, ← hl, ← hp, ← hg, q)
 
-    pub distinct-more : g ≡ false → distinct (texts (parts-at s 0 start n)) ≡ distinct (texts (parts-at s (i + 1) (p + l) (n - (i + 1))))
+    pub distinct-more : g ≡ false
+        → distinct (texts (parts-at s 0 start n)) ≡ distinct (texts (parts-at s (i + 1) (p + l) (n - (i + 1))))
     unfolding distinct
     distinct-more q = inv ∙ rw (parts-step s i p n lt, ← he, ← hl, ← hp, ← hg, q)
 

@@ -10,7 +10,8 @@ use Rattle.layout.proofs.Values.{≺-irrefl, ≺-trans}
 use Rattle.builders.specs.Order.{by}
 
 -- By cases on how two names compare, with what that says.
-pub order-cases : (a b : Bytes) (P : Ordering → Type 0) → (a ≺ b → P Less) → (a ≡ b → P Equal) → (b ≺ a → P Greater) → P (order a b)
+pub order-cases : (a b : Bytes) (P : Ordering → Type 0) → (a ≺ b → P Less) → (a ≡ b → P Equal) → (b ≺ a → P Greater)
+    → P (order a b)
 order-cases a b P f g h = go (order a b) (says a b)
   where
     go : (o : Ordering) → Says a b o → P o
@@ -19,7 +20,8 @@ order-cases a b P f g h = go (order a b) (says a b)
     go Greater s = h s
 
 -- The same where the cases are those of `by`.
-pub by-order : {A : Type 0} (a b : Bytes) (P : A → Type 0) (x y z : A) → (a ≺ b → P x) → (a ≡ b → P y) → (b ≺ a → P z) → P (by (order a b) x y z)
+pub by-order : {A : Type 0} (a b : Bytes) (P : A → Type 0) (x y z : A) → (a ≺ b → P x) → (a ≡ b → P y) → (b ≺ a → P z)
+    → P (by (order a b) x y z)
 by-order {A} a b P x y z f g h = go (order a b) (says a b)
   where
     go : (o : Ordering) → Says a b o → P (by o x y z)

@@ -166,7 +166,8 @@ name-valid (extension b) n e v = refused-gives e
 name-valid (array ts) n e v = refused-gives e
 name-valid (object ms) n e v = refused-gives e
 
-pair-valid : (ts us : Items) (ns : List Bytes) → texts-of ts ≡ gives ns → ValidItems ts → ValidItems us → ValidMembers (pair ns us)
+pair-valid : (ts us : Items) (ns : List Bytes) → texts-of ts ≡ gives ns → ValidItems ts → ValidItems us
+    → ValidMembers (pair ns us)
 pair-valid none us ns e v w = rw (← gives-inj {x = []} e) tt
 pair-valid (item t ts) none ns e v w = from-bind e λ n hn e₁. from-bind e₁ λ ms hm e₂. rw (← gives-inj {x = n ∷ ms} e₂) tt
 pair-valid (item t ts) (item u us) ns e v w =
@@ -197,7 +198,8 @@ build-sound t u v su e =
     rw (b .is) (in-order-rising (pair (b .texts) (b .values)), in-order-sound (pair (b .texts) (b .values)) (pair-sound (b .texts) (b .values) ss))
 
 -- "the first array's strings as names, in turn, with the second's values", in no order.
-pub build-value : (t u v : Tree) → (e : build t u ≡ gives v) → Same (object (pair (build-is t u v e .texts) (build-is t u v e .values))) v
+pub build-value : (t u v : Tree) → (e : build t u ≡ gives v)
+    → Same (object (pair (build-is t u v e .texts) (build-is t u v e .values))) v
 build-value t u v e =
     let b = build-is t u v e in
     let d : distinct (names (pair (b .texts) (b .values))) ≡ true = rw (names-of (b .items) (b .values) (b .texts) (b .strings) (b .as-many)) (b .apart) in

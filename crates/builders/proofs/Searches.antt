@@ -75,7 +75,8 @@ module _ (key : MemberAt → Bytes) where
     case-greater b f true e q = rw (q, e) (sym (cond-same (over last (key m)) (At b)))
     case-greater b f false e q = rw q
 
-    by-case : (o : Ordering) (b : MemberAt) (bs r : List MemberAt) → compared m b ≡ o → first-over last r ≡ step key last (first-over last bs) m
+    by-case : (o : Ordering) (b : MemberAt) (bs r : List MemberAt) → compared m b ≡ o
+        → first-over last r ≡ step key last (first-over last bs) m
         → first-over last (by o (m ∷ b ∷ bs) (b ∷ bs) (b ∷ r)) ≡ step key last (first-over last (b ∷ bs)) m
     unfolding first-over
     by-case Less b bs r e ih = case-less b (first-over last bs) (over last (key m)) (over last (key b)) e refl refl
@@ -89,7 +90,8 @@ module _ (key : MemberAt → Bytes) where
     first-put (b ∷ bs) = by-case (compared m b) b bs (put-in key m bs) refl (first-put bs)
 
   -- The search gives the first above `last` of the members in byte order.
-  search-first : (last : Bound) (done ms : List MemberAt) → least key last (first-over last done) ms ≡ first-over last (put-all key done ms)
+  search-first : (last : Bound) (done ms : List MemberAt)
+      → least key last (first-over last done) ms ≡ first-over last (put-all key done ms)
   unfolding least put-all
   search-first last done [] = refl
   search-first last done (m ∷ ms) =
@@ -108,7 +110,8 @@ module _ (key : MemberAt → Bytes) where
   above-trans x y [] e h = tt
   above-trans x y (b ∷ bs) e h = (order-trans (key x) (key y) (key b) e (h .0), above-trans x y bs e (h .1))
 
-  above-by : (o : Ordering) (x m b : MemberAt) (bs r : List MemberAt) → compared x m ≡ Less → compared x b ≡ Less → Above x bs → Above x r
+  above-by : (o : Ordering) (x m b : MemberAt) (bs r : List MemberAt) → compared x m ≡ Less → compared x b ≡ Less
+      → Above x bs → Above x r
       → Above x (by o (m ∷ b ∷ bs) (b ∷ bs) (b ∷ r))
   above-by Less x m b bs r e f h k = (e, (f, h))
   above-by Equal x m b bs r e f h k = (f, h)
@@ -153,7 +156,8 @@ module _ (key : MemberAt → Bytes) where
   first-above x [] h = refl
   first-above x (b ∷ bs) h = rw (h .0)
 
-  first-after : (bs : List MemberAt) (j : ℕ) (x : MemberAt) → Ascending bs → nth bs j ≡ At x → first-over (after (key x)) bs ≡ nth bs (suc j)
+  first-after : (bs : List MemberAt) (j : ℕ) (x : MemberAt) → Ascending bs → nth bs j ≡ At x
+      → first-over (after (key x)) bs ≡ nth bs (suc j)
   unfolding first-over nth over before
   first-after [] j x h e = cc
   first-after (b ∷ bs) zero x h e = let q : b ≡ x = cc in rw (← q, order-refl (key b)) (first-above b bs (h .0))
@@ -174,11 +178,13 @@ module _ (key : MemberAt → Bytes) where
       rw (w .1) (first-after bs j (w .0) h (w .1))
 
   -- The search behind the members that were found finds the next.
-  pub search-nth : (ms : List MemberAt) (k : ℕ) → k ≤ length (sorted key ms) → least key (bound-at (sorted key ms) k) Nothing ms ≡ nth (sorted key ms) k
+  pub search-nth : (ms : List MemberAt) (k : ℕ) → k ≤ length (sorted key ms)
+      → least key (bound-at (sorted key ms) k) Nothing ms ≡ nth (sorted key ms) k
   unfolding first-over sorted
   search-nth ms k l = search-first (bound-at (sorted key ms) k) [] ms ∙ first-nth (sorted key ms) k (rising-sorted ms) l
 
-  length-by : (o : Ordering) (m b : MemberAt) (bs r : List MemberAt) → length r ≤ suc (length bs) → length (by o (m ∷ b ∷ bs) (b ∷ bs) (b ∷ r)) ≤ suc (suc (length bs))
+  length-by : (o : Ordering) (m b : MemberAt) (bs r : List MemberAt) → length r ≤ suc (length bs)
+      → length (by o (m ∷ b ∷ bs) (b ∷ bs) (b ∷ r)) ≤ suc (suc (length bs))
   length-by Less m b bs r h = omega arith
   length-by Equal m b bs r h = omega arith
   length-by Greater m b bs r h = omega arith

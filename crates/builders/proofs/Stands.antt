@@ -39,7 +39,8 @@ module _ (name value : MemberAt → Bytes) where
   stand-by Equal x n t b m u xs ys ms ns s r h k = (r, h)
   stand-by Greater x n t b m u xs ys ms ns s r h k = (r, k)
 
-  stand-put : (x : MemberAt) (n : Bytes) (t : Tree) (xs : List MemberAt) (ms : Members) → Stands x n t → Stand xs ms → Stand (put-in name x xs) (insert n t ms)
+  stand-put : (x : MemberAt) (n : Bytes) (t : Tree) (xs : List MemberAt) (ms : Members) → Stands x n t → Stand xs ms
+      → Stand (put-in name x xs) (insert n t ms)
   unfolding put-in
   stand-put x n t [] empty s h = (s, tt)
   stand-put x n t [] (member m u ms) s h = absurd h
@@ -62,14 +63,16 @@ module _ (name value : MemberAt → Bytes) where
   unfolding sorted
   stand-sorted xs ms h = stand-all xs ms [] empty h tt
 
-  pub stand-key-entries : (xs : List MemberAt) (ms : Members) → Stand xs ms → column (λ m. be32 (m .key .jentry)) xs ≡ entries (name-parts (names ms))
+  pub stand-key-entries : (xs : List MemberAt) (ms : Members) → Stand xs ms
+      → column (λ m. be32 (m .key .jentry)) xs ≡ entries (name-parts (names ms))
   unfolding column
   stand-key-entries [] empty h = refl
   stand-key-entries [] (member n t ms) h = absurd h
   stand-key-entries (x ∷ xs) empty h = absurd h
   stand-key-entries (x ∷ xs) (member n t ms) h = ap₂ _++_ (ap be32 (h .0 .0)) (stand-key-entries xs ms (h .1))
 
-  pub stand-val-entries : (xs : List MemberAt) (ms : Members) → Stand xs ms → column (λ m. be32 (m .val .jentry)) xs ≡ entries (member-parts ms)
+  pub stand-val-entries : (xs : List MemberAt) (ms : Members) → Stand xs ms
+      → column (λ m. be32 (m .val .jentry)) xs ≡ entries (member-parts ms)
   unfolding column
   stand-val-entries [] empty h = refl
   stand-val-entries [] (member n t ms) h = absurd h
@@ -108,7 +111,8 @@ table-row s a p e ps x y f ha hp =
     )
 
 -- Members whose names and values have their entries and their payloads in a row, in one record or in two.
-pub stand-from : (ks vs : Bytes) (a b p q : ℕ) (ns : List Bytes) (us : Items) (w x y z : Bytes) → length ns ≡ length (item-parts us)
+pub stand-from : (ks vs : Bytes) (a b p q : ℕ) (ns : List Bytes) (us : Items) (w x y z : Bytes)
+    → length ns ≡ length (item-parts us)
     → AllFit (name-parts ns) → AllFit (item-parts us)
     → drop a ks ≡ entries (name-parts ns) ++ w → drop p ks ≡ payloads (name-parts ns) ++ x
     → drop b vs ≡ entries (item-parts us) ++ y → drop q vs ≡ payloads (item-parts us) ++ z

@@ -15,7 +15,8 @@ use Rattle.builders.specs.declared.search.Places.{Places}
 use Rattle.builders.specs.declared.search.Found.{Found}
 use Rattle.builders.specs.declared.search.Found.the-variants.{Nothing, At}
 
-pub payload-is : (r s : Bytes) (x : ItemAt) (n : ℕ) → n ≡ length-of (x .jentry) → r ≡ take n (drop (x .place) s) → r ≡ bytes-at s x
+pub payload-is : (r s : Bytes) (x : ItemAt) (n : ℕ) → n ≡ length-of (x .jentry) → r ≡ take n (drop (x .place) s)
+    → r ≡ bytes-at s x
 payload-is r s x n e h = rw (h, e)
 
 module _ (g : Bool) (l n : Bytes) where

@@ -18,7 +18,8 @@ use Rattle.builders.specs.declared.search.MemberAt.{MemberAt}
 use Rattle.builders.proofs.Stands.{Stand, stand-key-entries, stand-val-entries, stand-names, stand-values}
 
 -- What is stored next, behind what was stored.
-pub patch-then : (o o₁ o₂ : Bytes) (at p : ℕ) (a b : Bytes) → o₁ ≡ patch o at a → o₂ ≡ patch o₁ p b → p ≡ at + length a → o₂ ≡ patch o at (a ++ b)
+pub patch-then : (o o₁ o₂ : Bytes) (at p : ℕ) (a b : Bytes) → o₁ ≡ patch o at a → o₂ ≡ patch o₁ p b → p ≡ at + length a
+    → o₂ ≡ patch o at (a ++ b)
 patch-then o o₁ o₂ at p a b e₁ e₂ e₃ = rw (e₂, e₁, e₃) (patch-append o at a b)
 
 -- Of two, three or four regions in a row, the first grows at its end.
@@ -30,7 +31,8 @@ module _ (o : Bytes) (p : ℕ) (u t : Bytes) (q : ℕ) (v : Bytes) where
       → patch (patch (patch (patch o p u) q v) r w) (p + length u) t ≡ patch (patch (patch o p (u ++ t)) q v) r w
   slip₂ r w h k = patch-comm (patch (patch o p u) q v) (p + length u) r t w k ∙ ap (λ (l : Bytes). patch l r w) (slip h)
 
-  slip₃ : (r : ℕ) (w : Bytes) (m : ℕ) (x : Bytes) → p + length u + length t ≤ q → p + length u + length t ≤ r → p + length u + length t ≤ m
+  slip₃ : (r : ℕ) (w : Bytes) (m : ℕ) (x : Bytes) → p + length u + length t ≤ q → p + length u + length t ≤ r
+      → p + length u + length t ≤ m
       → patch (patch (patch (patch (patch o p u) q v) r w) m x) (p + length u) t ≡ patch (patch (patch (patch o p (u ++ t)) q v) r w) m x
   slip₃ r w m x h k j = patch-comm (patch (patch (patch o p u) q v) r w) (p + length u) m t x j ∙ ap (λ (l : Bytes). patch l m x) (slip₂ r w h k)
 

@@ -23,6 +23,7 @@ items-of (extension b) = refused Kind
 items-of (array ts) = gives ts
 items-of (object ms) = refused Kind
 
+-- "A name that is no string".
 abbrev pub text-of : Tree → Answer Bytes
 text-of null = refused Kind
 text-of (boolean x) = refused Kind
@@ -39,6 +40,7 @@ texts-of (item t ts) = do
   ns ← texts-of ts
   gives (n ∷ ns)
 
+-- "Unequal counts".
 abbrev pub count : Items → ℕ
 count none = 0
 count (item t ts) = suc (count ts)
@@ -71,7 +73,7 @@ within t = do
   _ ← require (leb (record-length t) 65536 && leb (depth t) 64) Result
   gives t
 
--- A result goes into a buffer of `room` bytes: 10 where it is longer.
+-- A result goes into a buffer of `room` bytes: "10 shorter than the result".
 abbrev pub written : ℕ → Answer Tree → Outcome
 written room (gives t) = into room (encode t)
 written room (refused r) = refusal r

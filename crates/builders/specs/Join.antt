@@ -1,6 +1,6 @@
--- Two records written as one container: the header, the entries that each gives, the payloads that each gives. A record gives the
--- items of its table, of which a scalar has one, or itself whole as one item. That this is an array's record is `joined-encode` of
--- proofs/Joins.antt, and that it is an object's `joined-object` of proofs/Builds.antt.
+-- Two records written as one container: the header, the entries that each gives, the payloads that each gives. A record gives
+-- the items of its table, of which a scalar has one, or itself whole as one item. That this is an array's record says
+-- `joined-encode` of proofs/Joins.antt, and that it is an object's `joined-object` of proofs/Builds.antt.
 use Prim.Native.Nat.{ℕ, _+_, _*_, _-_, _≤_}
 use mathlib.Core.List.{_++_}
 use lib.ListN.{length, take, drop}

@@ -15,7 +15,8 @@ by Less a b c = a
 by Equal a b c = b
 by Greater a b c = c
 
--- A member put in its place among members in order; where its name is there already, that member stays and this one goes.
+-- "The first of any repeated names remaining is kept": a member put in its place among members in order; where its name is there
+-- already, that member stays and this one goes.
 abbrev pub insert : Bytes → Tree → Members → Members
 insert n t empty = member n t empty
 insert n t (member m u ms) =
@@ -29,12 +30,13 @@ insert-all (member n t ms) done = insert-all ms (insert n t done)
 abbrev pub in-order : Members → Members
 in-order ms = insert-all ms empty
 
--- The value of the first member whose name has equal bytes.
+-- The value of "the first member whose name has equal bytes". It says what `in-order` keeps: `find-in-order` of
+-- proofs/InOrders.antt.
 abbrev pub find : Bytes → Members → Option Tree
 find n empty = none
 find n (member m t ms) = by (order n m) (find n ms) (some t) (find n ms)
 
--- Whether a name is among others, and whether no name is there twice.
+-- "8 repeated name": whether a name is among others, and whether no name is there twice.
 unfoldable pub same : Bytes → Bytes → Bool
 same n m = by (order n m) false true false
 

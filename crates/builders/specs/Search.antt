@@ -1,5 +1,6 @@
--- The members of an object by their places, and the search for the next name in byte order. `search-nth` of proofs/Searches.antt
--- says that the search, repeated, gives `sorted`, and proofs/Stands.antt that `sorted` is `in-order`.
+-- The members of an object, or of an array of names and one of values, by their places; and the search for the next name in byte
+-- order. `search-nth` of proofs/Searches.antt says that the search, repeated, gives `sorted`, and `stand-sorted` of
+-- proofs/Stands.antt that `sorted` is `in-order`.
 use Prim.Native.Nat.{ℕ, zero, suc, _+_}
 use mathlib.Core.Path.{_≡_}
 use mathlib.Core.Bool.{Bool, true, false, cond, _&&_}
@@ -42,8 +43,8 @@ name-in keys m = bytes-at keys (m .key)
 abbrev pub value-in : Bytes → MemberAt → Bytes
 value-in vals m = bytes-at vals (m .val)
 
--- The member whose entries stand at `a` and `b`, and whose name and value at `p` and `q`; and the `k` members from there on. Names
--- are in `ks`, values in `vs`.
+-- The member whose entries stand at `a` and `b`, and whose name and value at `p` and `q`; and the `k` members from there on.
+-- Names are in `ks`, values in `vs`.
 abbrev pub member-at : Bytes → Bytes → ℕ → ℕ → ℕ → ℕ → MemberAt
 member-at ks vs a b p q =
     record { key = record { jentry = word-at ks a; place = p }; val = record { jentry = word-at vs b; place = q } }

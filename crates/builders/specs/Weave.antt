@@ -1,5 +1,5 @@
 -- What the loop leaves in the buffer that stores members one after another, each at four places of its own: its two entries, its
--- name and its value.
+-- name and its value. Behind the header it is the object's record: `woven-record` of proofs/Weaves.antt.
 use Prim.Native.Nat.{ℕ, _+_}
 use mathlib.Core.List.{List, [], _∷_, _++_}
 use lib.ListN.{length}

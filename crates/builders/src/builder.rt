@@ -54,8 +54,8 @@ pub fn append(array: &[u8], item: &[u8], out: &mut [u8]) -> Ending
     write_joined(header, array, Given::Table(n), item, as_item(item), out)
 }
 
-// Stores the object of n members with distinct names, in byte order of the names, where there is room for it. It is as long as both
-// records less one header.
+// Stores the object of n members with distinct names, in byte order of the names, where there is room for it. It is as long as
+// both records less one header.
 fn write_sorted(names: &[u8], values: &[u8], n: usize, out: &mut [u8]) -> Ending
     requires { ⌜ Pairs (now names) (now values) n × (distinct (texts (partsAt (now names) 0 (4 + 4 * n) n)) ≡ true) ⌝ }
     ensures { λ e. ⌜ Ended e (now (out .entry)) (now (out .exit))

@@ -17,11 +17,12 @@ ghost use lib.ListN.{length};
 ghost use Rattle.layout.specs.Read.{header};
 ghost use Rattle.layout.specs.Patch.{patch};
 ghost use Rattle.layout.specs.Ended.{Ended};
-ghost use Rattle.builders.specs.Join.{«given-count» as givenCount, «given-entries» as givenEntries, «given-start» as givenStart};
+ghost use Rattle.builders.specs.Join.{«given-count» as givenCount, «given-start» as givenStart};
+ghost use Rattle.builders.specs.Join.{«given-entries» as givenEntries};
 ghost use Rattle.builders.specs.Join.{«as-one» as asOne, Lies, joined, «joined-length» as joinedLength};
 ghost use Rattle.builders.specs.Room.{sized};
 
-// What a record gives to an array: the items of its table, of which a scalar record has one, or itself whole as one item.
+// What a record gives to a container: the items of its table, of which a scalar record has one, or itself whole as one item.
 pub enum Given {
     Table(usize),
     Whole,
@@ -37,6 +38,7 @@ pub(crate) fn as_item(s: &[u8]) -> Given
     Given::Whole
 }
 
+// How many items are given.
 fn given_count(given: Given) -> usize
     ensures { λ r. ⌜ r ≡ givenCount given ⌝ }
 {
@@ -78,7 +80,7 @@ fn joined_len(left: &[u8], l: Given, right: &[u8], r: Given) -> usize
     HEADER_SIZE + JENTRY_SIZE * count + payloads
 }
 
-// Stores that container: the header, the entries, the payloads.
+// Stores the container of what two records give: the header, the entries, the payloads.
 fn put_joined(header: u32, left: &[u8], l: Given, right: &[u8], r: Given, out: &mut [u8])
     requires { ⌜ Lies (now left) l × Lies (now right) r ⌝ }
     ensures { λ _. ⌜ now (out .exit) ≡ patch (now (out .entry)) 0 (joined header (now (left .entry)) l (now (right .entry)) r) ⌝ }
@@ -95,7 +97,7 @@ fn put_joined(header: u32, left: &[u8], l: Given, right: &[u8], r: Given, out: &
     copy(right_payloads, out, start + left_payloads.len());
 }
 
-// The same where its length is within the limit and the buffer serves.
+// Stores that container and gives its length, where there is room for it; else nothing is stored.
 pub(crate) fn write_joined(
     header: u32,
     left: &[u8],

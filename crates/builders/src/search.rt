@@ -10,7 +10,8 @@ use layout::writer::put_u32;
 ghost use mathlib.Core.Path.{_≡_};
 ghost use Prim.Native.Nat.{_+_, _^_, _<_};
 ghost use Rattle.builders.specs.Search.{«bytes-at» as bytesAt, «member-at» as memberAt, «members-at» as membersAt};
-ghost use Rattle.builders.specs.Search.{bound, over, better, step, least, sorted, «name-in» as nameIn, «value-in» as valueIn};
+ghost use Rattle.builders.specs.Search.{bound, over, better, step, least, sorted};
+ghost use Rattle.builders.specs.Search.{«name-in» as nameIn, «value-in» as valueIn};
 ghost use Rattle.builders.specs.Weave.{behind, stored, woven};
 
 // An item as it stands in a record: its entry, and the place of its payload.
@@ -19,6 +20,7 @@ pub struct ItemAt {
     pub place: usize,
 }
 
+// A member as it stands in one record, or in an array of names and one of values.
 pub struct MemberAt {
     pub key: ItemAt,
     pub val: ItemAt,
@@ -32,6 +34,7 @@ pub struct Places {
     pub val: usize,
 }
 
+// What the search has found.
 pub enum Found {
     Nothing,
     At(MemberAt),
@@ -46,7 +49,8 @@ pub(crate) fn payload_at(s: &[u8], item: ItemAt) -> &[u8]
 
 // The member at these places.
 fn read_member(keys: &[u8], vals: &[u8], at: Places) -> MemberAt
-    ensures { λ r. ⌜ r ≡ memberAt (now (keys .entry)) (now (vals .entry)) (at .«key_jentry») (at .«val_jentry») (at .key) (at .val) ⌝ }
+    ensures { λ r. ⌜ r
+        ≡ memberAt (now (keys .entry)) (now (vals .entry)) (at .«key_jentry») (at .«val_jentry») (at .key) (at .val) ⌝ }
 {
     MemberAt {
         key: ItemAt {
@@ -85,6 +89,7 @@ fn better_of(keys: &[u8], best: Found, member: MemberAt) -> Found
     }
 }
 
+// The better of the best so far and a member, where the member's name comes behind the last.
 fn step_of(keys: &[u8], is_first: bool, last: &[u8], best: Found, member: MemberAt) -> Found
     ensures { λ r. ⌜ r ≡ step (nameIn (now (keys .entry))) (bound «is_first» (now (last .entry))) best member ⌝ }
 {
@@ -103,7 +108,8 @@ pub(crate) fn next_member(
     is_first: bool,
     last: &[u8],
 ) -> Found
-    requires { ⌜ (count < 2 ^ 29) × (from .«key_jentry» < 2 ^ 32) × (from .«val_jentry» < 2 ^ 32) × (from .key < 2 ^ 32) × (from .val < 2 ^ 32) ⌝ }
+    requires { ⌜ (count < 2 ^ 29)
+        × (from .«key_jentry» < 2 ^ 32) × (from .«val_jentry» < 2 ^ 32) × (from .key < 2 ^ 32) × (from .val < 2 ^ 32) ⌝ }
     ensures { λ r. ⌜ r ≡ least (nameIn (now (keys .entry))) (bound «is_first» (now (last .entry))) Found.Nothing
         (membersAt (now (keys .entry)) (now (vals .entry)) from count) ⌝ }
 {
@@ -154,13 +160,15 @@ pub(crate) fn put_members(
     out: &mut [u8],
     to: Places,
 )
-    requires { ⌜ (count < 2 ^ 29) × (from .«key_jentry» < 2 ^ 32) × (from .«val_jentry» < 2 ^ 32) × (from .key < 2 ^ 32) × (from .val < 2 ^ 32) ⌝ }
+    requires { ⌜ (count < 2 ^ 29)
+        × (from .«key_jentry» < 2 ^ 32) × (from .«val_jentry» < 2 ^ 32) × (from .key < 2 ^ 32) × (from .val < 2 ^ 32) ⌝ }
     requires { ⌜ (to .«key_jentry» < 2 ^ 32) × (to .«val_jentry» < 2 ^ 32) × (to .key < 2 ^ 32) × (to .val < 2 ^ 32) ⌝ }
     ensures { λ _. ⌜ now (out .exit)
         ≡ woven (nameIn (now (keys .entry))) (valueIn (now (vals .entry))) (now (out .entry))
         (to .«key_jentry») (to .«val_jentry») (to .key) (to .val)
         (sorted (nameIn (now (keys .entry))) (membersAt (now (keys .entry)) (now (vals .entry)) from count)) ⌝ }
 {
+    // No name was taken yet: the first search does not look at this one.
     let mut last = slice(keys, 0, 0);
     let mut at = to;
     let mut i = 0;

@@ -53,7 +53,7 @@ fn answer_one(call: Call, text: &[u8]) {
     }
     let mut record = [0u8; RECORD_ROOM];
     match decode(text, &mut record) {
-        Taken::Bytes(n) => answer_record(call, slice(&record, 0, n)),
+        Taken::Length(n) => answer_record(call, slice(&record, 0, n)),
         Taken::Wrong(fault) => say_fault(fault),
     }
 }

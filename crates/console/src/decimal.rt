@@ -35,13 +35,13 @@ fn read_decimal(text: &[u8]) -> Taken {
         n = least(n * BASE as usize + value as usize, RESULT_ROOM);
         i += 1;
     }
-    Taken::Bytes(n)
+    Taken::Length(n)
 }
 
 // The argument behind the records of a call that takes as many, where there is one.
 pub(crate) fn take_length(text: &[u8], records: usize) -> Taken {
     if count_arguments(text) <= records {
-        return Taken::Bytes(RESULT_ROOM);
+        return Taken::Length(RESULT_ROOM);
     }
     let digits = trim(argument(text, records));
     if digits.len() == 0 {

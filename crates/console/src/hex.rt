@@ -11,8 +11,13 @@ ghost use Prim.Native.Nat.{_<_, _≤_};
 // Room for a record of one byte too many: what is longer is refused as that is.
 pub(crate) const RECORD_ROOM: usize = RECORD_LIMIT + 1;
 
+// How many digits there are, and those of them that are decimal.
+const BASE: u8 = 16;
+
+const DECIMALS: u8 = 10;
+
 // No digit; no first digit of a byte.
-const NONE: u8 = 16;
+const NONE: u8 = BASE;
 
 // The value of a digit, and NONE where it is none.
 pub(crate) fn digit(c: u8) -> u8
@@ -20,8 +25,8 @@ pub(crate) fn digit(c: u8) -> u8
 {
     match c {
         b'0'..=b'9' => c - b'0',
-        b'a'..=b'f' => c - b'a' + 10,
-        b'A'..=b'F' => c - b'A' + 10,
+        b'a'..=b'f' => c - b'a' + DECIMALS,
+        b'A'..=b'F' => c - b'A' + DECIMALS,
         _ => NONE,
     }
 }
@@ -44,12 +49,12 @@ fn decode_digits(text: &[u8], out: &mut [u8]) -> Taken {
             high = low;
             continue;
         }
-        put(out, n, high * 16 + low);
+        put(out, n, high * BASE + low);
         n += 1;
         high = NONE;
     }
     if high == NONE {
-        return Taken::Bytes(n);
+        return Taken::Length(n);
     }
     Taken::Wrong(Fault::Odd)
 }
@@ -61,7 +66,7 @@ pub(crate) fn decode(text: &[u8], out: &mut [u8]) -> Taken {
         return Taken::Wrong(Fault::Missing);
     }
     if (digits.len() == 1) & (byte(digits, 0) == b'-') {
-        return Taken::Bytes(0);
+        return Taken::Length(0);
     }
     decode_digits(digits, out)
 }
@@ -70,18 +75,18 @@ pub(crate) fn decode(text: &[u8], out: &mut [u8]) -> Taken {
 fn letter(digit: u8) -> u8
     requires { ⌜ digit < 16 ⌝ }
 {
-    if digit < 10 {
+    if digit < DECIMALS {
         return b'0' + digit;
     }
-    b'a' + (digit - 10)
+    b'a' + (digit - DECIMALS)
 }
 
 fn first_letter(b: u8) -> u8 {
-    letter(b / 16)
+    letter(b / BASE)
 }
 
 fn second_letter(b: u8) -> u8 {
-    letter(b % 16)
+    letter(b % BASE)
 }
 
 // Spells bytes in lower case, two letters for a byte, as far as `out` goes.

@@ -15,7 +15,7 @@ pub(crate) enum Fault {
 
 // An argument as it was taken: how many bytes it spells, or is the length of.
 pub(crate) enum Taken {
-    Bytes(usize),
+    Length(usize),
     Wrong(Fault),
 }
 

@@ -15,7 +15,9 @@ use builders::builder::build_object;
 use layout::ending::Ending;
 use layout::util::slice;
 
-// Those that take two records.
+// How many records the calls below take.
+const RECORDS: usize = 2;
+
 pub(crate) enum Edit {
     Append,
     Build,
@@ -43,8 +45,8 @@ fn answer_edit(call: Edit, left: &[u8], right: &[u8], length: usize) {
 
 // Takes the buffer's length.
 fn answer_length(call: Edit, left: &[u8], right: &[u8], text: &[u8]) {
-    match take_length(text, 2) {
-        Taken::Bytes(n) => answer_edit(call, left, right, n),
+    match take_length(text, RECORDS) {
+        Taken::Length(n) => answer_edit(call, left, right, n),
         Taken::Wrong(fault) => say_fault(fault),
     }
 }
@@ -53,7 +55,7 @@ fn answer_length(call: Edit, left: &[u8], right: &[u8], text: &[u8]) {
 fn answer_right(call: Edit, left: &[u8], text: &[u8]) {
     let mut record = [0u8; RECORD_ROOM];
     match decode(argument(text, 1), &mut record) {
-        Taken::Bytes(n) => answer_length(call, left, slice(&record, 0, n), text),
+        Taken::Length(n) => answer_length(call, left, slice(&record, 0, n), text),
         Taken::Wrong(fault) => say_fault(fault),
     }
 }
@@ -61,12 +63,12 @@ fn answer_right(call: Edit, left: &[u8], text: &[u8]) {
 // Takes the arguments of a call, from the left, or says why one is none.
 pub(crate) fn answer_two(call: Edit, text: &[u8]) {
     let count = count_arguments(text);
-    if (count != 2) & (count != 3) {
+    if (count != RECORDS) & (count != RECORDS + 1) {
         return say(b"? this call takes two records, and the buffer's length if you like\n");
     }
     let mut record = [0u8; RECORD_ROOM];
     match decode(argument(text, 0), &mut record) {
-        Taken::Bytes(n) => answer_right(call, slice(&record, 0, n), text),
+        Taken::Length(n) => answer_right(call, slice(&record, 0, n), text),
         Taken::Wrong(fault) => say_fault(fault),
     }
 }

@@ -59,7 +59,7 @@ pub refused-as : {A : Type 0} (m : Answer A) (c : Check) (r : Refusal) → c ≡
 refused-as (gives a) c r e q = let z : Readable ≡ Refused r = sym e ∙ q in cc
 refused-as (refused x) c r e q = cc
 
--- A record longer than any.
+-- A record that the check refuses is refused with the same number.
 pub nesting-refused : (m : Answer Tree) (c : Check) (r : Refusal) → c ≡ checked m → c ≡ Refused r → NotNested r ≡ nesting m
 nesting-refused m c r e q = rw (refused-as m c r e q)
 

@@ -1,4 +1,5 @@
--- The answers of the check: readable, or the refusal by the first fault of document 01's rules; and sound or not.
+-- The answers of the check: readable, or the refusal by the first fault of document 01's rules; sound or not; and whether a record
+-- can stand inside another.
 use mathlib.Core.Bool.{cond}
 use lib.Dec.{leb}
 use Rattle.layout.specs.Answer.{Answer, gives, refused}
@@ -21,7 +22,8 @@ abbrev pub soundness : Answer Tree → Soundness
 soundness (gives t) = cond (is-sound t) Sound Unsound
 soundness (refused r) = NotReadable r
 
--- As an item of another record it is one level deeper, and "deeper than 64 is 5".
+-- As an item of another record it is one level deeper, and the edit that puts it there meets "9 result over 65,536 bytes or deeper
+-- than 64".
 abbrev pub nesting : Answer Tree → Nesting
 nesting (gives t) = cond (leb (depth t) 63) Fits Deep
 nesting (refused r) = NotNested r

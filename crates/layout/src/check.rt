@@ -21,7 +21,8 @@ ghost use mathlib.Core.Bool.{_&&_};
 ghost use Prim.Native.Nat.{_+_, _-_, _*_, _^_, _≤_, _<_};
 ghost use lib.Dec.{eqb};
 ghost use lib.ListN.{length, drop};
-ghost use Rattle.layout.specs.Read.{read, nested, «payload-in» as payloadIn, «items-in» as itemsIn, «scalar-in» as scalarIn};
+ghost use Rattle.layout.specs.Read.{read, nested, «scalar-in» as scalarIn};
+ghost use Rattle.layout.specs.Read.{«payload-in» as payloadIn, «items-in» as itemsIn};
 ghost use Rattle.layout.specs.Entry.{lengths};
 ghost use Rattle.layout.specs.Place.{body, «table-ok» as tableOk, «parts-at» as partsAt};
 ghost use Rattle.layout.specs.Check.{checked, nesting};
@@ -31,7 +32,7 @@ pub enum Check {
     Refused(Refusal),
 }
 
-// Whether a record can stand inside another. A container of as many levels as there may be is too deep for it.
+// Whether a record can stand inside another. A container of 64 levels is readable, but too deep for that.
 pub enum Nesting {
     Fits,
     Deep,
@@ -41,7 +42,8 @@ pub enum Nesting {
 // Rule 5 for a table of n entries, the first `names` of them names: each is good, and the lengths sum to the bytes left.
 fn is_table(s: &[u8], n: usize, names: usize) -> bool
     requires { ⌜ (4 + 4 * n ≤ length (now s)) × (length (now s) ≤ 65536) ⌝ }
-    ensures { λ r. ⌜ r ≡ (tableOk (now (s .entry)) names 0 n && eqb (lengths (now (s .entry)) 0 n) (length (now (s .entry)) - (4 + 4 * n))) ⌝ }
+    ensures { λ r. ⌜ r
+        ≡ (tableOk (now (s .entry)) names 0 n && eqb (lengths (now (s .entry)) 0 n) (length (now (s .entry)) - (4 + 4 * n))) ⌝ }
 {
     let mut sum: usize = 0;
     let mut i = 0;
@@ -176,8 +178,8 @@ pub fn check_record(s: &[u8]) -> Check
     }
 }
 
-// Whether a record is readable, and one level inside another record still is. A container is checked with that level less, so
-// that a usual one is gone through once.
+// Whether a record is readable, and whether it still is one level inside another. The check starts with a level less, so that a
+// usual container is gone through once; one that this refuses is checked again by itself.
 pub fn check_nesting(s: &[u8]) -> Nesting
     ensures { λ r. ⌜ r ≡ nesting (read (now (s .entry))) ⌝ }
 {

@@ -36,9 +36,9 @@ cast-put-u32 c = let b = pairs-bounds (c .before .before .before .before .before
 
 put-members-requires : tie.Need-put-members-requires
 put-members-requires c κs = let b = pairs-bounds (c .before .before .before .before .before .before .before .before .before .before .before .args .names .now) (c .before .before .before .before .before .before .before .before .before .before .before .args .values .now) (octets-of (c .before .before .before .before .before .before .before .before .before .before .before .args .names .now) (λ i. omega (arith, c .before .before .before .before .before .before .before .before .before .before .shared-slice-known .given i))) (octets-of (c .before .before .before .before .before .before .before .before .before .before .before .args .values .now) (λ i. omega (arith, c .before .before .before .before .before .before .before .before .before .shared-slice-known2 .given i))) _ (c .before .before .before .before .before .before .before .before .before .before .before .pre .0) in (
-      (omega (arith, b .few), omega arith, omega arith, omega (arith, b .few), omega (arith, b .few)),
-      (omega arith, omega (arith, b .few), omega (arith, b .few), omega (arith, b .few, b .keys)),
-    )
+  (omega (arith, b .few), omega arith, omega arith, omega (arith, b .few), omega (arith, b .few)),
+  (omega arith, omega (arith, b .few), omega (arith, b .few), omega (arith, b .few, b .keys)),
+)
 
 returns-2 : tie.Need-returns-2
 returns-2 c = pairs-done (c .before .before .before .before .before .before .before .before .before .before .before .before .before .before .args .names .now) (c .before .before .before .before .before .before .before .before .before .before .before .before .before .before .args .values .now) (octets-of (c .before .before .before .before .before .before .before .before .before .before .before .before .before .before .args .names .now) (λ i. omega (arith, c .before .before .before .before .before .before .before .before .before .before .before .before .before .shared-slice-known .given i))) (octets-of (c .before .before .before .before .before .before .before .before .before .before .before .before .before .before .args .values .now) (λ i. omega (arith, c .before .before .before .before .before .before .before .before .before .before .before .before .shared-slice-known2 .given i))) _ (c .before .before .before .before .before .before .before .before .before .before .before .before .before .before .pre .0) _ (c .before .before .before .before .before .before .before .before .before .before .before .before .before .before .pre .1) _ refl _ (c .before .before .before .before .before .before .before .before .before .before .check-room .ensures) _ _ _ (c .before .before .before .before .before .before .before .before .enum-told .given .1) refl (c .before .before .before .before .before .before .put-u32 .ensures) (c .before .before .put-members .ensures)
