@@ -1,5 +1,6 @@
 -- Members in byte order: document 01, "Every object written anew has its names in byte order", "the first of any repeated names
--- remaining is kept", and "8 repeated name".
+-- remaining is kept", and "8 repeated name". How two names compare is layout's `order`, which says what its `_≺_` says: `says` of
+-- layout's proofs/Orders.antt.
 use mathlib.Core.Bool.{Bool, true, false, not, _&&_, _||_}
 use mathlib.Core.List.{List, [], _∷_}
 use mathlib.Core.Option.{Option, none, some}

@@ -28,7 +28,7 @@ pub(crate) fn are_strings(s: &[u8], n: usize) -> bool
 }
 
 // Whether two names are equal; unequal lengths tell it without a look at the bytes.
-pub(crate) fn is_same(a: &[u8], b: &[u8]) -> bool
+pub fn is_same(a: &[u8], b: &[u8]) -> bool
     ensures { λ r. ⌜ r ≡ same (now (a .entry)) (now (b .entry)) ⌝ }
 {
     if a.len() != b.len() {

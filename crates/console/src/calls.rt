@@ -6,11 +6,11 @@ use crate::say::say_fault;
 use crate::say::say_refused;
 use crate::text::Taken;
 use crate::text::count_arguments;
-use crate::text::is_word;
 use crate::text::trim;
 use crate::text::word_end;
 use crate::writing::Edit;
 use crate::writing::answer_two;
+use builders::names::is_same;
 use layout::check::Check;
 use layout::check::check_record;
 use layout::sound::Soundness;
@@ -68,16 +68,16 @@ pub(crate) fn answer(line: &[u8]) {
     let end = word_end(text);
     let word = slice(text, 0, end);
     let rest = slice(text, end, text.len() - end);
-    if is_word(word, b"check") {
+    if is_same(word, b"check") {
         return answer_one(Call::Check, rest);
     }
-    if is_word(word, b"sound") {
+    if is_same(word, b"sound") {
         return answer_one(Call::Sound, rest);
     }
-    if is_word(word, b"append") {
+    if is_same(word, b"append") {
         return answer_two(Edit::Append, rest);
     }
-    if is_word(word, b"build") {
+    if is_same(word, b"build") {
         return answer_two(Edit::Build, rest);
     }
     say(b"? there is no such call; there are check, sound, append and build\n");

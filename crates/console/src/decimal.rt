@@ -6,22 +6,13 @@ use crate::text::argument;
 use crate::text::count_arguments;
 use crate::text::trim;
 use layout::constants::RECORD_LIMIT;
-ghost use Prim.Native.Nat.{_≤_};
+use layout::writer::least;
 
 // The longest result, and the buffer's length where none is given.
 pub(crate) const RESULT_ROOM: usize = RECORD_LIMIT;
 
 // A digit's value is below this.
 const BASE: u8 = 10;
-
-pub(crate) fn least(a: usize, b: usize) -> usize
-    ensures { λ r. ⌜ r ≤ b ⌝ }
-{
-    if a < b {
-        return a;
-    }
-    b
-}
 
 // A number of any digits. It stops growing at the longest result, from which on every length serves alike.
 fn read_decimal(text: &[u8]) -> Taken {

@@ -1,6 +1,4 @@
 // Lines taken apart: spaces, words, arguments.
-use layout::order::Ordering;
-use layout::order::compare;
 use layout::util::slice;
 ghost use Prim.Native.Nat.{_≤_};
 ghost use lib.ListN.{length};
@@ -73,14 +71,6 @@ pub(crate) fn word_end(text: &[u8]) -> usize
         i += 1;
     }
     i
-}
-
-pub(crate) fn is_word(word: &[u8], name: &[u8]) -> bool {
-    match compare(word, name) {
-        Ordering::Less => false,
-        Ordering::Equal => true,
-        Ordering::Greater => false,
-    }
 }
 
 // How many arguments a text has, with `;` between them.

@@ -1,6 +1,5 @@
 // The calls that write a result.
 use crate::decimal::RESULT_ROOM;
-use crate::decimal::least;
 use crate::decimal::take_length;
 use crate::hex::RECORD_ROOM;
 use crate::hex::decode;
@@ -14,6 +13,7 @@ use builders::builder::append;
 use builders::builder::build_object;
 use layout::ending::Ending;
 use layout::util::slice;
+use layout::writer::least;
 
 // How many records the calls below take.
 const RECORDS: usize = 2;

@@ -43,7 +43,8 @@ pub(crate) fn put_be(out: &mut [u8], at: usize, n: usize, v: u64)
     }
 }
 
-fn least(a: usize, b: usize) -> usize
+// The lesser of two lengths.
+pub fn least(a: usize, b: usize) -> usize
     ensures { λ r. ⌜ r ≡ min a b ⌝ }
 {
     if a < b { a } else { b }
