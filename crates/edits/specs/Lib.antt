@@ -1,0 +1,10 @@
+-- The definitions of the edits, in reading order.
+
+-- What document 01 says.
+pub mod Path
+pub mod Find
+pub mod Delete
+pub mod Keypath
+-- Forms that follow the code, for the contracts inside the crate; theorems of proofs/ tie each to the definitions above.
+pub mod Steps
+pub mod Spot

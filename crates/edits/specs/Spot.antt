@@ -1,0 +1,63 @@
+-- The part of a container that a step finds, by its place. proofs/Spots.antt ties it to `step-into`.
+use Prim.Native.Nat.{ℕ, zero, suc, _+_, _*_}
+use mathlib.Core.Bool.{cond}
+use mathlib.Core.List.{List, [], _∷_}
+use mathlib.Core.Option.{Option, none as nothing, some}
+use lib.Dec.{ltb}
+use lib.IntN.{ℤ, pos, negsuc}
+use Rattle.layout.specs.Bytes.{Bytes}
+use Rattle.layout.specs.Entry.{length-of, entry-at, lengths}
+use Rattle.layout.specs.Place.{parts-at}
+use Rattle.layout.specs.declared.util.Header.{Header}
+use Rattle.layout.specs.declared.util.Header.the-variants.{Array, Object, Scalar, Refused}
+use Rattle.builders.specs.Order.{same}
+use Rattle.builders.specs.Search.{texts}
+use Rattle.edits.specs.Path.{Step}
+use Rattle.edits.specs.Find.{step-place, step-name}
+use Rattle.edits.specs.declared.find.PartAt.{PartAt}
+use Rattle.edits.specs.declared.find.Place.{Place}
+use Rattle.edits.specs.declared.find.Place.the-variants.{Nothing as NoPlace, At as AtPlace}
+use Rattle.edits.specs.declared.find.Spot.{Spot}
+use Rattle.edits.specs.declared.find.Spot.the-variants.{Nothing, At}
+
+abbrev pub place-told : Option ℕ → Place
+place-told nothing = NoPlace
+place-told (some k) = AtPlace k
+
+-- A place among `n` items.
+unfoldable pub inside : ℤ → ℕ → Option ℕ
+inside (pos k) n = cond (ltb k n) (some k) nothing
+inside (negsuc k) n = nothing
+
+-- Which of the names is the first that has equal bytes.
+abbrev pub one-more : Option ℕ → Option ℕ
+one-more nothing = nothing
+one-more (some k) = some (suc k)
+
+unfoldable pub first : Bytes → List Bytes → Option ℕ
+first n [] = nothing
+first n (m ∷ ns) = cond (same n m) (some 0) (one-more (first n ns))
+
+-- The part behind this one.
+abbrev pub behind : Bytes → PartAt → PartAt
+behind s p = record { index = p .index + 1; place = p .place + length-of (entry-at s (p .index)) }
+
+-- Part `k` of a container of `n`.
+abbrev pub nth-part : Bytes → ℕ → ℕ → PartAt
+nth-part s n k = record { index = k; place = 4 + 4 * n + lengths s 0 k }
+
+unfoldable pub spot-at : Bytes → ℕ → Option ℕ → Spot
+spot-at s n nothing = Nothing
+spot-at s n (some k) = At (nth-part s n k)
+
+-- The value of member `k` of `n`: its part stands behind those of the names.
+unfoldable pub spot-member : Bytes → ℕ → Option ℕ → Spot
+spot-member s n nothing = Nothing
+spot-member s n (some k) = At (nth-part s (n + n) (n + k))
+
+unfoldable pub spot : Header → Bytes → Step → Spot
+unfolding spot-at spot-member
+spot (Array n) s t = spot-at s n (step-place t n)
+spot (Object n) s t = spot-member s n (first (step-name t) (texts (parts-at s 0 (4 + 4 * (n + n)) n)))
+spot (Scalar n) s t = Nothing
+spot (Refused r) s t = Nothing

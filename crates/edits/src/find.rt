@@ -1,0 +1,174 @@
+// One step inward: the part of a container that a step finds.
+use crate::keypath::KeyPath;
+use crate::keypath::key_of;
+use crate::keypath::put_index;
+use builders::names::is_same;
+use layout::constants::HEADER_SIZE;
+use layout::constants::JENTRY_SIZE;
+use layout::jentry::payload_len;
+use layout::jentry::read_jentry;
+use layout::util::Header;
+use layout::util::read_header;
+use layout::util::slice;
+ghost use mathlib.Core.Path.{_≡_};
+ghost use Prim.Native.Nat.{_+_, _-_, _*_, _^_, _≤_, _<_};
+ghost use Rattle.layout.specs.Entry.{«code-of» as codeOf, lengths};
+ghost use Rattle.layout.specs.Place.{«parts-at» as partsAt};
+ghost use Rattle.layout.specs.Read.{header};
+ghost use Rattle.builders.specs.Search.{texts};
+ghost use Rattle.edits.specs.Steps.{«code-key» as codeKey, «key-place» as keyPlace, step};
+ghost use Rattle.edits.specs.Spot.{«place-told» as placeTold, inside, first, behind, «spot-at» as spotAt};
+ghost use Rattle.edits.specs.Spot.{«spot-member» as spotMember, spot};
+ghost use Rattle.edits.specs.Find.{place, «step-name» as stepName};
+
+// Room for the decimal text of an index: a sign and ten digits.
+const INDEX_ROOM: usize = 11;
+
+// A part of a container: the number of its entry, and the place of its payload. An object of n members has 2n parts, the names
+// and then the values.
+pub struct PartAt {
+    pub index: usize,
+    pub place: usize,
+}
+
+// Where a step leads.
+pub enum Spot {
+    Nothing,
+    At(PartAt),
+}
+
+// Which of n items is meant.
+pub enum Place {
+    Nothing,
+    At(usize),
+}
+
+// The item at a place, where there is one.
+fn place_in(z: i64, n: usize) -> Place
+    ensures { λ r. ⌜ r ≡ placeTold (inside z n) ⌝ }
+{
+    if z < 0 {
+        return Place::Nothing;
+    }
+    let k = z as usize;
+    if k < n {
+        return Place::At(k);
+    }
+    Place::Nothing
+}
+
+// The item that an index stands for: a negative one counts back from the end.
+fn place_of(i: i32, n: usize) -> Place
+    requires { ⌜ n < 2 ^ 29 ⌝ }
+    ensures { λ r. ⌜ r ≡ placeTold (place i n) ⌝ }
+{
+    if i < 0 {
+        return place_in((n as i64) + (i as i64), n);
+    }
+    place_in(i as i64, n)
+}
+
+// Where the payload of part `to` stands: behind those from `from` on.
+pub(crate) fn place_after(s: &[u8], from: PartAt, to: usize) -> usize
+    requires { ⌜ (from .index ≤ to) × (to < 2 ^ 30) × (from .place < 2 ^ 60) ⌝ }
+    ensures { λ r. ⌜ r ≡ from .place + lengths (now (s .entry)) (from .index) (to - from .index) ⌝ }
+{
+    let mut place = from.place;
+    let mut i = from.index;
+    while i < to {
+        place += payload_len(read_jentry(s, i)) as usize;
+        i += 1;
+    }
+    place
+}
+
+// The part behind this one.
+pub(crate) fn part_behind(s: &[u8], part: PartAt) -> PartAt
+    requires { ⌜ (part .index ≤ 2 ^ 30) × (part .place < 2 ^ 60) ⌝ }
+    ensures { λ r. ⌜ r ≡ behind (now (s .entry)) part ⌝ }
+{
+    PartAt {
+        index: part.index + 1,
+        place: part.place + payload_len(read_jentry(s, part.index)) as usize,
+    }
+}
+
+// The first of n names that has equal bytes.
+fn find_name(s: &[u8], n: usize, name: &[u8]) -> Spot
+    requires { ⌜ n < 2 ^ 29 ⌝ }
+    ensures { λ r. ⌜ r ≡ spotAt (now (s .entry)) (n + n) (first (now (name .entry)) (texts (partsAt (now (s .entry)) 0 (4 + 4 * (n + n)) n))) ⌝ }
+{
+    let mut place = HEADER_SIZE + JENTRY_SIZE * (n + n);
+    let mut i = 0;
+    while i < n {
+        let len = payload_len(read_jentry(s, i)) as usize;
+        if is_same(name, slice(s, place, len)) {
+            return Spot::At(PartAt { index: i, place });
+        }
+        place += len;
+        i += 1;
+    }
+    Spot::Nothing
+}
+
+// The value of the first of n members whose name has equal bytes.
+fn find_member(s: &[u8], n: usize, name: &[u8]) -> Spot
+    requires { ⌜ n < 2 ^ 29 ⌝ }
+    ensures { λ r. ⌜ r ≡ spotMember (now (s .entry)) n (first (now (name .entry)) (texts (partsAt (now (s .entry)) 0 (4 + 4 * (n + n)) n))) ⌝ }
+{
+    let Spot::At(key) = find_name(s, n, name) else {
+        return Spot::Nothing;
+    };
+    let index = n + key.index;
+    Spot::At(PartAt {
+        index,
+        place: place_after(s, key, index),
+    })
+}
+
+// The item of an array that a step finds: a name finds nothing.
+fn find_item(s: &[u8], n: usize, key: KeyPath) -> Spot
+    requires { ⌜ n < 2 ^ 29 ⌝ }
+    ensures { λ r. ⌜ r ≡ spotAt (now (s .entry)) n (keyPlace key n) ⌝ }
+{
+    let KeyPath::Index(i) = key else {
+        return Spot::Nothing;
+    };
+    let Place::At(index) = place_of(i, n) else {
+        return Spot::Nothing;
+    };
+    let start = PartAt {
+        index: 0,
+        place: HEADER_SIZE + JENTRY_SIZE * n,
+    };
+    Spot::At(PartAt {
+        index,
+        place: place_after(s, start, index),
+    })
+}
+
+// The value of an object that a step finds: an index stands for its decimal text.
+fn find_value(s: &[u8], n: usize, key: KeyPath, text: &[u8]) -> Spot
+    requires { ⌜ n < 2 ^ 29 ⌝ }
+    ensures { λ r. ⌜ r ≡ spotMember (now (s .entry)) n (first (stepName (step key (now (text .entry)))) (texts (partsAt (now (s .entry)) 0 (4 + 4 * (n + n)) n))) ⌝ }
+{
+    let KeyPath::Index(i) = key else {
+        return find_member(s, n, text);
+    };
+    let mut digits = [0u8; INDEX_ROOM];
+    let len = put_index(i, &mut digits);
+    find_member(s, n, slice(&digits, 0, len))
+}
+
+// The part that the step with this entry and payload finds in a record; a step into a scalar finds nothing.
+pub(crate) fn find_step(s: &[u8], jentry: u32, text: &[u8]) -> Spot
+    ensures { λ r. ⌜ r ≡ spot (header (now (s .entry))) (now (s .entry)) (step (codeKey (codeOf jentry) (now (text .entry))) (now (text .entry))) ⌝ }
+{
+    let key = key_of(jentry, text);
+    match read_header(s) {
+        Header::Array(n) => find_item(s, n, key),
+        Header::Object(n) => find_value(s, n, key, text),
+        Header::Scalar(_) => Spot::Nothing,
+        Header::Refused(_) => Spot::Nothing,
+    }
+}

@@ -1,0 +1,3 @@
+// The edits: look-up and delete by a path.
+pub mod find;
+pub mod keypath;
