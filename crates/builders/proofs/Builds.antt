@@ -42,13 +42,15 @@ use Rattle.builders.specs.Order.{in-order, distinct}
 use Rattle.builders.specs.Build.{items-of, texts-of, count, build, on-two}
 use Rattle.builders.specs.Join.{given-start, Lies, joined}
 use Rattle.builders.specs.Room.{room-for, sized}
+use Rattle.builders.specs.declared.search.Kept.the-variants.{All}
 use Rattle.builders.specs.declared.room.Room.{Room}
 use Rattle.builders.specs.declared.room.Room.the-variants.{Serves, Refused as NoRoom}
-use Rattle.builders.specs.Search.{texts, strings-at, name-in, value-in, members-at, sorted, Pairs}
+use Rattle.builders.specs.Search.{texts, strings-at, name-in, value-in, members-at, kept-of, sorted, Pairs}
 use Rattle.builders.specs.Weave.{woven}
 use Rattle.builders.specs.declared.join.Given.the-variants.{Table}
 use Rattle.builders.specs.declared.search.Places.{Places}
 use Rattle.builders.proofs.InOrders.{rising-in-order, rising-distinct, in-order-count, in-order-names, in-order-size, in-order-depth}
+use Rattle.builders.proofs.Searches.{kept-all}
 use Rattle.builders.proofs.Stands.{Stand, stand-sorted, stand-from}
 use Rattle.builders.proofs.Weaves.{woven-record, entries-append}
 use Rattle.builders.proofs.Joins.{Gives, few, count-table}
@@ -317,15 +319,12 @@ module _ (ks vs : Bytes) (n : ℕ) (ts us : Items) (kk : Known ks (array ts)) (k
             (sorted (name-in ks) (members-at ks vs from n))
             → Ended (Done len) o o₂ (on-two build ks vs (length o))
         sorted-done w o₁ o₂ serves ew e₁ e₂ =
-            let a : 4 + 4 * n + 4 * n ≡ 4 + 8 * n = omega arith in
-            let b : length ks + 4 * n ≡ 4 + 8 * n + length (payloads (name-parts (names ms))) = omega (arith, length-keys, name-bytes) in
+            let d : length ks + 4 * n ≡ 4 + 4 * n + 4 * n + length (payloads (name-parts (names (in-order ms)))) =
+            omega (arith, length-keys, name-bytes, in-order-names ms distinct-ms) in
             let k : n ≡ length (member-parts (in-order ms)) = eu ∙ sym (ap length parts-ms) ∙ sym (in-order-count ms distinct-ms) in
             let hw : w ≡ 2 ^ 30 + n = ew ∙ header-word ∙ ap (λ j. 2 ^ 30 + j) (ap length parts-ms ∙ sym eu) in
-            let e₂′ =
-            e₂ ∙ ap₂ (λ c d. woven (name-in ks) (value-in vs) o₁ 4 (4 + 4 * n) c d (sorted (name-in ks) (members-at ks vs from n))) a b in
             let st = stand-sorted (name-in ks) (value-in vs) (members-at ks vs from n) ms stand in
-            let r = woven-record (name-in ks) (value-in vs) _ (in-order ms) o o₁ o₂ n _ st k (sym (in-order-names ms distinct-ms))
-            (rw (← hw) e₁) e₂′ in
+            let r = woven-record (name-in ks) (value-in vs) _ (in-order ms) o o₁ o₂ 0 n _ _ _ _ st k refl refl refl d (rw (← hw) e₁) e₂ in
             ends _ o₂ _ distinct-ns refl (sized-done (encode (object (in-order ms))) o len (el ∙ result-length) room hr o₂ serves r)
 
 -- What a readable array is.
@@ -391,11 +390,12 @@ module _ (ks vs : Bytes) (ok : Octets ks) (ov : Octets vs) (n : ℕ) (pairs : Pa
 
       pub pairs-done : (w : ℕ) (o₁ o₂ : Bytes) → room ≡ Serves → w ≡ bitOr (2 ^ 30) n → o₁ ≡ patch o 0 (be32 w)
           → o₂ ≡ woven (name-in ks) (value-in vs) o₁ 4 (4 + 4 * n) (4 + 4 * n + 4 * n) (length ks + 4 * n)
-          (sorted (name-in ks) (members-at ks vs (record { «key_jentry» = 4; «val_jentry» = 4; key = 4 + 4 * n; val = 4 + 4 * n }) n))
+          (sorted (name-in ks)
+          (kept-of All 0 (members-at ks vs (record { «key_jentry» = 4; «val_jentry» = 4; key = 4 + 4 * n; val = 4 + 4 * n }) n)))
           → On (Done len) o₂
-      pairs-done =
+      pairs-done w o₁ o₂ serves ew e₁ e₂ =
           sorted-done ks vs n (keys-known .0) (vals-known .0) (keys-known .1) (vals-known .1) (keys-known .2) (vals-known .2)
-          (pairs .strings) o dist len el room hr
+          (pairs .strings) o dist len el room hr w o₁ o₂ serves ew e₁ (rw (kept-all 0) at e₂)
 
 -- Before the pairs are known: the numbers in their order.
 module _ (ks vs o : Bytes) (ok : Octets ks) (ov : Octets vs) (c : Check) (hc : c ≡ checked (read ks)) where

@@ -12,8 +12,10 @@ use Rattle.layout.specs.Order.{order, is-less, before}
 use Rattle.layout.specs.declared.order.Ordering.{Ordering}
 use Rattle.layout.specs.declared.order.Ordering.the-variants.{Less, Equal, Greater}
 use Rattle.builders.specs.Order.{by}
-use Rattle.builders.specs.Search.{members-from, Bound, start, after, over, better, step, least, put-in, put-all, sorted, nth}
+use Rattle.builders.specs.Search.{members-from, is-kept, kept-of, Bound, start, after, over, better, step, least, put-in, put-all, sorted, nth}
 use Rattle.builders.specs.declared.search.MemberAt.{MemberAt}
+use Rattle.builders.specs.declared.search.Kept.{Kept}
+use Rattle.builders.specs.declared.search.Kept.the-variants.{All}
 use Rattle.builders.specs.declared.search.Found.{Found}
 use Rattle.builders.specs.declared.search.Found.the-variants.{Nothing, At}
 use Rattle.builders.proofs.Orderings.{turned, order-refl, order-turn, order-trans, order-equal}
@@ -234,3 +236,18 @@ unfolding members-from
 length-members ks vs a b p q zero = refl
 length-members ks vs a b p q (suc k) =
     ap suc (length-members ks vs (a + 4) (b + 4) (p + length-of (word-at ks a)) (q + length-of (word-at vs b)) k)
+
+-- Members that are left out make the list no longer, and where none is left out it stays.
+one-fewer : (g : Bool) (m : MemberAt) (ms : List MemberAt) (n : ℕ) → length ms ≤ n → length (cond g (m ∷ ms) ms) ≤ suc n
+one-fewer true m ms n h = omega arith
+one-fewer false m ms n h = omega arith
+
+pub length-kept : (k : Kept) (i : ℕ) (ms : List MemberAt) → length (kept-of k i ms) ≤ length ms
+unfolding kept-of
+length-kept k i [] = omega arith
+length-kept k i (m ∷ ms) = one-fewer (is-kept k i) m (kept-of k (i + 1) ms) (length ms) (length-kept k (i + 1) ms)
+
+pub kept-all : (i : ℕ) (ms : List MemberAt) → kept-of All i ms ≡ ms
+unfolding kept-of is-kept
+kept-all i [] = refl
+kept-all i (m ∷ ms) = ap (λ (l : List MemberAt). m ∷ l) (kept-all (i + 1) ms)

@@ -94,7 +94,7 @@ module _ (name value : MemberAt → Bytes) where
   stand-values (x ∷ xs) (member n t ms) h = ap₂ _++_ (h .0 .3) (stand-values xs ms (h .1))
 
 -- A table row: an entry and its payload, with those of other parts behind them.
-table-row : (s : Bytes) (a p : ℕ) (e : Part) (ps : List Part) (x y : Bytes) → Fits e
+pub table-row : (s : Bytes) (a p : ℕ) (e : Part) (ps : List Part) (x y : Bytes) → Fits e
     → drop a s ≡ entries (e ∷ ps) ++ x → drop p s ≡ payloads (e ∷ ps) ++ y
     → (word-at s a ≡ entry-word e) × (take (length-of (word-at s a)) (drop p s) ≡ e .bytes)
     × (drop (a + 4) s ≡ entries ps ++ x) × (drop (p + length-of (word-at s a)) s ≡ payloads ps ++ y)

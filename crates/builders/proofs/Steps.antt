@@ -2,16 +2,20 @@
 use Prim.Native.Nat.{ℕ, suc, _+_, _-_, _<_, _≤_}
 use native.Mathlib.Omega.{arith}
 use native.Mathlib.Nat.{sub-zero}
-use mathlib.Core.Path.{_≡_}
-use mathlib.Core.Bool.{Bool, true, false}
+use mathlib.Core.Path.{_≡_, refl}
+use mathlib.Core.Bool.{Bool, true, false, not, cond}
+use mathlib.Core.List.{List, _∷_}
+use lib.Dec.{eqb}
 use lib.ListN.{take, drop}
 use Rattle.layout.specs.Bytes.{Bytes}
 use Rattle.layout.specs.Entry.{length-of}
 use Rattle.layout.specs.Order.{before}
-use Rattle.builders.specs.Search.{bytes-at, name-in, member-at, members-from, members-at, Bound, bound, over, better, step, least}
+use Rattle.builders.specs.Search.{bytes-at, name-in, member-at, members-from, members-at, is-kept, kept-of, Bound, bound, over, better, step, turn, least}
 use Rattle.builders.specs.declared.search.ItemAt.{ItemAt}
 use Rattle.builders.specs.declared.search.MemberAt.{MemberAt}
 use Rattle.builders.specs.declared.search.Places.{Places}
+use Rattle.builders.specs.declared.search.Kept.{Kept}
+use Rattle.builders.specs.declared.search.Kept.the-variants.{All, But}
 use Rattle.builders.specs.declared.search.Found.{Found}
 use Rattle.builders.specs.declared.search.Found.the-variants.{Nothing, At}
 
@@ -51,31 +55,56 @@ module _ (key : MemberAt → Bytes) (best : Found) (m : MemberAt) where
     unfolding step
     step-under t = rw (← hn, ← hg, t)
 
--- The loop over the members.
-module _ (ks vs : Bytes) (last : Bound) (best : Found) (at : Places) (n : ℕ) where
-  abbrev from-here : ℕ → Found
-  from-here k = least (name-in ks) last best (members-at ks vs at k)
+  pub turn-searched : (last : Bound) (g : Bool) (r : Found) → g ≡ true → r ≡ step key last best m → r ≡ turn key last g best m
+  unfolding turn
+  turn-searched last g r t h = rw t h
 
-  pub search-starts : from-here n ≡ from-here (n - 0)
+  pub turn-left-out : (last : Bound) (g : Bool) → g ≡ false → best ≡ turn key last g best m
+  unfolding turn
+  turn-left-out last g t = rw t
+
+module _ (k : Kept) (i : ℕ) where
+  pub kept-always : k ≡ All → true ≡ is-kept k i
+  unfolding is-kept
+  kept-always e = rw e
+
+  pub kept-unless : (j : ℕ) → k ≡ But j → not (eqb i j) ≡ is-kept k i
+  unfolding is-kept
+  kept-unless j e = rw e
+
+-- A member that is searched, or left out, and the rest.
+least-kept : (key : MemberAt → Bytes) (last : Bound) (best : Found) (g : Bool) (m : MemberAt) (ms : List MemberAt)
+    → least key last best (cond g (m ∷ ms) ms) ≡ least key last (turn key last g best m) ms
+unfolding least turn
+least-kept key last best true m ms = refl
+least-kept key last best false m ms = refl
+
+-- The loop over the members.
+module _ (ks vs : Bytes) (kept : Kept) (last : Bound) (best : Found) (at : Places) (n : ℕ) where
+  abbrev from-here : ℕ → ℕ → Found
+  from-here i k = least (name-in ks) last best (kept-of kept i (members-at ks vs at k))
+
+  pub search-starts : from-here 0 n ≡ from-here 0 (n - 0)
   search-starts = rw (sub-zero n)
 
   module _ (i : ℕ) where
-    pub search-ends : n ≤ i → from-here (n - i) ≡ best
-    unfolding members-at members-from least
+    pub search-ends : n ≤ i → from-here i (n - i) ≡ best
+    unfolding members-at members-from kept-of least
     search-ends h = let z : n - i ≡ 0 = omega arith in rw z
 
-    pub search-turns : (m : MemberAt) (next : Found) (kl vl : ℕ) → i < n
-        → m ≡ member-at ks vs (at .«key_jentry») (at .«val_jentry») (at .key) (at .val) → next ≡ step (name-in ks) last best m
+    pub search-turns : (m : MemberAt) (g : Bool) (next : Found) (kl vl : ℕ) → i < n
+        → m ≡ member-at ks vs (at .«key_jentry») (at .«val_jentry») (at .key) (at .val)
+        → g ≡ is-kept kept i → next ≡ turn (name-in ks) last g best m
         → kl ≡ length-of (m .key .jentry) → vl ≡ length-of (m .val .jentry)
-        → from-here (n - i)
+        → from-here i (n - i)
         ≡ least (name-in ks) last next
-        (members-at ks vs (record {
+        (kept-of kept (i + 1) (members-at ks vs (record {
           «key_jentry» = at .«key_jentry» + 4;
           «val_jentry» = at .«val_jentry» + 4;
           key = at .key + kl;
           val = at .val + vl;
-        }) (n - (i + 1)))
-    unfolding members-at members-from least
-    search-turns m next kl vl h e s k v =
+        }) (n - (i + 1))))
+    unfolding members-at members-from kept-of
+    search-turns m g next kl vl h e t s k v =
         let q : n - i ≡ suc (n - (i + 1)) = omega arith in
-        rw (q, s, k, v, e)
+        rw (q, s, k, v, e, t) (least-kept (name-in ks) last best (is-kept kept i) _ _)

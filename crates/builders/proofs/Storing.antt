@@ -12,14 +12,15 @@ use Rattle.layout.specs.Bytes.{Bytes, be32}
 use Rattle.layout.specs.Patch.{patch}
 use Rattle.layout.proofs.Fields.{length-lt}
 use Rattle.layout.proofs.Patches.{length-patch}
-use Rattle.builders.specs.Search.{bytes-at, name-in, value-in, members-at, bound, least, sorted, nth}
+use Rattle.builders.specs.Search.{bytes-at, name-in, value-in, members-at, kept-of, bound, least, sorted, nth}
 use Rattle.builders.specs.Weave.{behind, stored, woven}
 use Rattle.builders.specs.declared.search.ItemAt.{ItemAt}
 use Rattle.builders.specs.declared.search.MemberAt.{MemberAt}
 use Rattle.builders.specs.declared.search.Places.{Places}
+use Rattle.builders.specs.declared.search.Kept.{Kept}
 use Rattle.builders.specs.declared.search.Found.{Found}
 use Rattle.builders.specs.declared.search.Found.the-variants.{Nothing, At}
-use Rattle.builders.proofs.Searches.{bound-at, bound-next, search-nth, length-sorted, length-members, nth-none, nth-inside, nth-drop}
+use Rattle.builders.proofs.Searches.{bound-at, bound-next, search-nth, length-sorted, length-members, length-kept, nth-none, nth-inside, nth-drop}
 
 -- A payload is no longer than an entry can say.
 pub payload-short : (s r : Bytes) (x : ItemAt) → r ≡ bytes-at s x → length r < 2 ^ 28
@@ -37,9 +38,12 @@ module _ (ks vs : Bytes) (m : MemberAt) (n v : Bytes) (hn : n ≡ bytes-at ks (m
   member-stored o o₁ o₂ o₃ o₄ e₁ e₂ e₃ e₄ = rw (e₄, e₃, e₂, e₁, hn, hv)
 
 -- The loop: `i` members of those in byte order are stored, and the rest is to come.
-module _ (ks vs : Bytes) (from : Places) (n : ℕ) (o : Bytes) (to : Places) where
+module _ (ks vs : Bytes) (from : Places) (n : ℕ) (kept : Kept) (o : Bytes) (to : Places) where
+  abbrev searched : List MemberAt
+  searched = kept-of kept 0 (members-at ks vs from n)
+
   abbrev in-turn : List MemberAt
-  in-turn = sorted (name-in ks) (members-at ks vs from n)
+  in-turn = sorted (name-in ks) searched
 
   abbrev weave : Bytes → Places → List MemberAt → Bytes
   weave out at = woven (name-in ks) (value-in vs) out (at .«key_jentry») (at .«val_jentry») (at .key) (at .val)
@@ -52,7 +56,7 @@ module _ (ks vs : Bytes) (from : Places) (n : ℕ) (o : Bytes) (to : Places) whe
     pub near-key : at .key ≤ to .key + 2 ^ 28 * i
     pub near-val : at .val ≤ to .val + 2 ^ 28 * i
     pub run : weave o to in-turn ≡ weave out at (drop i in-turn)
-    pub kept : length out ≡ length o
+    pub as-long : length out ≡ length o
 
   pub begins : (last : Bytes) → Stored o last to 0
   unfolding bound-at
@@ -65,7 +69,7 @@ module _ (ks vs : Bytes) (from : Places) (n : ℕ) (o : Bytes) (to : Places) whe
         near-key = omega arith;
         near-val = omega arith;
         run = refl;
-        kept = refl;
+        as-long = refl;
       }
 
   in-turn-few : length in-turn ≤ n
@@ -73,7 +77,8 @@ module _ (ks vs : Bytes) (from : Places) (n : ℕ) (o : Bytes) (to : Places) whe
   in-turn-few =
       omega (
         arith,
-        length-sorted (name-in ks) (members-at ks vs from n),
+        length-sorted (name-in ks) searched,
+        length-kept kept 0 (members-at ks vs from n),
         length-members ks vs (from .«key_jentry») (from .«val_jentry») (from .key) (from .val) n,
       )
 
@@ -85,11 +90,11 @@ module _ (ks vs : Bytes) (from : Places) (n : ℕ) (o : Bytes) (to : Places) whe
     pub ends-full : n ≤ i → out ≡ weave o to in-turn
     ends-full h = ended (omega (arith, in-turn-few))
 
-    module _ (found : Found) (hf : found ≡ least (name-in ks) (bound (eqb i 0) last) Nothing (members-at ks vs from n)) where
+    module _ (found : Found) (hf : found ≡ least (name-in ks) (bound (eqb i 0) last) Nothing searched) where
       next-is : found ≡ nth in-turn i
       next-is =
-          hf ∙ ap (λ b. least (name-in ks) b Nothing (members-at ks vs from n)) (now .known)
-          ∙ search-nth (name-in ks) (members-at ks vs from n) i (now .count)
+          hf ∙ ap (λ b. least (name-in ks) b Nothing searched) (now .known)
+          ∙ search-nth (name-in ks) searched i (now .count)
 
       pub ends-early : found ≡ Nothing → out ≡ weave o to in-turn
       ends-early q = ended (nth-none in-turn i (sym next-is ∙ q))
@@ -113,7 +118,7 @@ module _ (ks vs : Bytes) (from : Places) (n : ℕ) (o : Bytes) (to : Places) whe
             near-key = rw (h .0) (omega (arith, now .near-key, ln));
             near-val = rw (h .0) (omega (arith, now .near-val, lv));
             run = now .run ∙ rw (cut, add-one i, h .0, h .1);
-            kept = ap length (h .1) ∙ length-stored ∙ now .kept;
+            as-long = ap length (h .1) ∙ length-stored ∙ now .as-long;
           }
         where
           length-stored : length (stored (name-in ks) (value-in vs) out (at .«key_jentry») (at .«val_jentry») (at .key) (at .val) m) ≡ length out

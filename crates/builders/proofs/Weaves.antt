@@ -81,45 +81,47 @@ module _ (name value : MemberAt → Bytes) where
       ∙ four-grow o a b c d (key-entry m) (column key-entry ms) (val-entry m) (column val-entry ms) (name m) (column name ms) (value m) (column value ms) h k l
 
 -- A header and four regions in a row are one.
-five-append : (o h x y z w : Bytes) (p q r s : ℕ) → p ≡ length h → q ≡ p + length x → r ≡ q + length y → s ≡ r + length z
-    → patch (patch (patch (patch (patch o 0 h) p x) q y) r z) s w ≡ patch o 0 (h ++ ((x ++ y) ++ (z ++ w)))
-five-append o h x y z w p q r s e₁ e₂ e₃ e₄ =
+five-append : (o : Bytes) (at : ℕ) (h x y z w : Bytes) (p q r s : ℕ) → p ≡ at + length h → q ≡ p + length x → r ≡ q + length y
+    → s ≡ r + length z
+    → patch (patch (patch (patch (patch o at h) p x) q y) r z) s w ≡ patch o at (h ++ ((x ++ y) ++ (z ++ w)))
+five-append o at h x y z w p q r s e₁ e₂ e₃ e₄ =
     let l₁ = length-append h x in
     let l₂ = length-append (h ++ x) y in
     let l₃ = length-append ((h ++ x) ++ y) z in
-    patch-then _ _ _ 0 s (((h ++ x) ++ y) ++ z) w
-    (patch-then _ _ _ 0 r ((h ++ x) ++ y) z
-    (patch-then _ _ _ 0 q (h ++ x) y
-    (patch-then o _ _ 0 p h x refl refl (omega arith))
+    patch-then _ _ _ at s (((h ++ x) ++ y) ++ z) w
+    (patch-then _ _ _ at r ((h ++ x) ++ y) z
+    (patch-then _ _ _ at q (h ++ x) y
+    (patch-then o _ _ at p h x refl refl e₁)
     refl (omega arith))
     refl (omega arith))
     refl (omega arith)
-    ∙ ap (patch o 0) (simp append-assoc)
+    ∙ ap (patch o at) (simp append-assoc)
 
 pub entries-append : (ps qs : List Part) → entries (ps ++ qs) ≡ entries ps ++ entries qs
 entries-append [] qs = refl
 entries-append (p ∷ ps) qs = rw (entries-append ps qs, append-assoc)
 
 -- The header first, then the members: the record of the object.
-pub woven-record : (name value : MemberAt → Bytes) (xs : List MemberAt) (ms : Members) (o o₁ o₂ : Bytes) (n l : ℕ)
-    → Stand name value xs ms → n ≡ length (member-parts ms) → l ≡ length (payloads (name-parts (names ms)))
-    → o₁ ≡ patch o 0 (be32 (2 ^ 30 + n)) → o₂ ≡ woven name value o₁ 4 (4 + 4 * n) (4 + 8 * n) (4 + 8 * n + l) xs
-    → o₂ ≡ patch o 0 (encode (object ms))
-woven-record name value xs ms o o₁ o₂ n l h en el e₁ e₂ =
-    let a = stand-key-entries name value xs ms h in
-    let b = stand-val-entries name value xs ms h in
-    let c = stand-names name value xs ms h in
-    let d = stand-values name value xs ms h in
+pub woven-record : (name value : MemberAt → Bytes) (xs : List MemberAt) (ms : Members) (o o₁ o₂ : Bytes) (at n a b c d : ℕ)
+    → Stand name value xs ms → n ≡ length (member-parts ms)
+    → a ≡ at + 4 → b ≡ a + 4 * n → c ≡ b + 4 * n → d ≡ c + length (payloads (name-parts (names ms)))
+    → o₁ ≡ patch o at (be32 (2 ^ 30 + n)) → o₂ ≡ woven name value o₁ a b c d xs
+    → o₂ ≡ patch o at (encode (object ms))
+woven-record name value xs ms o o₁ o₂ at n a b c d h en ha hb hc hd e₁ e₂ =
     let ks : List Part = name-parts (names ms) in
     let vs : List Part = member-parts ms in
+    let ea = stand-key-entries name value xs ms h in
+    let eb = stand-val-entries name value xs ms h in
+    let ec = stand-names name value xs ms h in
+    let ed = stand-values name value xs ms h in
     let la : length (entries ks) ≡ 4 * n = rw en (entries-length ks ∙ ap (λ (i : ℕ). 4 * i) (names-count ms)) in
     let lb : length (entries vs) ≡ 4 * n = rw en (entries-length vs) in
-    let ha : 4 + length (column key-entry xs) ≤ 4 + 4 * n = rw a (omega arith) in
-    let hb : 4 + 4 * n + length (column val-entry xs) ≤ 4 + 8 * n = rw b (omega arith) in
-    let hc : 4 + 8 * n + length (column name xs) ≤ 4 + 8 * n + l = rw c (omega arith) in
+    let fa : a + length (column key-entry xs) ≤ b = rw ea (omega arith) in
+    let fb : b + length (column val-entry xs) ≤ c = rw eb (omega arith) in
+    let fc : c + length (column name xs) ≤ d = rw ec (omega arith) in
     e₂
-    ∙ woven-is name value o₁ 4 (4 + 4 * n) (4 + 8 * n) (4 + 8 * n + l) xs ha hb hc
-    ∙ rw (e₁, a, b, c, d)
-    (five-append o (be32 (2 ^ 30 + n)) (entries ks) (entries vs) (payloads ks) (payloads vs) 4 (4 + 4 * n) (4 + 8 * n) (4 + 8 * n + l)
-    (sym (length-be32 (2 ^ 30 + n))) (omega arith) (omega arith) (omega arith)
+    ∙ woven-is name value o₁ a b c d xs fa fb fc
+    ∙ rw (e₁, ea, eb, ec, ed)
+    (five-append o at (be32 (2 ^ 30 + n)) (entries ks) (entries vs) (payloads ks) (payloads vs) a b c d
+    (omega (arith, length-be32 (2 ^ 30 + n))) (omega arith) (omega arith) (omega arith)
     ∙ rw (en, entries-append, payloads-append))

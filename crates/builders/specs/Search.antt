@@ -3,7 +3,7 @@
 -- proofs/Stands.antt that `sorted` is `in-order`.
 use Prim.Native.Nat.{ℕ, zero, suc, _+_}
 use mathlib.Core.Path.{_≡_}
-use mathlib.Core.Bool.{Bool, true, false, cond, _&&_}
+use mathlib.Core.Bool.{Bool, true, false, not, cond, _&&_}
 use mathlib.Core.List.{List, [], _∷_}
 use lib.Dec.{eqb}
 use lib.ListN.{take, drop}
@@ -19,6 +19,8 @@ use Rattle.builders.specs.Order.{by}
 use Rattle.builders.specs.declared.search.ItemAt.{ItemAt}
 use Rattle.builders.specs.declared.search.MemberAt.{MemberAt}
 use Rattle.builders.specs.declared.search.Places.{Places}
+use Rattle.builders.specs.declared.search.Kept.{Kept}
+use Rattle.builders.specs.declared.search.Kept.the-variants.{All, But}
 use Rattle.builders.specs.declared.search.Found.{Found}
 use Rattle.builders.specs.declared.search.Found.the-variants.{Nothing, At}
 
@@ -58,6 +60,15 @@ members-from ks vs a b p q (suc k) =
 unfoldable pub members-at : Bytes → Bytes → Places → ℕ → List MemberAt
 members-at ks vs w k = members-from ks vs (w .«key_jentry») (w .«val_jentry») (w .key) (w .val) k
 
+-- Members some of which are left out, where the first of them stands behind `i` others.
+unfoldable pub is-kept : Kept → ℕ → Bool
+is-kept All i = true
+is-kept (But k) i = not (eqb i k)
+
+unfoldable pub kept-of : Kept → ℕ → List MemberAt → List MemberAt
+kept-of k i [] = []
+kept-of k i (m ∷ ms) = cond (is-kept k i) (m ∷ kept-of k (i + 1) ms) (kept-of k (i + 1) ms)
+
 -- Names above the last one taken; at first, all.
 pub data Bound : Type 0 where
   start : Bound
@@ -79,6 +90,10 @@ module _ (key : MemberAt → Bytes) where
 
   unfoldable pub step : Bound → Found → MemberAt → Found
   step last best m = cond (over last (key m)) (better best m) best
+
+  -- A member that is left out changes nothing.
+  unfoldable pub turn : Bound → Bool → Found → MemberAt → Found
+  turn last searched best m = cond searched (step last best m) best
 
   -- The first member with the least name above the last.
   unfoldable pub least : Bound → Found → List MemberAt → Found

@@ -6,6 +6,7 @@ use crate::names::are_strings;
 use crate::names::is_distinct;
 use crate::room::Room;
 use crate::room::check_room;
+use crate::search::Kept;
 use crate::search::Places;
 use crate::search::put_members;
 use layout::check::Check;
@@ -79,7 +80,7 @@ fn write_sorted(names: &[u8], values: &[u8], n: usize, out: &mut [u8]) -> Ending
         val: names.len() + JENTRY_SIZE * n,
     };
     put_u32(out, 0, OBJECT_CONTAINER_TAG | n as u32);
-    put_members(names, values, from, n, out, to);
+    put_members(names, values, from, n, Kept::All, out, to);
     Ending::Done(len)
 }
 

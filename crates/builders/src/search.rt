@@ -10,7 +10,8 @@ use layout::writer::put_u32;
 ghost use mathlib.Core.Path.{_≡_};
 ghost use Prim.Native.Nat.{_+_, _^_, _<_};
 ghost use Rattle.builders.specs.Search.{«bytes-at» as bytesAt, «member-at» as memberAt, «members-at» as membersAt};
-ghost use Rattle.builders.specs.Search.{bound, over, better, step, least, sorted};
+ghost use Rattle.builders.specs.Search.{bound, over, better, step, turn, least, sorted};
+ghost use Rattle.builders.specs.Search.{«is-kept» as isKept, «kept-of» as keptOf};
 ghost use Rattle.builders.specs.Search.{«name-in» as nameIn, «value-in» as valueIn};
 ghost use Rattle.builders.specs.Weave.{behind, stored, woven};
 
@@ -34,6 +35,12 @@ pub struct Places {
     pub val: usize,
 }
 
+// Which members are searched: all, or all but one, told by how many stand before it.
+pub enum Kept {
+    All,
+    But(usize),
+}
+
 // What the search has found.
 pub enum Found {
     Nothing,
@@ -41,7 +48,7 @@ pub enum Found {
 }
 
 // The payload of an item.
-pub(crate) fn payload_at(s: &[u8], item: ItemAt) -> &[u8]
+pub fn payload_at(s: &[u8], item: ItemAt) -> &[u8]
     ensures { λ r. ⌜ now r ≡ bytesAt (now (s .entry)) item ⌝ }
 {
     slice(s, item.place, payload_len(item.jentry) as usize)
@@ -89,6 +96,16 @@ fn better_of(keys: &[u8], best: Found, member: MemberAt) -> Found
     }
 }
 
+// Whether the member behind `i` others is searched.
+fn is_kept(kept: Kept, i: usize) -> bool
+    ensures { λ r. ⌜ r ≡ isKept kept i ⌝ }
+{
+    match kept {
+        Kept::All => true,
+        Kept::But(k) => i != k,
+    }
+}
+
 // The better of the best so far and a member, where the member's name comes behind the last.
 fn step_of(keys: &[u8], is_first: bool, last: &[u8], best: Found, member: MemberAt) -> Found
     ensures { λ r. ⌜ r ≡ step (nameIn (now (keys .entry))) (bound «is_first» (now (last .entry))) best member ⌝ }
@@ -99,26 +116,44 @@ fn step_of(keys: &[u8], is_first: bool, last: &[u8], best: Found, member: Member
     best
 }
 
-// Of `count` members the first with the least name behind the last one taken.
-pub(crate) fn next_member(
+// The step that the search takes at a member: none where it is left out.
+fn turn_of(
+    keys: &[u8],
+    is_searched: bool,
+    is_first: bool,
+    last: &[u8],
+    best: Found,
+    member: MemberAt,
+) -> Found
+    ensures { λ r. ⌜ r ≡ turn (nameIn (now (keys .entry))) (bound «is_first» (now (last .entry))) «is_searched» best member ⌝ }
+{
+    if is_searched {
+        return step_of(keys, is_first, last, best, member);
+    }
+    best
+}
+
+// Of `count` members, those left out aside, the first with the least name behind the last one taken.
+pub fn next_member(
     keys: &[u8],
     vals: &[u8],
     from: Places,
     count: usize,
+    kept: Kept,
     is_first: bool,
     last: &[u8],
 ) -> Found
     requires { ⌜ (count < 2 ^ 29)
         × (from .«key_jentry» < 2 ^ 32) × (from .«val_jentry» < 2 ^ 32) × (from .key < 2 ^ 32) × (from .val < 2 ^ 32) ⌝ }
     ensures { λ r. ⌜ r ≡ least (nameIn (now (keys .entry))) (bound «is_first» (now (last .entry))) Found.Nothing
-        (membersAt (now (keys .entry)) (now (vals .entry)) from count) ⌝ }
+        (keptOf kept 0 (membersAt (now (keys .entry)) (now (vals .entry)) from count)) ⌝ }
 {
     let mut best = Found::Nothing;
     let mut at = from;
     let mut i = 0;
     while i < count {
         let member = read_member(keys, vals, at);
-        best = step_of(keys, is_first, last, best, member);
+        best = turn_of(keys, is_kept(kept, i), is_first, last, best, member);
         at = Places {
             key_jentry: at.key_jentry + JENTRY_SIZE,
             val_jentry: at.val_jentry + JENTRY_SIZE,
@@ -131,7 +166,7 @@ pub(crate) fn next_member(
 }
 
 // Stores a member's entries, name and value, and gives the places behind them.
-fn put_member(keys: &[u8], vals: &[u8], member: MemberAt, out: &mut [u8], at: Places) -> Places
+pub fn put_member(keys: &[u8], vals: &[u8], member: MemberAt, out: &mut [u8], at: Places) -> Places
     requires { ⌜ (at .«key_jentry» < 2 ^ 60) × (at .«val_jentry» < 2 ^ 60) × (at .key < 2 ^ 60) × (at .val < 2 ^ 60) ⌝ }
     ensures is { λ r. ⌜ r ≡ behind (nameIn (now (keys .entry)) member) (valueIn (now (vals .entry)) member) at ⌝ }
     ensures kept { λ _. ⌜ now (out .exit) ≡ stored (nameIn (now (keys .entry))) (valueIn (now (vals .entry))) (now (out .entry))
@@ -151,12 +186,14 @@ fn put_member(keys: &[u8], vals: &[u8], member: MemberAt, out: &mut [u8], at: Pl
     }
 }
 
-// Stores `count` members in byte order of their names, of equal names the first, each behind the one before.
-pub(crate) fn put_members(
+// Stores `count` members, those left out aside, in byte order of their names, of equal names the first, each behind the one
+// before.
+pub fn put_members(
     keys: &[u8],
     vals: &[u8],
     from: Places,
     count: usize,
+    kept: Kept,
     out: &mut [u8],
     to: Places,
 )
@@ -166,14 +203,14 @@ pub(crate) fn put_members(
     ensures { λ _. ⌜ now (out .exit)
         ≡ woven (nameIn (now (keys .entry))) (valueIn (now (vals .entry))) (now (out .entry))
         (to .«key_jentry») (to .«val_jentry») (to .key) (to .val)
-        (sorted (nameIn (now (keys .entry))) (membersAt (now (keys .entry)) (now (vals .entry)) from count)) ⌝ }
+        (sorted (nameIn (now (keys .entry))) (keptOf kept 0 (membersAt (now (keys .entry)) (now (vals .entry)) from count))) ⌝ }
 {
     // No name was taken yet: the first search does not look at this one.
     let mut last = slice(keys, 0, 0);
     let mut at = to;
     let mut i = 0;
     while i < count {
-        let Found::At(member) = next_member(keys, vals, from, count, i == 0, last) else {
+        let Found::At(member) = next_member(keys, vals, from, count, kept, i == 0, last) else {
             return;
         };
         at = put_member(keys, vals, member, out, at);

@@ -4,42 +4,42 @@ use native.Mathlib.Omega.{arith}
 use mathlib.Core.Path.{_≡_, sym, _∙_}
 use borrow.Author.Needs.{needs}
 use Rattle.layout.proofs.Fields.{length-lt}
-use Rattle.builders.specs.Search.{name-in, bound, least, members-at}
+use Rattle.builders.specs.Search.{name-in, bound, least, members-at, kept-of}
 use Rattle.builders.specs.declared.search.Found.the-variants.{Nothing}
 use Rattle.builders.proofs.Steps.{search-starts, search-turns, search-ends}
 use Rattle.builders.proofs.search.next_member.Statement.{statement}
 use Rattle.builders.proofs.search.next_member.Tie as tie
 
 abbrev Inv-loop : tie.InvT-loop
-Inv-loop keys vals count is-first last best₀ at₀ i₀ best at i =
+Inv-loop keys vals count kept is-first last best₀ at₀ i₀ best at i =
     (i ≤ count)
     × (at .«key_jentry» ≤ at₀ .«key_jentry» + 4 * i)
     × (at .«val_jentry» ≤ at₀ .«val_jentry» + 4 * i)
     × (at .key ≤ at₀ .key + 2 ^ 28 * i)
     × (at .val ≤ at₀ .val + 2 ^ 28 * i)
-    × (least (name-in keys) (bound is-first last) Nothing (members-at keys vals at₀ count)
-    ≡ least (name-in keys) (bound is-first last) best (members-at keys vals at (count - i)))
+    × (least (name-in keys) (bound is-first last) Nothing (kept-of kept 0 (members-at keys vals at₀ count))
+    ≡ least (name-in keys) (bound is-first last) best (kept-of kept i (members-at keys vals at (count - i))))
 
 abbrev μ-loop : tie.MeasureT-loop
-μ-loop keys vals count is-first last best₀ at₀ i₀ best at i = count - i
+μ-loop keys vals count kept is-first last best₀ at₀ i₀ best at i = count - i
 
 loop-holds : tie.Need-loop-holds Inv-loop μ-loop
-loop-holds c = (omega arith, omega arith, omega arith, omega arith, omega arith, search-starts _ _ _ _ _ _)
+loop-holds c = (omega arith, omega arith, omega arith, omega arith, omega arith, search-starts _ _ _ _ _ _ _)
 
 loop-again : tie.Need-loop-again Inv-loop μ-loop
 loop-again c =
-    let l = c .before .before .before .before .before .before .before .before .before in (
+    let l = c .before .before .before .before .before .before .before .before .before .before in (
       omega arith,
       omega arith,
       omega arith,
-      omega (arith, c .before .before .before .payload-len .ensures, length-lt (c .before .before .before .before .before .before .before .read-member .result .key .jentry)),
-      omega (arith, c .before .payload-len2 .ensures, length-lt (c .before .before .before .before .before .before .before .read-member .result .val .jentry)),
-      l .loop .inv .5 ∙ search-turns _ _ _ _ _ _ _ _ _ _ _ (c .before .before .before .before .before .before .before .before .loop-test .taken) (c .before .before .before .before .before .before .before .read-member .ensures) (c .before .before .before .before .before .before .step-of .ensures)
+      omega (arith, c .before .before .before .payload-len .ensures, length-lt (c .before .before .before .before .before .before .before .before .read-member .result .key .jentry)),
+      omega (arith, c .before .payload-len2 .ensures, length-lt (c .before .before .before .before .before .before .before .before .read-member .result .val .jentry)),
+      l .loop .inv .5 ∙ search-turns _ _ _ _ _ _ _ _ _ _ _ _ _ (c .before .before .before .before .before .before .before .before .before .loop-test .taken) (c .before .before .before .before .before .before .before .before .read-member .ensures) (c .before .before .before .before .before .before .before .is-kept .ensures) (c .before .before .before .before .before .before .turn-of .ensures)
           (c .before .before .before .payload-len .ensures) (c .before .payload-len2 .ensures),
     )
 
 returns : tie.Need-returns Inv-loop μ-loop
-returns c = sym (c .before .loop .inv .5 ∙ search-ends _ _ _ _ _ _ _ (c .loop-test .left))
+returns c = sym (c .before .loop .inv .5 ∙ search-ends _ _ _ _ _ _ _ _ (c .loop-test .left))
 
 pub next-member-spec : {M : Type 1} → statement M
 next-member-spec =
@@ -48,6 +48,7 @@ next-member-spec =
     Inv-loop
     μ-loop
     loop-holds
+    (λ c κs. search needs)
     (λ c κs. search needs)
     (λ c κs. search needs)
     (λ c. search needs)
