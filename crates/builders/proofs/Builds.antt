@@ -46,7 +46,7 @@ use Rattle.builders.specs.declared.search.Kept.the-variants.{All}
 use Rattle.builders.specs.declared.room.Room.{Room}
 use Rattle.builders.specs.declared.room.Room.the-variants.{Serves, Refused as NoRoom}
 use Rattle.builders.specs.Search.{texts, strings-at, name-in, value-in, members-at, kept-of, sorted, Pairs}
-use Rattle.builders.specs.Weave.{woven}
+use Rattle.builders.specs.Weave.{own-entry, woven}
 use Rattle.builders.specs.declared.join.Given.the-variants.{Table}
 use Rattle.builders.specs.declared.search.Places.{Places}
 use Rattle.builders.proofs.InOrders.{rising-in-order, rising-distinct, in-order-count, in-order-names, in-order-size, in-order-depth}
@@ -297,7 +297,7 @@ module _ (ks vs : Bytes) (n : ℕ) (ts us : Items) (kk : Known ks (array ts)) (k
       behind-header s ws k =
           ap (drop 4) (sym (k .bytes)) ∙ drop-be32 (2 ^ 31 + length (item-parts ws)) (entries (item-parts ws) ++ payloads (item-parts ws))
 
-      stand : Stand (name-in ks) (value-in vs) (members-at ks vs from n) ms
+      stand : Stand (name-in ks) (value-in vs) own-entry (members-at ks vs from n) ms
       unfolding members-at given-start
       stand =
           let ln : n ≡ length ns = en ∙ sym (length-texts (item-parts ts)) in
@@ -315,7 +315,7 @@ module _ (ks vs : Bytes) (n : ℕ) (ts us : Items) (kk : Known ks (array ts)) (k
             ends _ o _ distinct-ns refl (sized-refused (encode (object (in-order ms))) o len (el ∙ result-length) room hr x q)
 
         pub sorted-done : (w : ℕ) (o₁ o₂ : Bytes) → room ≡ Serves → w ≡ bitOr (2 ^ 30) n → o₁ ≡ patch o 0 (be32 w)
-            → o₂ ≡ woven (name-in ks) (value-in vs) o₁ 4 (4 + 4 * n) (4 + 4 * n + 4 * n) (length ks + 4 * n)
+            → o₂ ≡ woven (name-in ks) (value-in vs) own-entry o₁ 4 (4 + 4 * n) (4 + 4 * n + 4 * n) (length ks + 4 * n)
             (sorted (name-in ks) (members-at ks vs from n))
             → Ended (Done len) o o₂ (on-two build ks vs (length o))
         sorted-done w o₁ o₂ serves ew e₁ e₂ =
@@ -323,8 +323,8 @@ module _ (ks vs : Bytes) (n : ℕ) (ts us : Items) (kk : Known ks (array ts)) (k
             omega (arith, length-keys, name-bytes, in-order-names ms distinct-ms) in
             let k : n ≡ length (member-parts (in-order ms)) = eu ∙ sym (ap length parts-ms) ∙ sym (in-order-count ms distinct-ms) in
             let hw : w ≡ 2 ^ 30 + n = ew ∙ header-word ∙ ap (λ j. 2 ^ 30 + j) (ap length parts-ms ∙ sym eu) in
-            let st = stand-sorted (name-in ks) (value-in vs) (members-at ks vs from n) ms stand in
-            let r = woven-record (name-in ks) (value-in vs) _ (in-order ms) o o₁ o₂ 0 n _ _ _ _ st k refl refl refl d (rw (← hw) e₁) e₂ in
+            let st = stand-sorted (name-in ks) (value-in vs) own-entry (members-at ks vs from n) ms stand in
+            let r = woven-record (name-in ks) (value-in vs) own-entry _ (in-order ms) o o₁ o₂ 0 n _ _ _ _ st k refl refl refl d (rw (← hw) e₁) e₂ in
             ends _ o₂ _ distinct-ns refl (sized-done (encode (object (in-order ms))) o len (el ∙ result-length) room hr o₂ serves r)
 
 -- What a readable array is.
@@ -389,7 +389,7 @@ module _ (ks vs : Bytes) (ok : Octets ks) (ov : Octets vs) (n : ℕ) (pairs : Pa
           (pairs .strings) o dist len el room hr
 
       pub pairs-done : (w : ℕ) (o₁ o₂ : Bytes) → room ≡ Serves → w ≡ bitOr (2 ^ 30) n → o₁ ≡ patch o 0 (be32 w)
-          → o₂ ≡ woven (name-in ks) (value-in vs) o₁ 4 (4 + 4 * n) (4 + 4 * n + 4 * n) (length ks + 4 * n)
+          → o₂ ≡ woven (name-in ks) (value-in vs) own-entry o₁ 4 (4 + 4 * n) (4 + 4 * n + 4 * n) (length ks + 4 * n)
           (sorted (name-in ks)
           (kept-of All 0 (members-at ks vs (record { «key_jentry» = 4; «val_jentry» = 4; key = 4 + 4 * n; val = 4 + 4 * n }) n)))
           → On (Done len) o₂

@@ -1,18 +1,20 @@
 -- The search for the next name, repeated, gives the members in byte order: `search-nth`.
-use Prim.Native.Nat.{ℕ, zero, suc, _+_, _<_, _≤_, zero-le, suc-le-suc}
+use Prim.Native.Nat.{ℕ, zero, suc, _+_, _^_, _<_, _≤_, zero-le, suc-le-suc}
 use native.Mathlib.Nat.{le-of-suc-le-suc, not-suc-le-zero}
 use native.Mathlib.Omega.{arith}
 use mathlib.Core.Path.{_≡_, refl, sym, ap, _∙_}
 use mathlib.Core.Bool.{Bool, true, false, cond}
 use mathlib.Core.List.{List, [], _∷_}
-use lib.ListN.{length, drop}
+use lib.ListN.{length, drop, length-take}
 use Rattle.layout.specs.Bytes.{Bytes, word-at}
 use Rattle.layout.specs.Entry.{length-of}
 use Rattle.layout.specs.Order.{order, is-less, before}
 use Rattle.layout.specs.declared.order.Ordering.{Ordering}
 use Rattle.layout.specs.declared.order.Ordering.the-variants.{Less, Equal, Greater}
 use Rattle.builders.specs.Order.{by}
-use Rattle.builders.specs.Search.{members-from, is-kept, kept-of, Bound, start, after, over, better, step, least, put-in, put-all, sorted, nth}
+use Rattle.builders.specs.Search.{bytes-at, members-from, is-kept, kept-of, Bound, start, after, over, better, step, least, put-in, put-all, sorted, nth}
+use Rattle.layout.proofs.Fields.{length-lt}
+use Rattle.builders.specs.declared.search.ItemAt.{ItemAt}
 use Rattle.builders.specs.declared.search.MemberAt.{MemberAt}
 use Rattle.builders.specs.declared.search.Kept.{Kept}
 use Rattle.builders.specs.declared.search.Kept.the-variants.{All}
@@ -251,3 +253,7 @@ pub kept-all : (i : ℕ) (ms : List MemberAt) → kept-of All i ms ≡ ms
 unfolding kept-of is-kept
 kept-all i [] = refl
 kept-all i (m ∷ ms) = ap (λ (l : List MemberAt). m ∷ l) (kept-all (i + 1) ms)
+
+-- A payload is no longer than an entry can say.
+pub bytes-short : (s : Bytes) (x : ItemAt) → length (bytes-at s x) < 2 ^ 28
+bytes-short s x = rw length-take (omega (arith, length-lt (x .jentry)))

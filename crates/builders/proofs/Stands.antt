@@ -17,14 +17,14 @@ use Rattle.layout.proofs.Fields.{length-entry}
 use Rattle.layout.proofs.Level.{Fits, AllFit, code-small}
 use Rattle.builders.specs.Order.{by, insert, insert-all, in-order}
 use Rattle.builders.specs.Search.{name-in, value-in, members-from, put-in, put-all, sorted}
-use Rattle.builders.specs.Weave.{column}
+use Rattle.builders.specs.Weave.{own-entry, column}
 use Rattle.builders.specs.declared.search.MemberAt.{MemberAt}
 
-module _ (name value : MemberAt → Bytes) where
+module _ (name value : MemberAt → Bytes) (entry : MemberAt → ℕ) where
   -- A member by its places that has the entries, the name and the value of a member of a tree.
   abbrev pub Stands : MemberAt → Bytes → Tree → Type 0
   Stands m n t =
-      (m .key .jentry ≡ entry-word (name-part n)) × (m .val .jentry ≡ entry-word (part t)) × (name m ≡ n) × (value m ≡ payload t)
+      (m .key .jentry ≡ entry-word (name-part n)) × (entry m ≡ entry-word (part t)) × (name m ≡ n) × (value m ≡ payload t)
 
   abbrev pub Stand : List MemberAt → Members → Type 0
   Stand [] empty = Unit {0}
@@ -72,7 +72,7 @@ module _ (name value : MemberAt → Bytes) where
   stand-key-entries (x ∷ xs) (member n t ms) h = ap₂ _++_ (ap be32 (h .0 .0)) (stand-key-entries xs ms (h .1))
 
   pub stand-val-entries : (xs : List MemberAt) (ms : Members) → Stand xs ms
-      → column (λ m. be32 (m .val .jentry)) xs ≡ entries (member-parts ms)
+      → column (λ m. be32 (entry m)) xs ≡ entries (member-parts ms)
   unfolding column
   stand-val-entries [] empty h = refl
   stand-val-entries [] (member n t ms) h = absurd h
@@ -116,7 +116,7 @@ pub stand-from : (ks vs : Bytes) (a b p q : ℕ) (ns : List Bytes) (us : Items) 
     → AllFit (name-parts ns) → AllFit (item-parts us)
     → drop a ks ≡ entries (name-parts ns) ++ w → drop p ks ≡ payloads (name-parts ns) ++ x
     → drop b vs ≡ entries (item-parts us) ++ y → drop q vs ≡ payloads (item-parts us) ++ z
-    → Stand (name-in ks) (value-in vs) (members-from ks vs a b p q (length ns)) (pair ns us)
+    → Stand (name-in ks) (value-in vs) own-entry (members-from ks vs a b p q (length ns)) (pair ns us)
 unfolding members-from
 stand-from ks vs a b p q [] us w x y z l fn fu ha hp hb hq = tt
 stand-from ks vs a b p q (n ∷ ns) none w x y z l fn fu ha hp hb hq = let v : ⊥ = omega arith in absurd v

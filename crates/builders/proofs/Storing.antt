@@ -6,25 +6,23 @@ use mathlib.Core.Path.{_≡_, refl, ap, sym, _∙_}
 use mathlib.Core.Bool.{false}
 use mathlib.Core.List.{List, _∷_}
 use lib.Dec.{eqb}
-use lib.ListN.{length, drop, length-take, drop-of-length-le}
+use lib.ListN.{length, drop, drop-of-length-le}
 use borrow.Author.Tests.{ne-eqb}
 use Rattle.layout.specs.Bytes.{Bytes, be32}
 use Rattle.layout.specs.Patch.{patch}
-use Rattle.layout.proofs.Fields.{length-lt}
 use Rattle.layout.proofs.Patches.{length-patch}
 use Rattle.builders.specs.Search.{bytes-at, name-in, value-in, members-at, kept-of, bound, least, sorted, nth}
-use Rattle.builders.specs.Weave.{behind, stored, woven}
+use Rattle.builders.specs.Weave.{behind, own-entry, stored, woven}
 use Rattle.builders.specs.declared.search.ItemAt.{ItemAt}
 use Rattle.builders.specs.declared.search.MemberAt.{MemberAt}
 use Rattle.builders.specs.declared.search.Places.{Places}
 use Rattle.builders.specs.declared.search.Kept.{Kept}
 use Rattle.builders.specs.declared.search.Found.{Found}
 use Rattle.builders.specs.declared.search.Found.the-variants.{Nothing, At}
-use Rattle.builders.proofs.Searches.{bound-at, bound-next, search-nth, length-sorted, length-members, length-kept, nth-none, nth-inside, nth-drop}
+use Rattle.builders.proofs.Searches.{bound-at, bound-next, search-nth, length-sorted, length-members, length-kept, bytes-short, nth-none, nth-inside, nth-drop}
 
--- A payload is no longer than an entry can say.
 pub payload-short : (s r : Bytes) (x : ItemAt) → r ≡ bytes-at s x → length r < 2 ^ 28
-payload-short s r x e = rw (e, length-take) (omega (arith, length-lt (x .jentry)))
+payload-short s r x e = rw e (bytes-short s x)
 
 module _ (ks vs : Bytes) (m : MemberAt) (n v : Bytes) (hn : n ≡ bytes-at ks (m .key)) (hv : v ≡ bytes-at vs (m .val)) (at : Places) where
   pub places-behind :
@@ -34,23 +32,20 @@ module _ (ks vs : Bytes) (m : MemberAt) (n v : Bytes) (hn : n ≡ bytes-at ks (m
 
   pub member-stored : (o o₁ o₂ o₃ o₄ : Bytes) → o₁ ≡ patch o (at .«key_jentry») (be32 (m .key .jentry))
       → o₂ ≡ patch o₁ (at .«val_jentry») (be32 (m .val .jentry)) → o₃ ≡ patch o₂ (at .key) n → o₄ ≡ patch o₃ (at .val) v
-      → o₄ ≡ stored (name-in ks) (value-in vs) o (at .«key_jentry») (at .«val_jentry») (at .key) (at .val) m
+      → o₄ ≡ stored (name-in ks) (value-in vs) own-entry o (at .«key_jentry») (at .«val_jentry») (at .key) (at .val) m
   member-stored o o₁ o₂ o₃ o₄ e₁ e₂ e₃ e₄ = rw (e₄, e₃, e₂, e₁, hn, hv)
 
 -- The loop: `i` members of those in byte order are stored, and the rest is to come.
-module _ (ks vs : Bytes) (from : Places) (n : ℕ) (kept : Kept) (o : Bytes) (to : Places) where
-  abbrev searched : List MemberAt
-  searched = kept-of kept 0 (members-at ks vs from n)
-
+module _ (name value : MemberAt → Bytes) (entry : MemberAt → ℕ) (searched : List MemberAt) (o : Bytes) (to : Places) where
   abbrev in-turn : List MemberAt
-  in-turn = sorted (name-in ks) searched
+  in-turn = sorted name searched
 
   abbrev weave : Bytes → Places → List MemberAt → Bytes
-  weave out at = woven (name-in ks) (value-in vs) out (at .«key_jentry») (at .«val_jentry») (at .key) (at .val)
+  weave out at = woven name value entry out (at .«key_jentry») (at .«val_jentry») (at .key) (at .val)
 
   pub record Stored (out last : Bytes) (at : Places) (i : ℕ) : Type 0 where
     pub count : i ≤ length in-turn
-    pub known : bound (eqb i 0) last ≡ bound-at (name-in ks) in-turn i
+    pub known : bound (eqb i 0) last ≡ bound-at name in-turn i
     pub near-key-jentry : at .«key_jentry» ≤ to .«key_jentry» + 4 * i
     pub near-val-jentry : at .«val_jentry» ≤ to .«val_jentry» + 4 * i
     pub near-key : at .key ≤ to .key + 2 ^ 28 * i
@@ -72,47 +67,33 @@ module _ (ks vs : Bytes) (from : Places) (n : ℕ) (kept : Kept) (o : Bytes) (to
         as-long = refl;
       }
 
-  in-turn-few : length in-turn ≤ n
-  unfolding members-at
-  in-turn-few =
-      omega (
-        arith,
-        length-sorted (name-in ks) searched,
-        length-kept kept 0 (members-at ks vs from n),
-        length-members ks vs (from .«key_jentry») (from .«val_jentry») (from .key) (from .val) n,
-      )
-
   module _ (out last : Bytes) (at : Places) (i : ℕ) (now : Stored out last at i) where
     ended : length in-turn ≤ i → out ≡ weave o to in-turn
     unfolding woven
     ended h = sym (rw (drop-of-length-le in-turn h) at (now .run))
 
-    pub ends-full : n ≤ i → out ≡ weave o to in-turn
-    ends-full h = ended (omega (arith, in-turn-few))
+    pub ends-full : (n : ℕ) → length searched ≤ n → n ≤ i → out ≡ weave o to in-turn
+    ends-full n l h = ended (omega (arith, length-sorted name searched))
 
-    module _ (found : Found) (hf : found ≡ least (name-in ks) (bound (eqb i 0) last) Nothing searched) where
+    module _ (found : Found) (hf : found ≡ least name (bound (eqb i 0) last) Nothing searched) where
       next-is : found ≡ nth in-turn i
-      next-is =
-          hf ∙ ap (λ b. least (name-in ks) b Nothing searched) (now .known)
-          ∙ search-nth (name-in ks) searched i (now .count)
+      next-is = hf ∙ ap (λ b. least name b Nothing searched) (now .known) ∙ search-nth name searched i (now .count)
 
       pub ends-early : found ≡ Nothing → out ≡ weave o to in-turn
       ends-early q = ended (nth-none in-turn i (sym next-is ∙ q))
 
-      pub goes : (m : MemberAt) (name out′ : Bytes) (at′ : Places) → found ≡ At m
-          → (at′ ≡ behind (name-in ks m) (value-in vs m) at)
-          × (out′ ≡ stored (name-in ks) (value-in vs) out (at .«key_jentry») (at .«val_jentry») (at .key) (at .val) m)
-          → name ≡ bytes-at ks (m .key) → Stored out′ name at′ (i + 1)
+      pub goes : (m : MemberAt) (next out′ : Bytes) (at′ : Places) → found ≡ At m
+          → (at′ ≡ behind (name m) (value m) at)
+          × (out′ ≡ stored name value entry out (at .«key_jentry») (at .«val_jentry») (at .key) (at .val) m)
+          → next ≡ name m → length (name m) < 2 ^ 28 → length (value m) < 2 ^ 28 → Stored out′ next at′ (i + 1)
       unfolding woven
-      goes m name out′ at′ q h hn =
+      goes m next out′ at′ q h hn ln lv =
           let here : nth in-turn i ≡ At m = sym next-is ∙ q in
           let cut : drop i in-turn ≡ m ∷ drop (suc i) in-turn = nth-drop in-turn i m here in
           let later : eqb (i + 1) 0 ≡ false = ne-eqb (i + 1) 0 (λ z. omega arith) in
-          let ln = payload-short ks (name-in ks m) (m .key) refl in
-          let lv = payload-short vs (value-in vs m) (m .val) refl in
           record {
             count = omega (arith, nth-inside in-turn i m here);
-            known = rw (later, add-one i, hn) (sym (bound-next (name-in ks) in-turn i m here));
+            known = rw (later, add-one i, hn) (sym (bound-next name in-turn i m here));
             near-key-jentry = rw (h .0) (omega (arith, now .near-key-jentry));
             near-val-jentry = rw (h .0) (omega (arith, now .near-val-jentry));
             near-key = rw (h .0) (omega (arith, now .near-key, ln));
@@ -121,5 +102,15 @@ module _ (ks vs : Bytes) (from : Places) (n : ℕ) (kept : Kept) (o : Bytes) (to
             as-long = ap length (h .1) ∙ length-stored ∙ now .as-long;
           }
         where
-          length-stored : length (stored (name-in ks) (value-in vs) out (at .«key_jentry») (at .«val_jentry») (at .key) (at .val) m) ≡ length out
+          length-stored : length (stored name value entry out (at .«key_jentry») (at .«val_jentry») (at .key) (at .val) m) ≡ length out
           length-stored = length-patch _ _ _ ∙ length-patch _ _ _ ∙ length-patch _ _ _ ∙ length-patch _ _ _
+
+-- Of `n` members no more are searched.
+pub few-searched : (ks vs : Bytes) (from : Places) (n : ℕ) (kept : Kept) → length (kept-of kept 0 (members-at ks vs from n)) ≤ n
+unfolding members-at
+few-searched ks vs from n kept =
+    omega (
+      arith,
+      length-kept kept 0 (members-at ks vs from n),
+      length-members ks vs (from .«key_jentry») (from .«val_jentry») (from .key) (from .val) n,
+    )

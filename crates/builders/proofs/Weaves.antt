@@ -58,25 +58,25 @@ module _ (o : Bytes) (a b c d : ℕ) (x xs y ys z zs w ws : Bytes) where
 abbrev key-entry : MemberAt → Bytes
 key-entry m = be32 (m .key .jentry)
 
-abbrev val-entry : MemberAt → Bytes
-val-entry m = be32 (m .val .jentry)
+module _ (name value : MemberAt → Bytes) (entry : MemberAt → ℕ) where
+  abbrev val-entry : MemberAt → Bytes
+  val-entry m = be32 (entry m)
 
-module _ (name value : MemberAt → Bytes) where
   -- Where the regions do not overlap, the loop stores the four columns.
   woven-is : (o : Bytes) (a b c d : ℕ) (ms : List MemberAt)
       → a + length (column key-entry ms) ≤ b → b + length (column val-entry ms) ≤ c → c + length (column name ms) ≤ d
-      → woven name value o a b c d ms
+      → woven name value entry o a b c d ms
       ≡ patch (patch (patch (patch o a (column key-entry ms)) b (column val-entry ms)) c (column name ms)) d (column value ms)
   unfolding woven column patch
   woven-is o a b c d [] h k l = refl
   woven-is o a b c d (m ∷ ms) h k l =
       let x = length-be32 (m .key .jentry) in
-      let y = length-be32 (m .val .jentry) in
+      let y = length-be32 (entry m) in
       let xs = length-append (key-entry m) (column key-entry ms) in
       let ys = length-append (val-entry m) (column val-entry ms) in
       let zs = length-append (name m) (column name ms) in
-      ap₂ (λ (i j : ℕ). woven name value (stored name value o a b c d m) (a + i) (b + j) (c + length (name m)) (d + length (value m)) ms) (sym x) (sym y)
-      ∙ woven-is (stored name value o a b c d m) (a + length (key-entry m)) (b + length (val-entry m)) (c + length (name m)) (d + length (value m)) ms
+      ap₂ (λ (i j : ℕ). woven name value entry (stored name value entry o a b c d m) (a + i) (b + j) (c + length (name m)) (d + length (value m)) ms) (sym x) (sym y)
+      ∙ woven-is (stored name value entry o a b c d m) (a + length (key-entry m)) (b + length (val-entry m)) (c + length (name m)) (d + length (value m)) ms
       (omega arith) (omega arith) (omega arith)
       ∙ four-grow o a b c d (key-entry m) (column key-entry ms) (val-entry m) (column val-entry ms) (name m) (column name ms) (value m) (column value ms) h k l
 
@@ -102,25 +102,25 @@ entries-append [] qs = refl
 entries-append (p ∷ ps) qs = rw (entries-append ps qs, append-assoc)
 
 -- The header first, then the members: the record of the object.
-pub woven-record : (name value : MemberAt → Bytes) (xs : List MemberAt) (ms : Members) (o o₁ o₂ : Bytes) (at n a b c d : ℕ)
-    → Stand name value xs ms → n ≡ length (member-parts ms)
+pub woven-record : (name value : MemberAt → Bytes) (entry : MemberAt → ℕ) (xs : List MemberAt) (ms : Members) (o o₁ o₂ : Bytes) (at n a b c d : ℕ)
+    → Stand name value entry xs ms → n ≡ length (member-parts ms)
     → a ≡ at + 4 → b ≡ a + 4 * n → c ≡ b + 4 * n → d ≡ c + length (payloads (name-parts (names ms)))
-    → o₁ ≡ patch o at (be32 (2 ^ 30 + n)) → o₂ ≡ woven name value o₁ a b c d xs
+    → o₁ ≡ patch o at (be32 (2 ^ 30 + n)) → o₂ ≡ woven name value entry o₁ a b c d xs
     → o₂ ≡ patch o at (encode (object ms))
-woven-record name value xs ms o o₁ o₂ at n a b c d h en ha hb hc hd e₁ e₂ =
+woven-record name value entry xs ms o o₁ o₂ at n a b c d h en ha hb hc hd e₁ e₂ =
     let ks : List Part = name-parts (names ms) in
     let vs : List Part = member-parts ms in
-    let ea = stand-key-entries name value xs ms h in
-    let eb = stand-val-entries name value xs ms h in
-    let ec = stand-names name value xs ms h in
-    let ed = stand-values name value xs ms h in
+    let ea = stand-key-entries name value entry xs ms h in
+    let eb = stand-val-entries name value entry xs ms h in
+    let ec = stand-names name value entry xs ms h in
+    let ed = stand-values name value entry xs ms h in
     let la : length (entries ks) ≡ 4 * n = rw en (entries-length ks ∙ ap (λ (i : ℕ). 4 * i) (names-count ms)) in
     let lb : length (entries vs) ≡ 4 * n = rw en (entries-length vs) in
     let fa : a + length (column key-entry xs) ≤ b = rw ea (omega arith) in
-    let fb : b + length (column val-entry xs) ≤ c = rw eb (omega arith) in
+    let fb : b + length (column (val-entry name value entry) xs) ≤ c = rw eb (omega arith) in
     let fc : c + length (column name xs) ≤ d = rw ec (omega arith) in
     e₂
-    ∙ woven-is name value o₁ a b c d xs fa fb fc
+    ∙ woven-is name value entry o₁ a b c d xs fa fb fc
     ∙ rw (e₁, ea, eb, ec, ed)
     (five-append o at (be32 (2 ^ 30 + n)) (entries ks) (entries vs) (payloads ks) (payloads vs) a b c d
     (omega (arith, length-be32 (2 ^ 30 + n))) (omega arith) (omega arith) (omega arith)

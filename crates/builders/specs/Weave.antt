@@ -18,10 +18,15 @@ behind n v at =
       val = at .val + length v;
     }
 
-module _ (name value : MemberAt → Bytes) where
+-- The entry that a member's value has where it stands.
+abbrev pub own-entry : MemberAt → ℕ
+own-entry m = m .val .jentry
+
+-- The entries of values are given apart: a value that is written anew has another.
+module _ (name value : MemberAt → Bytes) (entry : MemberAt → ℕ) where
   abbrev pub stored : Bytes → ℕ → ℕ → ℕ → ℕ → MemberAt → Bytes
   stored o a b c d m =
-      patch (patch (patch (patch o a (be32 (m .key .jentry))) b (be32 (m .val .jentry))) c (name m)) d (value m)
+      patch (patch (patch (patch o a (be32 (m .key .jentry))) b (be32 (entry m))) c (name m)) d (value m)
 
   unfoldable pub woven : Bytes → ℕ → ℕ → ℕ → ℕ → List MemberAt → Bytes
   woven o a b c d [] = o

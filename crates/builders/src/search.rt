@@ -13,7 +13,7 @@ ghost use Rattle.builders.specs.Search.{«bytes-at» as bytesAt, «membe
 ghost use Rattle.builders.specs.Search.{bound, over, better, step, turn, least, sorted};
 ghost use Rattle.builders.specs.Search.{«is-kept» as isKept, «kept-of» as keptOf};
 ghost use Rattle.builders.specs.Search.{«name-in» as nameIn, «value-in» as valueIn};
-ghost use Rattle.builders.specs.Weave.{behind, stored, woven};
+ghost use Rattle.builders.specs.Weave.{behind, «own-entry» as ownEntry, stored, woven};
 
 // An item as it stands in a record: its entry, and the place of its payload.
 pub struct ItemAt {
@@ -169,7 +169,7 @@ pub fn next_member(
 pub fn put_member(keys: &[u8], vals: &[u8], member: MemberAt, out: &mut [u8], at: Places) -> Places
     requires { ⌜ (at .«key_jentry» < 2 ^ 60) × (at .«val_jentry» < 2 ^ 60) × (at .key < 2 ^ 60) × (at .val < 2 ^ 60) ⌝ }
     ensures is { λ r. ⌜ r ≡ behind (nameIn (now (keys .entry)) member) (valueIn (now (vals .entry)) member) at ⌝ }
-    ensures kept { λ _. ⌜ now (out .exit) ≡ stored (nameIn (now (keys .entry))) (valueIn (now (vals .entry))) (now (out .entry))
+    ensures kept { λ _. ⌜ now (out .exit) ≡ stored (nameIn (now (keys .entry))) (valueIn (now (vals .entry))) ownEntry (now (out .entry))
         (at .«key_jentry») (at .«val_jentry») (at .key) (at .val) member ⌝ }
 {
     let name = payload_at(keys, member.key);
@@ -201,7 +201,7 @@ pub fn put_members(
         × (from .«key_jentry» < 2 ^ 32) × (from .«val_jentry» < 2 ^ 32) × (from .key < 2 ^ 32) × (from .val < 2 ^ 32) ⌝ }
     requires { ⌜ (to .«key_jentry» < 2 ^ 32) × (to .«val_jentry» < 2 ^ 32) × (to .key < 2 ^ 32) × (to .val < 2 ^ 32) ⌝ }
     ensures { λ _. ⌜ now (out .exit)
-        ≡ woven (nameIn (now (keys .entry))) (valueIn (now (vals .entry))) (now (out .entry))
+        ≡ woven (nameIn (now (keys .entry))) (valueIn (now (vals .entry))) ownEntry (now (out .entry))
         (to .«key_jentry») (to .«val_jentry») (to .key) (to .val)
         (sorted (nameIn (now (keys .entry))) (keptOf kept 0 (membersAt (now (keys .entry)) (now (vals .entry)) from count))) ⌝ }
 {

@@ -8,3 +8,5 @@ pub mod Keypath
 -- Forms that follow the code, for the contracts inside the crate; theorems of proofs/ tie each to the definitions above.
 pub mod Steps
 pub mod Spot
+pub mod Held
+pub mod Cut

@@ -28,9 +28,34 @@ use layout::refusal::Refusal;
 use layout::sound::is_rising;
 use layout::util::Header;
 use layout::util::read_header;
+use layout::util::read_u32;
 use layout::util::slice;
 use layout::writer::copy;
 use layout::writer::put_u32;
+ghost use mathlib.Core.Path.{_≡_};
+ghost use mathlib.Core.Option.{some};
+ghost use mathlib.Core.List.{_∷_, «[]»};
+ghost use Prim.Native.Nat.{_+_, _-_, _*_, _^_, _≤_, _<_};
+ghost use lib.ListN.{length};
+ghost use Rattle.layout.specs.Encode.{«record-of» as recordOf};
+ghost use Rattle.layout.specs.Read.{header, nested};
+ghost use Rattle.layout.specs.Check.{checked};
+ghost use Rattle.layout.specs.Patch.{patch};
+ghost use Rattle.layout.specs.Ended.{Ended, into};
+ghost use Rattle.layout.specs.Entry.{lengths};
+ghost use Rattle.layout.specs.Place.{«parts-at» as partsAt};
+ghost use Rattle.layout.specs.declared.check.Check.the-variants.{Readable};
+ghost use Rattle.builders.specs.Order.{same};
+ghost use Rattle.builders.specs.Search.{«name-in» as nameIn, «value-in» as valueIn};
+ghost use Rattle.builders.specs.Weave.{column};
+ghost use Rattle.edits.specs.Steps.{«part-steps» as partSteps};
+ghost use Rattle.edits.specs.Path.{Step};
+ghost use Rattle.edits.specs.Spot.{spot};
+ghost use Rattle.edits.specs.Held.{finding};
+ghost use Rattle.edits.specs.Cut.{Left, Cuts, Table, PartOf, without, «without-member» as withoutMember};
+ghost use Rattle.edits.specs.Cut.{«left-of» as leftOf, «steps-from» as stepsFrom, «parts-of» as partsOf};
+ghost use Rattle.edits.specs.Cut.{«run-entries» as runEntries, «run-payloads» as runPayloads, «run-behind» as runBehind};
+ghost use Rattle.edits.specs.Cut.{«manner-of» as mannerOf, «in-turn» as inTurn, «sizes-of» as sizesOf};
 
 // The places of the entry and of the payload that are stored next.
 pub struct Cursor {
@@ -44,8 +69,45 @@ pub struct Way {
     pub count: usize,
 }
 
+// How a container is written anew: an array and an object of n, whose names rise or not.
+pub enum Manner {
+    Items(usize),
+    Rising(usize),
+    Unsorted(usize),
+    Neither,
+}
+
+// How many members are written anew, and how long their names and values are.
+pub struct Sizes {
+    pub count: usize,
+    pub keys: usize,
+    pub vals: usize,
+}
+
+fn manner(s: &[u8]) -> Manner
+    ensures { λ r. ⌜ r ≡ mannerOf (header (now (s .entry))) (now (s .entry)) ⌝ }
+{
+    match read_header(s) {
+        Header::Array(n) => Manner::Items(n),
+        Header::Object(n) => {
+            if is_rising(s, n, HEADER_SIZE + JENTRY_SIZE * (n + n)) {
+                return Manner::Rising(n);
+            }
+            Manner::Unsorted(n)
+        }
+        Header::Scalar(_) => Manner::Neither,
+        Header::Refused(_) => Manner::Neither,
+    }
+}
+
 // Stores the parts from one up to another, entries and payloads in one go each, and gives the places behind them.
-fn put_run(s: &[u8], from: PartAt, to: PartAt, out: &mut [u8], at: Cursor) -> Cursor {
+fn put_run(s: &[u8], from: PartAt, to: PartAt, out: &mut [u8], at: Cursor) -> Cursor
+    requires { ⌜ (from .index ≤ to .index) × (to .index ≤ 2 ^ 20) × (from .place ≤ to .place) × (to .place ≤ 2 ^ 20)
+        × (at .jentry ≤ 2 ^ 30) × (at .place ≤ 2 ^ 30) ⌝ }
+    ensures is { λ r. ⌜ r ≡ runBehind from to at ⌝ }
+    ensures kept { λ _. ⌜ now (out .exit)
+        ≡ patch (patch (now (out .entry)) (at .jentry) (runEntries (now (s .entry)) from to)) (at .place) (runPayloads (now (s .entry)) from to) ⌝ }
+{
     let table = JENTRY_SIZE * (to.index - from.index);
     let len = to.place - from.place;
     copy(slice(s, HEADER_SIZE + JENTRY_SIZE * from.index, table), out, at.jentry);
@@ -57,7 +119,11 @@ fn put_run(s: &[u8], from: PartAt, to: PartAt, out: &mut [u8], at: Cursor) -> Cu
 }
 
 // Stores an array of n items without one of them, and gives its length.
-fn put_array_without(s: &[u8], n: usize, item: PartAt, out: &mut [u8], at: usize) -> usize {
+fn put_array_without(s: &[u8], n: usize, item: PartAt, out: &mut [u8], at: usize) -> usize
+    requires { ⌜ Table (now s) n × PartOf (now s) n item × (at ≤ 2 ^ 23) ⌝ }
+    ensures { λ r. ⌜ Left r (now (out .entry)) (now (out .exit)) at
+        (recordOf (2 ^ 31 + (n - 1)) (without (item .index) (partsOf (now (s .entry)) n))) ⌝ }
+{
     let first = PartAt {
         index: 0,
         place: HEADER_SIZE + JENTRY_SIZE * n,
@@ -68,7 +134,7 @@ fn put_array_without(s: &[u8], n: usize, item: PartAt, out: &mut [u8], at: usize
     };
     let start = Cursor {
         jentry: at + HEADER_SIZE,
-        place: at + first.place - JENTRY_SIZE,
+        place: at + JENTRY_SIZE * n,
     };
     put_u32(out, at, ARRAY_CONTAINER_TAG | (n - 1) as u32);
     let middle = put_run(s, first, item, out, start);
@@ -76,8 +142,12 @@ fn put_array_without(s: &[u8], n: usize, item: PartAt, out: &mut [u8], at: usize
     end.place - at
 }
 
-// Stores an object of n members whose names rise, without one of them, and gives its length.
-fn put_object_without(s: &[u8], n: usize, val: PartAt, out: &mut [u8], at: usize) -> usize {
+// Stores an object of n members whose names rise, without the one with this value, and gives its length.
+fn put_object_without(s: &[u8], n: usize, val: PartAt, out: &mut [u8], at: usize) -> usize
+    requires { ⌜ Table (now s) (n + n) × PartOf (now s) (n + n) val × (n ≤ val .index) × (at ≤ 2 ^ 23) ⌝ }
+    ensures { λ r. ⌜ Left r (now (out .entry)) (now (out .exit)) at
+        (recordOf (2 ^ 30 + (n - 1)) (withoutMember n (val .index - n) (partsOf (now (s .entry)) (n + n)))) ⌝ }
+{
     let first = PartAt {
         index: 0,
         place: HEADER_SIZE + JENTRY_SIZE * (n + n),
@@ -86,13 +156,14 @@ fn put_object_without(s: &[u8], n: usize, val: PartAt, out: &mut [u8], at: usize
         index: n + n,
         place: s.len(),
     };
+    let k = val.index - n;
     let key = PartAt {
-        index: val.index - n,
-        place: place_after(s, first, val.index - n),
+        index: k,
+        place: place_after(s, first, k),
     };
     let start = Cursor {
         jentry: at + HEADER_SIZE,
-        place: at + first.place - (JENTRY_SIZE + JENTRY_SIZE),
+        place: at + HEADER_SIZE + JENTRY_SIZE * (n - 1 + (n - 1)),
     };
     put_u32(out, at, OBJECT_CONTAINER_TAG | (n - 1) as u32);
     let keys = put_run(s, first, key, out, start);
@@ -102,7 +173,10 @@ fn put_object_without(s: &[u8], n: usize, val: PartAt, out: &mut [u8], at: usize
 }
 
 // The places of the members of an object.
-fn members_of(s: &[u8], n: usize) -> Places {
+fn members_of(s: &[u8], n: usize) -> Places
+    requires { ⌜ n < 2 ^ 29 ⌝ }
+    ensures { λ r. ⌜ r ≡ membersOf (now (s .entry)) n ⌝ }
+{
     let first = PartAt {
         index: 0,
         place: HEADER_SIZE + JENTRY_SIZE * (n + n),
@@ -115,15 +189,12 @@ fn members_of(s: &[u8], n: usize) -> Places {
     }
 }
 
-// How many members are written anew, and how long their names and values are.
-pub struct Sizes {
-    pub count: usize,
-    pub keys: usize,
-    pub vals: usize,
-}
-
-// The sizes of the members in byte order, of equal names the first.
-fn measure_members(s: &[u8], from: Places, n: usize, kept: Kept) -> Sizes {
+// The sizes of the members in byte order, those left out aside, of equal names the first.
+fn measure_members(s: &[u8], from: Places, n: usize, kept: Kept) -> Sizes
+    requires { ⌜ (n < 2 ^ 29)
+        × (from .«key_jentry» < 2 ^ 32) × (from .«val_jentry» < 2 ^ 32) × (from .key < 2 ^ 32) × (from .val < 2 ^ 32) ⌝ }
+    ensures { λ r. ⌜ r ≡ sizesOf (now (s .entry)) (inTurn (now (s .entry)) from n kept) ⌝ }
+{
     let mut last = slice(s, 0, 0);
     let mut sizes = Sizes {
         count: 0,
@@ -147,28 +218,66 @@ fn measure_members(s: &[u8], from: Places, n: usize, kept: Kept) -> Sizes {
 }
 
 // Where an object of these sizes stores its members.
-fn places_for(sizes: Sizes, at: usize) -> Places {
-    let start = at + HEADER_SIZE + JENTRY_SIZE * (sizes.count + sizes.count);
+fn places_for(sizes: Sizes, at: usize) -> Places
+    requires { ⌜ (sizes .count < 2 ^ 29) × (sizes .keys < 2 ^ 60) × (at ≤ 2 ^ 23) ⌝ }
+    ensures { λ r. ⌜ r ≡ placesFor sizes at ⌝ }
+{
+    let start = at + HEADER_SIZE + JENTRY_SIZE * sizes.count;
     Places {
         key_jentry: at + HEADER_SIZE,
-        val_jentry: at + HEADER_SIZE + JENTRY_SIZE * sizes.count,
-        key: start,
-        val: start + sizes.keys,
+        val_jentry: start,
+        key: start + JENTRY_SIZE * sizes.count,
+        val: start + JENTRY_SIZE * sizes.count + sizes.keys,
     }
 }
 
-// Stores an object of n members in byte order of the names, without member k, and gives its length.
-fn put_sorted_without(s: &[u8], n: usize, k: usize, out: &mut [u8], at: usize) -> usize {
+// Stores an object of n members in byte order of the names, without the member with this value, and gives its length.
+fn put_sorted_without(s: &[u8], n: usize, val: PartAt, out: &mut [u8], at: usize) -> usize
+    requires { ⌜ Table (now s) (n + n) × (header (now s) ≡ Header.Object n) × (n ≤ val .index) × (val .index < n + n) × (at ≤ 2 ^ 23) ⌝ }
+    ensures { λ r. ⌜ (p : Step) → spot (header (now (s .entry))) (now (s .entry)) p ≡ Spot.At val
+        → Left r (now (out .entry)) (now (out .exit)) at (leftOf (now (s .entry)) (p ∷ «[]»)) ⌝ }
+{
     let from = members_of(s, n);
-    let sizes = measure_members(s, from, n, Kept::But(k));
+    let kept = Kept::But(val.index - n);
+    let sizes = measure_members(s, from, n, kept);
     let to = places_for(sizes, at);
     put_u32(out, at, OBJECT_CONTAINER_TAG | sizes.count as u32);
-    put_members(s, s, from, n, Kept::But(k), out, to);
+    put_members(s, s, from, n, kept, out, to);
     to.val + sizes.vals - at
 }
 
-// Stores a container with part `part` of `total` written anew, and gives its length.
-fn put_part_anew(s: &[u8], total: usize, part: PartAt, path: &[u8], way: Way, out: &mut [u8], at: usize, allowance: u32) -> usize {
+// Stores a container without a part that a step finds, and gives its length.
+fn put_without(s: &[u8], part: PartAt, out: &mut [u8], at: usize) -> usize
+    requires { ⌜ (checked (nested 64 (now s)) ≡ Readable) × (length (now s) ≤ 65536)
+        × ((p : Step) × (spot (header (now s)) (now s) p ≡ Spot.At part)) × (at ≤ 2 ^ 23) ⌝ }
+    ensures { λ r. ⌜ (p : Step) → spot (header (now (s .entry))) (now (s .entry)) p ≡ Spot.At part
+        → Left r (now (out .entry)) (now (out .exit)) at (leftOf (now (s .entry)) (p ∷ «[]»)) ⌝ }
+{
+    match manner(s) {
+        Manner::Items(n) => put_array_without(s, n, part, out, at),
+        Manner::Rising(n) => put_object_without(s, n, part, out, at),
+        Manner::Unsorted(n) => put_sorted_without(s, n, part, out, at),
+        Manner::Neither => 0,
+    }
+}
+
+// The way behind its next step.
+fn way_behind(path: &[u8], way: Way) -> Way
+    requires { ⌜ (way .step .index < 2 ^ 29) × (way .step .place < 2 ^ 60) ⌝ }
+    ensures { λ r. ⌜ r ≡ wayBehind (now (path .entry)) way ⌝ }
+{
+    Way {
+        step: part_behind(path, way.step),
+        count: way.count,
+    }
+}
+
+// Stores a container with one of its parts written anew, and gives its length.
+fn put_part_anew(s: &[u8], total: usize, part: PartAt, path: &[u8], way: Way, out: &mut [u8], at: usize, allowance: u32) -> usize
+    requires { ⌜ Cuts (now s) (now path) way allowance × Table (now s) total × PartOf (now s) total part
+        × Anew (now s) (now path) way part × (at ≤ 65536 * (64 - allowance)) ⌝ }
+    ensures { λ r. ⌜ Left r (now (out .entry)) (now (out .exit)) at (leftOf (now (s .entry)) (stepsFrom (now (path .entry)) way)) ⌝ }
+{
     let first = PartAt {
         index: 0,
         place: HEADER_SIZE + JENTRY_SIZE * total,
@@ -182,9 +291,16 @@ fn put_part_anew(s: &[u8], total: usize, part: PartAt, path: &[u8], way: Way, ou
         jentry: at + HEADER_SIZE,
         place: at + first.place,
     };
-    copy(slice(s, 0, HEADER_SIZE), out, at);
+    put_u32(out, at, read_u32(s, 0));
     let here = put_run(s, first, part, out, start);
-    let len = put_deleted(&s[part.place..next.place], path, way, out, here.place, allowance);
+    let len = put_deleted(
+        &s[part.place..next.place],
+        path,
+        way_behind(path, way),
+        out,
+        here.place,
+        allowance - 1,
+    );
     put_u32(out, here.jentry, encoded(CONTAINER_CODE, len as u32));
     let behind = Cursor {
         jentry: here.jentry + JENTRY_SIZE,
@@ -194,25 +310,44 @@ fn put_part_anew(s: &[u8], total: usize, part: PartAt, path: &[u8], way: Way, ou
     end.place - at
 }
 
-// Stores a member whose value is written anew, and gives the places behind it.
-fn put_member_anew(s: &[u8], member: MemberAt, path: &[u8], way: Way, out: &mut [u8], at: Places, allowance: u32) -> Places {
-    let name = payload_at(s, member.key);
-    put_u32(out, at.key_jentry, member.key.jentry);
-    copy(name, out, at.key);
-    let len = put_deleted(payload_at(s, member.val), path, way, out, at.val, allowance);
-    put_u32(out, at.val_jentry, encoded(CONTAINER_CODE, len as u32));
-    Places {
-        key_jentry: at.key_jentry + JENTRY_SIZE,
-        val_jentry: at.val_jentry + JENTRY_SIZE,
-        key: at.key + name.len(),
-        val: at.val + len,
+// Stores a member, its value written anew where it has this name, and gives the places behind it.
+fn put_member_anew(
+    s: &[u8],
+    member: MemberAt,
+    name: &[u8],
+    path: &[u8],
+    next: Way,
+    out: &mut [u8],
+    at: Places,
+    allowance: u32,
+) -> Places
+    requires { ⌜ (at .«key_jentry» < 2 ^ 60) × (at .«val_jentry» < 2 ^ 60) × (at .key < 2 ^ 60) × (at .val ≤ 65536 * (64 - allowance)) ⌝ }
+{
+    let key = payload_at(s, member.key);
+    if is_same(key, name) {
+        put_u32(out, at.key_jentry, member.key.jentry);
+        copy(key, out, at.key);
+        let len = put_deleted(payload_at(s, member.val), path, next, out, at.val, allowance);
+        put_u32(out, at.val_jentry, encoded(CONTAINER_CODE, len as u32));
+        return Places {
+            key_jentry: at.key_jentry + JENTRY_SIZE,
+            val_jentry: at.val_jentry + JENTRY_SIZE,
+            key: at.key + key.len(),
+            val: at.val + len,
+        };
     }
+    put_member(s, s, member, out, at)
 }
 
-// Stores an object of n members in byte order of the names, the value of the first that has this name written anew, and gives
-// its length.
-fn put_sorted_anew(s: &[u8], n: usize, name: &[u8], path: &[u8], way: Way, out: &mut [u8], at: usize, allowance: u32) -> usize {
+// Stores an object of n members in byte order of the names, with one value written anew, and gives its length.
+fn put_sorted_anew(s: &[u8], n: usize, val: PartAt, path: &[u8], way: Way, out: &mut [u8], at: usize, allowance: u32) -> usize
+    requires { ⌜ Cuts (now s) (now path) way allowance × Anew (now s) (now path) way val × (header (now s) ≡ Header.Object n)
+        × (at ≤ 65536 * (64 - allowance)) ⌝ }
+    ensures { λ r. ⌜ Left r (now (out .entry)) (now (out .exit)) at (leftOf (now (s .entry)) (stepsFrom (now (path .entry)) way)) ⌝ }
+{
     let from = members_of(s, n);
+    let name = name_of(s, n, val.index - n);
+    let next = way_behind(path, way);
     let sizes = measure_members(s, from, n, Kept::All);
     let mut to = places_for(sizes, at);
     put_u32(out, at, OBJECT_CONTAINER_TAG | sizes.count as u32);
@@ -222,61 +357,41 @@ fn put_sorted_anew(s: &[u8], n: usize, name: &[u8], path: &[u8], way: Way, out: 
         let Found::At(member) = next_member(s, s, from, n, Kept::All, i == 0, last) else {
             return to.val - at;
         };
+        to = put_member_anew(s, member, name, path, next, out, to, allowance - 1);
         last = payload_at(s, member.key);
-        if is_same(last, name) {
-            to = put_member_anew(s, member, path, way, out, to, allowance);
-        } else {
-            to = put_member(s, s, member, out, to);
-        }
         i += 1;
     }
     to.val - at
 }
 
 // Stores a container without the item that the rest of a path finds in it, and gives its length.
-fn put_deleted(s: &[u8], path: &[u8], way: Way, out: &mut [u8], at: usize, allowance: u32) -> usize {
-    if allowance == 0 {
-        return 0;
-    }
+fn put_deleted(s: &[u8], path: &[u8], way: Way, out: &mut [u8], at: usize, allowance: u32) -> usize
+    requires { ⌜ Cuts (now s) (now path) way allowance × (at ≤ 65536 * (64 - allowance)) ⌝ }
+    ensures { λ r. ⌜ Left r (now (out .entry)) (now (out .exit)) at (leftOf (now (s .entry)) (stepsFrom (now (path .entry)) way)) ⌝ }
+{
     let jentry = read_jentry(path, way.step.index);
     let text = slice(path, way.step.place, payload_len(jentry) as usize);
     let Spot::At(part) = find_step(s, jentry, text) else {
         return 0;
     };
-    let next = Way {
-        step: part_behind(path, way.step),
-        count: way.count,
-    };
-    match read_header(s) {
-        Header::Array(n) => put_array_deleted(s, n, part, path, next, out, at, allowance - 1),
-        Header::Object(n) => put_object_deleted(s, n, part, path, next, out, at, allowance - 1),
-        Header::Scalar(_) => 0,
-        Header::Refused(_) => 0,
+    if way.step.index + 1 == way.count {
+        return put_without(s, part, out, at);
     }
-}
-
-fn put_array_deleted(s: &[u8], n: usize, part: PartAt, path: &[u8], next: Way, out: &mut [u8], at: usize, allowance: u32) -> usize {
-    if next.step.index == next.count {
-        return put_array_without(s, n, part, out, at);
+    match manner(s) {
+        Manner::Items(n) => put_part_anew(s, n, part, path, way, out, at, allowance),
+        Manner::Rising(n) => put_part_anew(s, n + n, part, path, way, out, at, allowance),
+        Manner::Unsorted(n) => put_sorted_anew(s, n, part, path, way, out, at, allowance),
+        Manner::Neither => 0,
     }
-    put_part_anew(s, n, part, path, next, out, at, allowance)
-}
-
-fn put_object_deleted(s: &[u8], n: usize, part: PartAt, path: &[u8], next: Way, out: &mut [u8], at: usize, allowance: u32) -> usize {
-    if is_rising(s, n, HEADER_SIZE + JENTRY_SIZE * (n + n)) {
-        if next.step.index == next.count {
-            return put_object_without(s, n, part, out, at);
-        }
-        return put_part_anew(s, n + n, part, path, next, out, at, allowance);
-    }
-    if next.step.index == next.count {
-        return put_sorted_without(s, n, part.index - n, out, at);
-    }
-    put_sorted_anew(s, n, slice(s, 0, 0), path, next, out, at, allowance)
 }
 
 // Stores a container without the item that a path of n steps finds in it, where there is room for it.
-pub(crate) fn write_deleted(s: &[u8], path: &[u8], n: usize, out: &mut [u8]) -> Ending {
+pub(crate) fn write_deleted(s: &[u8], path: &[u8], n: usize, out: &mut [u8]) -> Ending
+    requires { ⌜ (checked (nested 64 (now s)) ≡ Readable) × (length (now s) ≤ 65536) × (n < 2 ^ 29) × (0 < n)
+        × ((t : Tree) × (finding (now s) (partSteps (partsAt (now path) 0 (4 + 4 * n) n)) ≡ some t)) ⌝ }
+    ensures { λ e. ⌜ Ended e (now (out .entry)) (now (out .exit))
+        (into (length (now (out .entry))) (leftOf (now (s .entry)) (partSteps (partsAt (now (path .entry)) 0 (4 + 4 * n) n)))) ⌝ }
+{
     let way = Way {
         step: PartAt {
             index: 0,

@@ -2,24 +2,27 @@
 use Prim.Native.Nat.{_-_}
 use native.Mathlib.Omega.{arith}
 use borrow.Author.Needs.{needs}
-use Rattle.builders.proofs.Storing.{Stored, begins, goes, ends-early, ends-full}
+use Rattle.builders.specs.Search.{name-in, value-in, members-at, kept-of}
+use Rattle.builders.specs.Weave.{own-entry}
+use Rattle.builders.proofs.Storing.{Stored, begins, goes, ends-early, ends-full, few-searched}
+use Rattle.builders.proofs.Searches.{bytes-short}
 use Rattle.builders.proofs.search.put_members.Statement.{statement}
 use Rattle.builders.proofs.search.put_members.Tie as tie
 
 abbrev Inv-loop : tie.InvT-loop
-Inv-loop keys vals from count kept out₀ last₀ at₀ i₀ out last at i = Stored keys vals from count kept out₀ at₀ out last at i
+Inv-loop keys vals from count kept out₀ last₀ at₀ i₀ out last at i = Stored (name-in keys) (value-in vals) own-entry (kept-of kept 0 (members-at keys vals from count)) out₀ at₀ out last at i
 
 abbrev μ-loop : tie.MeasureT-loop
 μ-loop keys vals from count kept out₀ last₀ at₀ i₀ out last at i = count - i
 
 loop-holds : tie.Need-loop-holds Inv-loop μ-loop
-loop-holds c = begins _ _ _ _ _ _ _ _
+loop-holds c = begins _ _ _ _ _ _ _
 
 same-length : tie.Need-same-length Inv-loop μ-loop
 same-length c = c .before .before .before .before .loop .inv .as-long
 
 returns : tie.Need-returns Inv-loop μ-loop
-returns c = ends-early _ _ _ _ _ _ _ _ _ _ _ (c .before .before .before .before .loop .inv) _ (c .before .before .next-member .ensures) (c .enum-told .given .1)
+returns c = ends-early _ _ _ _ _ _ _ _ _ _ (c .before .before .before .before .loop .inv) _ (c .before .before .next-member .ensures) (c .enum-told .given .1)
 
 put-member-requires : tie.Need-put-member-requires Inv-loop μ-loop
 put-member-requires c κs = let l = c .before .before .before .before .before .before .loop .inv in omega (arith, l .near-key-jentry, l .near-val-jentry, l .near-key, l .near-val, c .before .before .before .before .before .before .before .before .before .before .before .pre, c .before .before .before .before .before .loop-test .taken)
@@ -28,13 +31,13 @@ add-i : tie.Need-add-i Inv-loop μ-loop
 add-i c = omega (arith, c .before .before .before .before .before .before .before .before .before .before .before .before .before .before .before .pre, c .before .before .before .before .before .before .before .before .before .loop-test .taken)
 
 loop-again : tie.Need-loop-again Inv-loop μ-loop
-loop-again c = goes _ _ _ _ _ _ _ _ _ _ _ (c .before .before .before .before .before .before .before .before .before .before .loop .inv) _ (c .before .before .before .before .before .before .before .before .next-member .ensures) _ _ _ _ (c .before .before .before .before .before .before .member .given .1) (c .before .before .before .put-member .ensures) (c .payload-at .ensures)
+loop-again c = goes _ _ _ _ _ _ _ _ _ _ (c .before .before .before .before .before .before .before .before .before .before .loop .inv) _ (c .before .before .before .before .before .before .before .before .next-member .ensures) _ _ _ _ (c .before .before .before .before .before .before .member .given .1) (c .before .before .before .put-member .ensures) (c .payload-at .ensures) (bytes-short (c .before .before .before .before .before .before .before .before .before .before .before .before .before .before .before .args .keys .now) (c .before .before .before .before .before .before .member .given .0 .0 .key)) (bytes-short (c .before .before .before .before .before .before .before .before .before .before .before .before .before .before .before .args .vals .now) (c .before .before .before .before .before .before .member .given .0 .0 .val))
 
 same-length-2 : tie.Need-same-length-2 Inv-loop μ-loop
 same-length-2 c = c .before .loop .inv .as-long
 
 returns-2 : tie.Need-returns-2 Inv-loop μ-loop
-returns-2 c = ends-full _ _ _ _ _ _ _ _ _ _ _ (c .before .loop .inv) (c .loop-test .left)
+returns-2 c = ends-full _ _ _ _ _ _ _ _ _ _ (c .before .loop .inv) _ (few-searched _ _ _ _ _) (c .loop-test .left)
 
 pub put-members-spec : {M : Type 1} → statement M
 put-members-spec =

@@ -1,0 +1,122 @@
+-- A container without an item, or with one written anew, as the code of delete stores it. proofs/Cuts.antt ties it to `left`.
+use Prim.Native.Nat.{ℕ, suc, _+_, _*_, _-_, _^_, _≤_, _<_}
+use mathlib.Core.Path.{_≡_}
+use mathlib.Core.Bool.{Bool, true, false, cond}
+use mathlib.Core.List.{List, [], _∷_, _++_}
+use mathlib.Core.Option.{Option, none as nothing, some}
+use lib.ListN.{length, take, drop}
+use Rattle.layout.specs.Bytes.{Bytes, word-at}
+use Rattle.layout.specs.Answer.{Answer, gives, refused}
+use Rattle.layout.specs.Tree.{Tree}
+use Rattle.layout.specs.Encode.{Part, payload, record-of}
+use Rattle.layout.specs.Read.{header, nested}
+use Rattle.layout.specs.Check.{checked}
+use Rattle.layout.specs.Patch.{patch}
+use Rattle.layout.specs.Place.{parts-at, rising-parts}
+use Rattle.layout.specs.declared.check.Check.the-variants.{Readable}
+use Rattle.layout.specs.declared.util.Header.{Header}
+use Rattle.layout.specs.declared.util.Header.the-variants.{Array, Object, Scalar, Refused}
+use Rattle.builders.specs.Search.{name-in, value-in, members-at, kept-of, sorted}
+use Rattle.builders.specs.Weave.{column}
+use Rattle.builders.specs.declared.search.Kept.{Kept}
+use Rattle.builders.specs.declared.search.MemberAt.{MemberAt}
+use Rattle.builders.specs.declared.search.Places.{Places}
+use Rattle.edits.specs.Path.{Step}
+use Rattle.edits.specs.Find.{look-up}
+use Rattle.edits.specs.Delete.{left}
+use Rattle.edits.specs.Steps.{part-steps}
+use Rattle.edits.specs.Spot.{spot, nth-part}
+use Rattle.edits.specs.Held.{finding}
+use Rattle.edits.specs.declared.find.PartAt.{PartAt}
+use Rattle.edits.specs.declared.find.Spot.the-variants.{At}
+use Rattle.edits.specs.declared.delete.Cursor.{Cursor}
+use Rattle.edits.specs.declared.delete.Way.{Way}
+use Rattle.edits.specs.declared.delete.Manner.{Manner}
+use Rattle.edits.specs.declared.delete.Manner.the-variants.{Items, Rising, Unsorted, Neither}
+use Rattle.edits.specs.declared.delete.Sizes.{Sizes}
+
+-- The bytes of what is left of a container, by its bytes.
+abbrev pub left-payload : Option Tree → Bytes
+left-payload nothing = []
+left-payload (some t) = payload t
+
+abbrev pub left-in : Answer Tree → List Step → Bytes
+left-in (gives t) p = left-payload (left p t)
+left-in (refused r) p = []
+
+unfoldable pub left-of : Bytes → List Step → Bytes
+left-of s p = left-in (nested 64 s) p
+
+-- The steps that are still to be taken.
+abbrev pub steps-from : Bytes → Way → List Step
+steps-from path w = part-steps (parts-at path (w .step .index) (w .step .place) (w .count - w .step .index))
+
+-- A container in which the rest of a path finds an item.
+pub record Cuts (s path : Bytes) (w : Way) (allowance : ℕ) : Type 0 where
+  pub readable : checked (nested allowance s) ≡ Readable
+  pub allowed : allowance ≤ 64
+  pub short : length s ≤ 65536
+  pub more : w .step .index < w .count
+  pub few : w .count < 2 ^ 29
+  pub near : w .step .place ≤ 2 ^ 32 + 2 ^ 28 * w .step .index
+  pub finds : (t : Tree) × (finding s (steps-from path w) ≡ some t)
+
+-- What is stored of it, and its length.
+pub record Left (r : ℕ) (before after : Bytes) (at : ℕ) (b : Bytes) : Type 0 where
+  pub length-is : r ≡ length b
+  pub stored : after ≡ patch before at b
+
+-- Parts from one up to another: their entries, and their payloads.
+abbrev pub run-entries : Bytes → PartAt → PartAt → Bytes
+run-entries s a b = take (4 * (b .index - a .index)) (drop (4 + 4 * a .index) s)
+
+abbrev pub run-payloads : Bytes → PartAt → PartAt → Bytes
+run-payloads s a b = take (b .place - a .place) (drop (a .place) s)
+
+abbrev pub run-behind : PartAt → PartAt → Cursor → Cursor
+run-behind a b at =
+    record { jentry = at .jentry + 4 * (b .index - a .index); place = at .place + (b .place - a .place) }
+
+-- A readable container of `n` parts, names and values each counting as one; and its part `p`.
+abbrev pub count-parts : Header → ℕ
+count-parts (Array n) = n
+count-parts (Object n) = n + n
+count-parts (Scalar n) = 0
+count-parts (Refused r) = 0
+
+pub record Table (s : Bytes) (n : ℕ) : Type 0 where
+  pub readable : checked (nested 64 s) ≡ Readable
+  pub short : length s ≤ 65536
+  pub count : count-parts (header s) ≡ n
+
+abbrev pub parts-of : Bytes → ℕ → List Part
+parts-of s n = parts-at s 0 (4 + 4 * n) n
+
+pub record PartOf (s : Bytes) (n : ℕ) (p : PartAt) : Type 0 where
+  pub inside : p .index < n
+  pub is : p ≡ nth-part s n (p .index)
+
+-- Without part `k`; without the name and the value of member `k` of `n`; with another part in the stead of part `k`.
+abbrev pub without : ℕ → List Part → List Part
+without k ps = take k ps ++ drop (suc k) ps
+
+abbrev pub without-member : ℕ → ℕ → List Part → List Part
+without-member n k ps = without k (take n ps) ++ without k (drop n ps)
+
+abbrev pub with-part : ℕ → Part → List Part → List Part
+with-part k p ps = take k ps ++ (p ∷ drop (suc k) ps)
+
+-- How a container is written anew.
+abbrev pub manner-of : Header → Bytes → Manner
+manner-of (Array n) s = Items n
+manner-of (Object n) s = cond (rising-parts (parts-at s 0 (4 + 4 * (n + n)) n)) (Rising n) (Unsorted n)
+manner-of (Scalar n) s = Neither
+manner-of (Refused r) s = Neither
+
+-- Members in byte order, and their sizes.
+abbrev pub in-turn : Bytes → Places → ℕ → Kept → List MemberAt
+in-turn s from n kept = sorted (name-in s) (kept-of kept 0 (members-at s s from n))
+
+abbrev pub sizes-of : Bytes → List MemberAt → Sizes
+sizes-of s xs =
+    record { count = length xs; keys = length (column (name-in s) xs); vals = length (column (value-in s) xs) }
