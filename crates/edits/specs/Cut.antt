@@ -7,15 +7,17 @@ use mathlib.Core.Option.{Option, none as nothing, some}
 use lib.ListN.{length, take, drop}
 use Rattle.layout.specs.Bytes.{Bytes, word-at}
 use Rattle.layout.specs.Answer.{Answer, gives, refused}
+use Rattle.layout.specs.Entry.{entry-of, lengths}
 use Rattle.layout.specs.Tree.{Tree}
 use Rattle.layout.specs.Encode.{Part, payload, record-of}
 use Rattle.layout.specs.Read.{header, nested}
 use Rattle.layout.specs.Check.{checked}
 use Rattle.layout.specs.Patch.{patch}
-use Rattle.layout.specs.Place.{parts-at, rising-parts}
+use Rattle.layout.specs.Place.{part-at, parts-at, rising-parts}
 use Rattle.layout.specs.declared.check.Check.the-variants.{Readable}
 use Rattle.layout.specs.declared.util.Header.{Header}
 use Rattle.layout.specs.declared.util.Header.the-variants.{Array, Object, Scalar, Refused}
+use Rattle.builders.specs.Order.{same}
 use Rattle.builders.specs.Search.{name-in, value-in, members-at, kept-of, sorted}
 use Rattle.builders.specs.Weave.{column}
 use Rattle.builders.specs.declared.search.Kept.{Kept}
@@ -24,8 +26,8 @@ use Rattle.builders.specs.declared.search.Places.{Places}
 use Rattle.edits.specs.Path.{Step}
 use Rattle.edits.specs.Find.{look-up}
 use Rattle.edits.specs.Delete.{left}
-use Rattle.edits.specs.Steps.{part-steps}
-use Rattle.edits.specs.Spot.{spot, nth-part}
+use Rattle.edits.specs.Steps.{part-step, part-steps}
+use Rattle.edits.specs.Spot.{spot, nth-part, behind}
 use Rattle.edits.specs.Held.{finding}
 use Rattle.edits.specs.declared.find.PartAt.{PartAt}
 use Rattle.edits.specs.declared.find.Spot.the-variants.{At}
@@ -47,7 +49,13 @@ left-in (refused r) p = []
 unfoldable pub left-of : Bytes → List Step → Bytes
 left-of s p = left-in (nested 64 s) p
 
--- The steps that are still to be taken.
+-- The steps that are still to be taken, the next one first.
+abbrev pub step-at : Bytes → PartAt → Step
+step-at path p = part-step (part-at path (p .index) (p .place))
+
+abbrev pub way-behind : Bytes → Way → Way
+way-behind path w = record { step = behind path (w .step); count = w .count }
+
 abbrev pub steps-from : Bytes → Way → List Step
 steps-from path w = part-steps (parts-at path (w .step .index) (w .step .place) (w .count - w .step .index))
 
@@ -61,10 +69,22 @@ pub record Cuts (s path : Bytes) (w : Way) (allowance : ℕ) : Type 0 where
   pub near : w .step .place ≤ 2 ^ 32 + 2 ^ 28 * w .step .index
   pub finds : (t : Tree) × (finding s (steps-from path w) ≡ some t)
 
+-- Where the next step leads, and it is not the last.
+pub record Onward (s path : Bytes) (w : Way) (p : PartAt) : Type 0 where
+  pub leads : spot (header s) s (step-at path (w .step)) ≡ At p
+  pub more : w .step .index + 1 < w .count
+
 -- What is stored of it, and its length.
 pub record Left (r : ℕ) (before after : Bytes) (at : ℕ) (b : Bytes) : Type 0 where
   pub length-is : r ≡ length b
   pub stored : after ≡ patch before at b
+
+-- The same where the item itself goes: a part that a step leads to.
+abbrev pub LedTo : Bytes → PartAt → Type 0
+LedTo s a = (p : Step) × (spot (header s) s p ≡ At a)
+
+abbrev pub LeftBy : Bytes → PartAt → ℕ → Bytes → Bytes → ℕ → Type 0
+LeftBy s a r before after at = (p : Step) → spot (header s) s p ≡ At a → Left r before after at (left-of s (p ∷ []))
 
 -- Parts from one up to another: their entries, and their payloads.
 abbrev pub run-entries : Bytes → PartAt → PartAt → Bytes
@@ -96,15 +116,12 @@ pub record PartOf (s : Bytes) (n : ℕ) (p : PartAt) : Type 0 where
   pub inside : p .index < n
   pub is : p ≡ nth-part s n (p .index)
 
--- Without part `k`; without the name and the value of member `k` of `n`; with another part in the stead of part `k`.
+-- Without part `k`; without the name and the value of member `k` of `n`.
 abbrev pub without : ℕ → List Part → List Part
 without k ps = take k ps ++ drop (suc k) ps
 
 abbrev pub without-member : ℕ → ℕ → List Part → List Part
 without-member n k ps = without k (take n ps) ++ without k (drop n ps)
-
-abbrev pub with-part : ℕ → Part → List Part → List Part
-with-part k p ps = take k ps ++ (p ∷ drop (suc k) ps)
 
 -- How a container is written anew.
 abbrev pub manner-of : Header → Bytes → Manner
@@ -120,3 +137,33 @@ in-turn s from n kept = sorted (name-in s) (kept-of kept 0 (members-at s s from 
 abbrev pub sizes-of : Bytes → List MemberAt → Sizes
 sizes-of s xs =
     record { count = length xs; keys = length (column (name-in s) xs); vals = length (column (value-in s) xs) }
+
+-- The places of the members of an object, in its record and in one that is written anew.
+abbrev pub members-of : Bytes → ℕ → Places
+members-of s n =
+    record {
+      «key_jentry» = 4;
+      «val_jentry» = 4 + 4 * n;
+      key = 4 + 4 * (n + n);
+      val = 4 + 4 * (n + n) + lengths s 0 n;
+    }
+
+abbrev pub places-for : Sizes → ℕ → Places
+places-for z at =
+    record {
+      «key_jentry» = at + 4;
+      «val_jentry» = at + 4 + 4 * z .count;
+      key = at + 4 + 4 * z .count + 4 * z .count;
+      val = at + 4 + 4 * z .count + 4 * z .count + z .keys;
+    }
+
+-- The name of member `k`.
+abbrev pub name-of : Bytes → ℕ → ℕ → Bytes
+name-of s n k = part-at s k (4 + 4 * (n + n) + lengths s 0 k) .bytes
+
+-- The value of a member and its entry, where the values of a name are written anew.
+abbrev pub anew-value : Bytes → Bytes → List Step → MemberAt → Bytes
+anew-value s n p m = cond (same (name-in s m) n) (left-of (value-in s m) p) (value-in s m)
+
+abbrev pub anew-entry : Bytes → Bytes → List Step → MemberAt → ℕ
+anew-entry s n p m = cond (same (name-in s m) n) (entry-of 5 (length (left-of (value-in s m) p))) (m .val .jentry)

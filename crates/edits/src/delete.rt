@@ -34,27 +34,27 @@ use layout::writer::copy;
 use layout::writer::put_u32;
 ghost use mathlib.Core.Path.{_≡_};
 ghost use mathlib.Core.Option.{some};
-ghost use mathlib.Core.List.{_∷_, «[]»};
+ghost use mathlib.Core.Bool.{true};
 ghost use Prim.Native.Nat.{_+_, _-_, _*_, _^_, _≤_, _<_};
 ghost use lib.ListN.{length};
+ghost use Rattle.layout.specs.Tree.{Tree};
 ghost use Rattle.layout.specs.Encode.{«record-of» as recordOf};
 ghost use Rattle.layout.specs.Read.{header, nested};
 ghost use Rattle.layout.specs.Check.{checked};
 ghost use Rattle.layout.specs.Patch.{patch};
 ghost use Rattle.layout.specs.Ended.{Ended, into};
-ghost use Rattle.layout.specs.Entry.{lengths};
 ghost use Rattle.layout.specs.Place.{«parts-at» as partsAt};
 ghost use Rattle.layout.specs.declared.check.Check.the-variants.{Readable};
 ghost use Rattle.builders.specs.Order.{same};
 ghost use Rattle.builders.specs.Search.{«name-in» as nameIn, «value-in» as valueIn};
-ghost use Rattle.builders.specs.Weave.{column};
+ghost use Rattle.builders.specs.Weave.{behind, stored};
 ghost use Rattle.edits.specs.Steps.{«part-steps» as partSteps};
-ghost use Rattle.edits.specs.Path.{Step};
-ghost use Rattle.edits.specs.Spot.{spot};
 ghost use Rattle.edits.specs.Held.{finding};
-ghost use Rattle.edits.specs.Cut.{Left, Cuts, Table, PartOf, without, «without-member» as withoutMember};
+ghost use Rattle.edits.specs.Cut.{Left, LedTo, LeftBy, Cuts, Onward, Table, PartOf, without, «without-member» as withoutMember};
 ghost use Rattle.edits.specs.Cut.{«left-of» as leftOf, «steps-from» as stepsFrom, «parts-of» as partsOf};
 ghost use Rattle.edits.specs.Cut.{«run-entries» as runEntries, «run-payloads» as runPayloads, «run-behind» as runBehind};
+ghost use Rattle.edits.specs.Cut.{«members-of» as membersOf, «places-for» as placesFor, «name-of» as nameOf};
+ghost use Rattle.edits.specs.Cut.{«way-behind» as wayBehind, «anew-value» as anewValue, «anew-entry» as anewEntry};
 ghost use Rattle.edits.specs.Cut.{«manner-of» as mannerOf, «in-turn» as inTurn, «sizes-of» as sizesOf};
 
 // The places of the entry and of the payload that are stored next.
@@ -84,7 +84,7 @@ pub struct Sizes {
     pub vals: usize,
 }
 
-fn manner(s: &[u8]) -> Manner
+fn manner_of(s: &[u8]) -> Manner
     ensures { λ r. ⌜ r ≡ mannerOf (header (now (s .entry))) (now (s .entry)) ⌝ }
 {
     match read_header(s) {
@@ -217,6 +217,18 @@ fn measure_members(s: &[u8], from: Places, n: usize, kept: Kept) -> Sizes
     sizes
 }
 
+// The name of member k of n.
+fn name_of(s: &[u8], n: usize, k: usize) -> &[u8]
+    requires { ⌜ (n < 2 ^ 29) × (k < n) ⌝ }
+    ensures { λ r. ⌜ now r ≡ nameOf (now (s .entry)) n k ⌝ }
+{
+    let first = PartAt {
+        index: 0,
+        place: HEADER_SIZE + JENTRY_SIZE * (n + n),
+    };
+    slice(s, place_after(s, first, k), payload_len(read_jentry(s, k)) as usize)
+}
+
 // Where an object of these sizes stores its members.
 fn places_for(sizes: Sizes, at: usize) -> Places
     requires { ⌜ (sizes .count < 2 ^ 29) × (sizes .keys < 2 ^ 60) × (at ≤ 2 ^ 23) ⌝ }
@@ -234,8 +246,7 @@ fn places_for(sizes: Sizes, at: usize) -> Places
 // Stores an object of n members in byte order of the names, without the member with this value, and gives its length.
 fn put_sorted_without(s: &[u8], n: usize, val: PartAt, out: &mut [u8], at: usize) -> usize
     requires { ⌜ Table (now s) (n + n) × (header (now s) ≡ Header.Object n) × (n ≤ val .index) × (val .index < n + n) × (at ≤ 2 ^ 23) ⌝ }
-    ensures { λ r. ⌜ (p : Step) → spot (header (now (s .entry))) (now (s .entry)) p ≡ Spot.At val
-        → Left r (now (out .entry)) (now (out .exit)) at (leftOf (now (s .entry)) (p ∷ «[]»)) ⌝ }
+    ensures { λ r. ⌜ LeftBy (now (s .entry)) val r (now (out .entry)) (now (out .exit)) at ⌝ }
 {
     let from = members_of(s, n);
     let kept = Kept::But(val.index - n);
@@ -249,11 +260,10 @@ fn put_sorted_without(s: &[u8], n: usize, val: PartAt, out: &mut [u8], at: usize
 // Stores a container without a part that a step finds, and gives its length.
 fn put_without(s: &[u8], part: PartAt, out: &mut [u8], at: usize) -> usize
     requires { ⌜ (checked (nested 64 (now s)) ≡ Readable) × (length (now s) ≤ 65536)
-        × ((p : Step) × (spot (header (now s)) (now s) p ≡ Spot.At part)) × (at ≤ 2 ^ 23) ⌝ }
-    ensures { λ r. ⌜ (p : Step) → spot (header (now (s .entry))) (now (s .entry)) p ≡ Spot.At part
-        → Left r (now (out .entry)) (now (out .exit)) at (leftOf (now (s .entry)) (p ∷ «[]»)) ⌝ }
+        × LedTo (now s) part × (at ≤ 2 ^ 23) ⌝ }
+    ensures { λ r. ⌜ LeftBy (now (s .entry)) part r (now (out .entry)) (now (out .exit)) at ⌝ }
 {
-    match manner(s) {
+    match manner_of(s) {
         Manner::Items(n) => put_array_without(s, n, part, out, at),
         Manner::Rising(n) => put_object_without(s, n, part, out, at),
         Manner::Unsorted(n) => put_sorted_without(s, n, part, out, at),
@@ -275,7 +285,7 @@ fn way_behind(path: &[u8], way: Way) -> Way
 // Stores a container with one of its parts written anew, and gives its length.
 fn put_part_anew(s: &[u8], total: usize, part: PartAt, path: &[u8], way: Way, out: &mut [u8], at: usize, allowance: u32) -> usize
     requires { ⌜ Cuts (now s) (now path) way allowance × Table (now s) total × PartOf (now s) total part
-        × Anew (now s) (now path) way part × (at ≤ 65536 * (64 - allowance)) ⌝ }
+        × Onward (now s) (now path) way part × (at ≤ 65536 * (64 - allowance)) ⌝ }
     ensures { λ r. ⌜ Left r (now (out .entry)) (now (out .exit)) at (leftOf (now (s .entry)) (stepsFrom (now (path .entry)) way)) ⌝ }
 {
     let first = PartAt {
@@ -321,7 +331,16 @@ fn put_member_anew(
     at: Places,
     allowance: u32,
 ) -> Places
-    requires { ⌜ (at .«key_jentry» < 2 ^ 60) × (at .«val_jentry» < 2 ^ 60) × (at .key < 2 ^ 60) × (at .val ≤ 65536 * (64 - allowance)) ⌝ }
+    requires { ⌜ (at .«key_jentry» < 2 ^ 60) × (at .key < 2 ^ 60) × (at .val < 2 ^ 60)
+        × (at .«val_jentry» + 4 ≤ at .key) × (at .«val_jentry» + 4 ≤ at .val)
+        × (same (nameIn (now s) member) (now name) ≡ true
+        → Cuts (valueIn (now s) member) (now path) next allowance × (at .val ≤ 65536 * (64 - allowance))) ⌝ }
+    ensures is { λ r. ⌜ r ≡ behind (nameIn (now (s .entry)) member)
+        (anewValue (now (s .entry)) (now (name .entry)) (stepsFrom (now (path .entry)) next) member) at ⌝ }
+    ensures kept { λ _. ⌜ now (out .exit) ≡ stored (nameIn (now (s .entry)))
+        (anewValue (now (s .entry)) (now (name .entry)) (stepsFrom (now (path .entry)) next))
+        (anewEntry (now (s .entry)) (now (name .entry)) (stepsFrom (now (path .entry)) next))
+        (now (out .entry)) (at .«key_jentry») (at .«val_jentry») (at .key) (at .val) member ⌝ }
 {
     let key = payload_at(s, member.key);
     if is_same(key, name) {
@@ -341,7 +360,7 @@ fn put_member_anew(
 
 // Stores an object of n members in byte order of the names, with one value written anew, and gives its length.
 fn put_sorted_anew(s: &[u8], n: usize, val: PartAt, path: &[u8], way: Way, out: &mut [u8], at: usize, allowance: u32) -> usize
-    requires { ⌜ Cuts (now s) (now path) way allowance × Anew (now s) (now path) way val × (header (now s) ≡ Header.Object n)
+    requires { ⌜ Cuts (now s) (now path) way allowance × Onward (now s) (now path) way val × (header (now s) ≡ Header.Object n)
         × (at ≤ 65536 * (64 - allowance)) ⌝ }
     ensures { λ r. ⌜ Left r (now (out .entry)) (now (out .exit)) at (leftOf (now (s .entry)) (stepsFrom (now (path .entry)) way)) ⌝ }
 {
@@ -377,7 +396,7 @@ fn put_deleted(s: &[u8], path: &[u8], way: Way, out: &mut [u8], at: usize, allow
     if way.step.index + 1 == way.count {
         return put_without(s, part, out, at);
     }
-    match manner(s) {
+    match manner_of(s) {
         Manner::Items(n) => put_part_anew(s, n, part, path, way, out, at, allowance),
         Manner::Rising(n) => put_part_anew(s, n + n, part, path, way, out, at, allowance),
         Manner::Unsorted(n) => put_sorted_anew(s, n, part, path, way, out, at, allowance),
