@@ -93,21 +93,29 @@ module _ (name value : MemberAt → Bytes) (entry : MemberAt → ℕ) where
   stand-values (x ∷ xs) empty h = absurd h
   stand-values (x ∷ xs) (member n t ms) h = ap₂ _++_ (h .0 .3) (stand-values xs ms (h .1))
 
--- A table row: an entry and its payload, with those of other parts behind them.
+-- A table row: an entry, with those of other parts behind it; and its payload, with those of other parts behind it.
+pub entry-row : (s : Bytes) (a : ℕ) (e : Part) (ps : List Part) (x : Bytes) → Fits e → drop a s ≡ entries (e ∷ ps) ++ x
+    → (word-at s a ≡ entry-word e) × (length-of (word-at s a) ≡ length (e .bytes)) × (drop (a + 4) s ≡ entries ps ++ x)
+unfolding word-at
+entry-row s a e ps x f h =
+    let head : drop a s ≡ be32 (entry-word e) ++ (entries ps ++ x) = h ∙ append-assoc (be32 (entry-word e)) (entries ps) x in
+    let w : word (drop a s) ≡ entry-word e = rw head (word-be32 (entry-word e) (entries ps ++ x) (omega (arith, code-small (e .kind), f .1))) in (
+      w,
+      rw w (length-entry (code (e .kind)) (length (e .bytes)) (f .1)),
+      sym (drop-drop 4 a s) ∙ ap (drop 4) head ∙ drop-be32 (entry-word e) (entries ps ++ x),
+    )
+
 pub table-row : (s : Bytes) (a p : ℕ) (e : Part) (ps : List Part) (x y : Bytes) → Fits e
     → drop a s ≡ entries (e ∷ ps) ++ x → drop p s ≡ payloads (e ∷ ps) ++ y
     → (word-at s a ≡ entry-word e) × (take (length-of (word-at s a)) (drop p s) ≡ e .bytes)
     × (drop (a + 4) s ≡ entries ps ++ x) × (drop (p + length-of (word-at s a)) s ≡ payloads ps ++ y)
-unfolding word-at
 table-row s a p e ps x y f ha hp =
-    let head : drop a s ≡ be32 (entry-word e) ++ (entries ps ++ x) = ha ∙ append-assoc (be32 (entry-word e)) (entries ps) x in
-    let body : drop p s ≡ e .bytes ++ (payloads ps ++ y) = hp ∙ append-assoc (e .bytes) (payloads ps) y in
-    let w : word (drop a s) ≡ entry-word e = rw head (word-be32 (entry-word e) (entries ps ++ x) (omega (arith, code-small (e .kind), f .1))) in
-    let l : length-of (word (drop a s)) ≡ length (e .bytes) = rw w (length-entry (code (e .kind)) (length (e .bytes)) (f .1)) in (
-      w,
-      rw (l, body) (take-append-seam (e .bytes) (payloads ps ++ y)),
-      sym (drop-drop 4 a s) ∙ ap (drop 4) head ∙ drop-be32 (entry-word e) (entries ps ++ x),
-      rw l (sym (drop-drop (length (e .bytes)) p s) ∙ ap (drop (length (e .bytes))) body ∙ drop-append-seam (e .bytes) (payloads ps ++ y)),
+    let row = entry-row s a e ps x f ha in
+    let body : drop p s ≡ e .bytes ++ (payloads ps ++ y) = hp ∙ append-assoc (e .bytes) (payloads ps) y in (
+      row .0,
+      rw (row .1, body) (take-append-seam (e .bytes) (payloads ps ++ y)),
+      row .2,
+      rw (row .1) (sym (drop-drop (length (e .bytes)) p s) ∙ ap (drop (length (e .bytes))) body ∙ drop-append-seam (e .bytes) (payloads ps ++ y)),
     )
 
 -- Members whose names and values have their entries and their payloads in a row, in one record or in two.
