@@ -123,7 +123,7 @@ pair-depth [] us = omega arith
 pair-depth (n ∷ ns) none = omega arith
 pair-depth (n ∷ ns) (item u us) = omega (arith, pair-depth ns us)
 
-array-parts : (s : Bytes) (n : ℕ) (ts : Items) → Known s (array ts) → n ≡ length (item-parts ts)
+pub array-parts : (s : Bytes) (n : ℕ) (ts : Items) → Known s (array ts) → n ≡ length (item-parts ts)
     → (parts-at s 0 (4 + 4 * n) n ≡ item-parts ts) × AllFit (item-parts ts)
 array-parts s n ts k e =
     let f = array-fits ts (omega (arith, k .short, ap length (k .bytes))) in
