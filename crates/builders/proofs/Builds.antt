@@ -114,7 +114,7 @@ pub count-parts : (ts : Items) → count ts ≡ length (item-parts ts)
 count-parts none = refl
 count-parts (item t ts) = ap suc (count-parts ts)
 
-length-texts : (ps : List Part) → length (texts ps) ≡ length ps
+pub length-texts : (ps : List Part) → length (texts ps) ≡ length ps
 length-texts [] = refl
 length-texts (p ∷ ps) = ap suc (length-texts ps)
 

@@ -1,0 +1,48 @@
+-- The decimal text of a number, as the code stores it.
+use Prim.Native.Nat.{ℕ, zero, suc, _+_, _-_, _/_, _%_, _<_, _≤_}
+use native.Mathlib.Omega.{arith}
+use native.Mathlib.Nat.{add-zero}
+use mathlib.Core.Path.{_≡_, refl, sym, ap, _∙_}
+use mathlib.Core.List.{[], _∷_, _++_}
+use lib.ListN.{length, set, length-append}
+use borrow.Author.Tests.{lt-ltb, le-ltb}
+use Rattle.layout.specs.Bytes.{Bytes}
+use Rattle.layout.specs.Patch.{patch}
+use Rattle.layout.proofs.Patches.{patch-snoc}
+use Rattle.edits.specs.Path.{decimal}
+
+pub decimal-none : (most v : ℕ) → most ≡ 0 → decimal most v ≡ []
+unfolding decimal
+decimal-none most v z = rw z
+
+pub decimal-one : (most v : ℕ) → (most ≡ 0 → ⊥) → v < 10 → decimal most v ≡ (48 + v) ∷ []
+unfolding decimal
+decimal-one zero v z h = absurd (z refl)
+decimal-one (suc most) v z h = rw (lt-ltb v 10 h)
+
+pub decimal-more : (most v : ℕ) → (most ≡ 0 → ⊥) → 10 ≤ v → decimal most v ≡ decimal (most - 1) (v / 10) ++ ((48 + v % 10) ∷ [])
+unfolding decimal
+decimal-more zero v z h = absurd (z refl)
+decimal-more (suc most) v z h = let e : suc most - 1 ≡ most = omega arith in rw (le-ltb v 10 h, e)
+
+-- What `put_decimal` promises: where the text ends, that it is short, and that it is stored.
+abbrev Stores : Bytes → Bytes → ℕ → ℕ → ℕ → ℕ → Type 0
+Stores o o′ at end most v =
+    ((end ≡ at + length (decimal most v)) × (length (decimal most v) ≤ most)) × (o′ ≡ patch o at (decimal most v))
+
+pub stores-none : (o : Bytes) (at most v : ℕ) → most ≡ 0 → Stores o o at at most v
+unfolding decimal patch
+stores-none o at most v z = rw z ((sym (add-zero at), omega arith), refl)
+
+module _ (o : Bytes) (at most v : ℕ) (z : most ≡ 0 → ⊥) where
+  pub stores-one : (o′ : Bytes) → v < 10 → o′ ≡ set o at (48 + v) → Stores o o′ at (at + 1) most v
+  unfolding patch
+  stores-one o′ h e = rw (decimal-one most v z h) ((refl, omega arith), e)
+
+  pub stores-more : (o₁ o₂ : Bytes) (end : ℕ) → 10 ≤ v → Stores o o₁ at end (most - 1) (v / 10) → o₂ ≡ set o₁ end (48 + v % 10)
+      → Stores o o₂ at (end + 1) most v
+  stores-more o₁ o₂ end h d e =
+      let l : length (decimal (most - 1) (v / 10) ++ ((48 + v % 10) ∷ [])) ≡ length (decimal (most - 1) (v / 10)) + 1 =
+      length-append (decimal (most - 1) (v / 10)) ((48 + v % 10) ∷ []) in
+      rw (decimal-more most v z h)
+      ((omega arith, omega arith), rw (e, d .1, d .0 .0) (patch-snoc o at (decimal (most - 1) (v / 10)) (48 + v % 10)))

@@ -1,0 +1,88 @@
+-- The part of a container that a step finds, in the terms of the code that looks for it.
+use Prim.Native.Nat.{ℕ, zero, suc, _+_, _*_, _-_, _^_, _<_, _≤_}
+use native.Mathlib.Omega.{arith}
+use native.Mathlib.Nat.{sub-zero, zero-add, add-zero}
+use mathlib.Core.Path.{_≡_, refl, sym, ap, _∙_}
+use mathlib.Core.Bool.{Bool, true, false, cond}
+use mathlib.Core.List.{List, [], _∷_}
+use mathlib.Core.Option.{Option, none as nothing, some}
+use lib.ListN.{length, take, drop}
+use Rattle.layout.specs.Bytes.{Bytes}
+use Rattle.layout.specs.Entry.{length-of, entry-at, lengths}
+use Rattle.layout.specs.Place.{parts-at}
+use Rattle.layout.proofs.Checks.{parts-step, lengths-step}
+use Rattle.layout.proofs.Places.{lengths-split}
+use Rattle.builders.specs.Order.{same}
+use Rattle.builders.specs.Search.{texts}
+use Rattle.edits.specs.Spot.{first, one-more, behind, nth-part, spot-at}
+use Rattle.edits.specs.declared.find.PartAt.{PartAt}
+use Rattle.edits.specs.declared.find.Spot.the-variants.{Nothing, At}
+
+pub part-behind-is : (s : Bytes) (p : PartAt) (e l : ℕ) → e ≡ entry-at s (p .index) → l ≡ length-of e
+    → record { index = p .index + 1; place = p .place + l } ≡ behind s p
+part-behind-is s p e l he hl = rw (hl, he)
+
+-- Places one after another: `total` is where the last one stands.
+pub place-more : (s : Bytes) (i n p total e l : ℕ) → i < n → total ≡ p + lengths s i (n - i) → e ≡ entry-at s i → l ≡ length-of e
+    → total ≡ p + l + lengths s (i + 1) (n - (i + 1))
+place-more s i n p total e l lt inv he hl =
+    let le : l ≡ length-of (entry-at s i) = cc in
+    omega (arith, lengths-step s i n lt)
+
+pub place-end : (s : Bytes) (i n p total : ℕ) → n ≤ i → total ≡ p + lengths s i (n - i) → p ≡ total
+unfolding lengths
+place-end s i n p total h inv = let k : n - i ≡ 0 = omega arith in rw inv (rw k (omega arith))
+
+pub place-start : (s : Bytes) (p : ℕ) → p ≡ p + lengths s 0 0
+unfolding lengths
+place-start s p = sym (add-zero p)
+
+-- One length more.
+pub lengths-snoc : (s : Bytes) (i : ℕ) → lengths s 0 (i + 1) ≡ lengths s 0 i + length-of (entry-at s i)
+unfolding lengths
+lengths-snoc s i = lengths-split s 0 i 1 ∙ rw (zero-add i, add-zero (length-of (entry-at s i)))
+
+-- The first name that has equal bytes, counted from the `i`th on.
+abbrev pub moved : ℕ → Option ℕ → Option ℕ
+moved i nothing = nothing
+moved i (some k) = some (i + k)
+
+moved-none : (o : Option ℕ) → moved 0 o ≡ o
+moved-none nothing = refl
+moved-none (some k) = ap some (zero-add k)
+
+moved-more : (i : ℕ) (o : Option ℕ) → moved i (one-more o) ≡ moved (i + 1) o
+moved-more i nothing = refl
+moved-more i (some k) = ap some (omega arith)
+
+pub first-start : (name s : Bytes) (start n : ℕ)
+    → first name (texts (parts-at s 0 start n)) ≡ moved 0 (first name (texts (parts-at s 0 start (n - 0))))
+first-start name s start n = rw (sub-zero n) (sym (moved-none _))
+
+module _ (name s : Bytes) (n i p : ℕ)
+    (inv : first name (texts (parts-at s 0 (4 + 4 * (n + n)) n)) ≡ moved i (first name (texts (parts-at s i p (n - i))))) where
+  module _ (lt : i < n) (e l : ℕ) (piece : Bytes) (g : Bool) (he : e ≡ entry-at s i) (hl : l ≡ length-of e)
+      (hp : piece ≡ take l (drop p s)) (hg : g ≡ same name piece) where
+    first-turn : first name (texts (parts-at s 0 (4 + 4 * (n + n)) n))
+        ≡ moved i (cond g (some 0) (one-more (first name (texts (parts-at s (i + 1) (p + l) (n - (i + 1)))))))
+    unfolding first
+    first-turn = inv ∙ rw (parts-step s i p n lt, ← he, ← hl, ← hp, ← hg)
+
+    pub first-found : g ≡ true → p ≡ 4 + 4 * (n + n) + lengths s 0 i
+        → At (record { index = i; place = p }) ≡ spot-at s (n + n) (first name (texts (parts-at s 0 (4 + 4 * (n + n)) n)))
+    unfolding spot-at
+    first-found q at = rw (first-turn, q, add-zero i, ← at)
+
+    pub first-more : g ≡ false
+        → first name (texts (parts-at s 0 (4 + 4 * (n + n)) n))
+        ≡ moved (i + 1) (first name (texts (parts-at s (i + 1) (p + l) (n - (i + 1)))))
+    first-more q = first-turn ∙ rw q (moved-more i (first name (texts (parts-at s (i + 1) (p + l) (n - (i + 1))))))
+
+    pub first-place : p ≡ 4 + 4 * (n + n) + lengths s 0 i → p + l ≡ 4 + 4 * (n + n) + lengths s 0 (i + 1)
+    first-place at =
+        let le : l ≡ length-of (entry-at s i) = cc in
+        omega (arith, lengths-snoc s i)
+
+  pub first-none : n ≤ i → Nothing ≡ spot-at s (n + n) (first name (texts (parts-at s 0 (4 + 4 * (n + n)) n)))
+  unfolding spot-at first parts-at
+  first-none h = let z : n - i ≡ 0 = omega arith in rw (inv, z)
