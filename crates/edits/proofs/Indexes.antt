@@ -5,10 +5,10 @@ use mathlib.Core.Path.{_≡_, refl, sym, ap, _∙_}
 use mathlib.Core.Bool.{Bool, true, false, cond}
 use mathlib.Core.Option.{none as nothing, some}
 use native.Mathlib.Decide.{decLt}
-use native.Mathlib.Nat.{lt-trans}
+use native.Mathlib.Nat.{lt-trans, zero-add}
 use native.Mathlib.Omega.{arith}
 use lib.Dec.{T, ltb, lit<}
-use lib.IntN.{ℤ, pos, negsuc, natAbs, _+ℤ_}
+use lib.IntN.{ℤ, pos, negsuc, natAbs, _+ℤ_, _-ℤ_}
 use lib.Signed.{mag, ltZ, nonNeg}
 use mir.Syntax.{w32, w64}
 use mir.Val.{Fits, SFits, toZ, ofZ}
@@ -73,13 +73,6 @@ negative (negsuc k) n q = refl
 
 pub place-negative : (v z : ℤ) (n : ℕ) → v ≡ z → ltZ v (pos 0) ≡ true → Nothing ≡ place-told (inside z n)
 place-negative v z n e q = negative z n (rw e at q)
-
-cast-plain : (z : ℤ) → mag z < 2 ^ 63 → ltZ z (pos 0) ≡ false → T (nonNeg z) × Fits w64 (natAbs z)
-cast-plain (pos k) f q = (tt, record { fits = lt-trans f (lit< tt) })
-cast-plain (negsuc k) f q = let z : _≡_ {A = ℕ} 0 1 = cc in absurd (omega arith)
-
-pub place-cast : (v z : ℤ) → v ≡ z → SFits w64 z → ltZ v (pos 0) ≡ false → T (nonNeg v) × Fits w64 (natAbs v)
-place-cast v z e f q = rw e (cast-plain z (f .sfits) (rw e at q))
 
 at-plain : (z : ℤ) (n : ℕ) → ltZ z (pos 0) ≡ false → natAbs z < n → At (natAbs z) ≡ place-told (inside z n)
 unfolding inside
@@ -149,3 +142,33 @@ module _ (v w i : ℤ) (n : ℕ) (r : Place) (e : v ≡ i) (hr : r ≡ place-tol
 
   pub index-on : ltZ v (pos 0) ≡ false → w ≡ i → r ≡ place-told (place i n)
   index-on q ew = hr ∙ ap (λ (z : ℤ). place-told (inside z n)) ew ∙ ap place-told (on-plain i n (rw e at q))
+
+-- An index without its sign. `v` is what the machine reads of i.
+
+index-plain : (i : ℤ) → SFits w32 i → ltZ i (pos 0) ≡ false → T (nonNeg i) × Fits w32 (natAbs i)
+index-plain (pos k) f q = (tt, record { fits = lt-trans (f .sfits) (lit< tt) })
+index-plain (negsuc k) f q = let z : _≡_ {A = ℕ} 0 1 = cc in absurd (omega arith)
+
+turn-plain : (i : ℤ) → ltZ i (pos 0) ≡ true → pos 0 -ℤ i ≡ pos (suc (mag i))
+turn-plain (pos k) q = let h : k < 0 = ltb-true k 0 q in let w : ⊥ = omega arith in absurd w
+turn-plain (negsuc k) q = ap pos (zero-add (suc k))
+
+module _ (v i : ℤ) (e : v ≡ i) (f : SFits w32 i) where
+  pub index-cast : ltZ v (pos 0) ≡ false → T (nonNeg v) × Fits w32 (natAbs v)
+  index-cast q = rw e (index-plain i f (rw e at q))
+
+  module _ (q : ltZ v (pos 0) ≡ true) where
+    turned : pos 0 -ℤ v ≡ pos (suc (mag i))
+    turned = rw e (turn-plain i (rw e at q))
+
+    pub turned-fits : SFits w64 (pos 0 -ℤ v)
+    turned-fits = rw turned (record { sfits = omega (arith, f .sfits) })
+
+    back : toZ w64 (ofZ w64 (pos 0 -ℤ v)) ≡ pos (suc (mag i))
+    back = toZ-ofZ w64 _ turned-fits ∙ turned
+
+    pub turned-cast : T (nonNeg (toZ w64 (ofZ w64 (pos 0 -ℤ v)))) × Fits w32 (natAbs (toZ w64 (ofZ w64 (pos 0 -ℤ v))))
+    turned-cast = rw back (tt, record { fits = omega (arith, f .sfits) })
+
+    pub turned-is : natAbs (toZ w64 (ofZ w64 (pos 0 -ℤ v))) ≡ suc (mag i)
+    turned-is = ap natAbs back

@@ -20,10 +20,13 @@ use Rattle.layout.specs.declared.number.Number.{Number}
 use Rattle.layout.specs.declared.number.Number.the-variants.{Nan, Infinity, NegInfinity, Int64, UInt64, Float64, Decimal64, WideDecimal, Refused as NotListed}
 use Rattle.layout.specs.declared.refusal.Refusal.{Refusal}
 use Rattle.layout.specs.declared.refusal.Refusal.the-variants.{Path}
+use Rattle.layout.specs.declared.util.Header.{Header}
 use Rattle.layout.specs.declared.util.Header.the-variants.{Array}
-use Rattle.layout.specs.declared.check.Check.the-variants.{Readable}
+use Rattle.layout.specs.declared.check.Check.{Check}
+use Rattle.layout.specs.declared.check.Check.the-variants.{Readable, Refused as NotReadable}
 use Rattle.layout.proofs.Checks.{told-array}
-use Rattle.layout.proofs.Nestings.{readable-gives, head-of, header-read}
+use Rattle.layout.proofs.Places.{length-parts}
+use Rattle.layout.proofs.Nestings.{readable-gives, refused-as, head-of, header-read}
 use Rattle.builders.proofs.Knowns.{Known, known}
 use Rattle.builders.proofs.Builds.{array-parts, array-known}
 use Rattle.edits.specs.Path.{Step, name, index, in-range, integer, step-of, steps-of, path-in, or-path, path-of}
@@ -201,3 +204,21 @@ refused-read (refused r) e = refl
 
 pub steps-refused : (b : Bytes) → Refused ≡ steps-told (path-of b) → path-of b ≡ refused Path
 steps-refused b e = path-is b ∙ refused-read (read b) (e ∙ ap steps-told (path-is b))
+
+-- What the check, the header and the test of the items say, in the code's terms.
+module _ (b : Bytes) (c : Check) (hc : c ≡ checked (read b)) where
+  pub count-unreadable : (r : Refusal) → c ≡ NotReadable r → Refused ≡ steps-told (path-of b)
+  count-unreadable r q = sym (ap steps-told (path-unreadable b r (refused-as (read b) c r hc q)))
+
+  module _ (o : Octets b) (q : c ≡ Readable) (h : Header) (hh : h ≡ header b) where
+    pub count-no-array : ((n : ℕ) → h ≡ Array n → ⊥) → Refused ≡ steps-told (path-of b)
+    count-no-array f = sym (ap steps-told (path-no-array b o (sym hc ∙ q) (λ n e. f n (hh ∙ e))))
+
+    module _ (n : ℕ) (e : h ≡ Array n) (g : Bool) (hg : g ≡ are-steps (parts-at b 0 (4 + 4 * n) n)) where
+      pub count-steps : g ≡ true → Count n ≡ steps-told (path-of b)
+      count-steps t =
+          let l : length (part-steps (parts-at b 0 (4 + 4 * n) n)) ≡ n = length-part-steps (parts-at b 0 (4 + 4 * n) n) ∙ length-parts b 0 (4 + 4 * n) n in
+          ap Count (sym l) ∙ sym (ap steps-told (path-steps b n o (sym hc ∙ q) (sym hh ∙ e) (sym hg ∙ t)))
+
+      pub count-no-steps : g ≡ false → Refused ≡ steps-told (path-of b)
+      count-no-steps t = sym (ap steps-told (path-no-steps b n o (sym hc ∙ q) (sym hh ∙ e) (sym hg ∙ t)))

@@ -2,7 +2,8 @@
 use mir.Syntax.{w64}
 use mir.Val.{toZ, ofZ}
 use mir.ValLaws.{toZ-ofZ}
-use Rattle.edits.proofs.Indexes.{place-negative, place-cast, place-at, place-past}
+use Rattle.layout.proofs.Patterns.{pattern-cast}
+use Rattle.edits.proofs.Indexes.{place-negative, place-at, place-past}
 use Rattle.edits.proofs.find.place_in.Statement.{statement}
 use Rattle.edits.proofs.find.place_in.Tie as tie
 
@@ -10,7 +11,7 @@ returns : tie.Need-returns
 returns c = place-negative (toZ w64 (ofZ w64 (c .before .args .z))) (c .before .args .z) (c .before .args .n) (toZ-ofZ w64 _ (c .before .fits .z)) (c .if1 .taken)
 
 cast-k : tie.Need-cast-k
-cast-k c = place-cast (toZ w64 (ofZ w64 (c .before .args .z))) _ (toZ-ofZ w64 _ (c .before .fits .z)) (c .before .fits .z) (c .if1 .left)
+cast-k c = pattern-cast (c .before .args .z) (c .before .fits .z) (c .if1 .left)
 
 returns-2 : tie.Need-returns-2
 returns-2 c = place-at (toZ w64 (ofZ w64 (c .before .before .args .z))) (c .before .before .args .z) (c .before .before .args .n) (toZ-ofZ w64 _ (c .before .before .fits .z)) (c .before .if1 .left) (c .if2 .taken)
