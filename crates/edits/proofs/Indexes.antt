@@ -1,9 +1,8 @@
 -- Indexes, which are signed. A signed local holds bits, so a test or a sum speaks of what the machine reads back,
 -- `toZ w (ofZ w z)`, which is z where z fits: each law below takes that number as v, with v ≡ z.
 use Prim.Native.Nat.{ℕ, suc, _+_, _-_, _<_, _≤_, _^_}
-use mathlib.Core.Path.{_≡_, refl, sym, ap, _∙_}
+use mathlib.Core.Path.{_≡_, refl, ap, _∙_}
 use mathlib.Core.Bool.{Bool, true, false, cond}
-use mathlib.Core.Option.{none as nothing, some}
 use native.Mathlib.Decide.{decLt}
 use native.Mathlib.Nat.{lt-trans, zero-add}
 use native.Mathlib.Omega.{arith}

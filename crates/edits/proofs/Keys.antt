@@ -2,11 +2,12 @@
 use Prim.Native.Nat.{ℕ, zero, suc, _+_, _-_, _<_, _≤_}
 use native.Mathlib.Omega.{arith}
 use native.Mathlib.Nat.{sub-zero}
-use mathlib.Core.Path.{_≡_, refl, sym, ap, _∙_}
+use mathlib.Core.Path.{_≡_, refl, sym, _∙_}
 use mathlib.Core.Bool.{Bool, true, false, _&&_}
+use mathlib.Core.List.{_∷_}
 use lib.IntN.{ℤ}
 use lib.ListN.{take, drop}
-use borrow.Author.Tests.{eq-eqb, ne-eqb}
+use borrow.Author.Tests.{ne-eqb}
 use Rattle.layout.specs.Bytes.{Bytes}
 use Rattle.layout.specs.Entry.{code, code-of, length-of, kind-of, entry-at}
 use Rattle.layout.specs.Number.{decoded}
@@ -15,7 +16,7 @@ use Rattle.layout.specs.declared.number.Number.{Number}
 use Rattle.layout.specs.declared.number.Number.the-variants.{Int64}
 use Rattle.layout.proofs.Fields.{code-lt}
 use Rattle.layout.proofs.Checks.{parts-step}
-use Rattle.edits.specs.Steps.{int-key, number-key, code-key, is-step, part-key, are-steps}
+use Rattle.edits.specs.Steps.{int-key, number-key, code-key, is-step, step, part-key, are-steps, part-steps}
 use Rattle.edits.specs.declared.keypath.KeyPath.{KeyPath}
 use Rattle.edits.specs.declared.keypath.KeyPath.the-variants.{Index, Name, Other}
 
@@ -58,6 +59,14 @@ kind-key (suc (suc (suc (suc (suc (suc (suc (suc c)))))))) b h = let z : ⊥ = o
 pub part-key-at : (s : Bytes) (i p e l : ℕ) (piece : Bytes) → e ≡ entry-at s i → l ≡ length-of e → piece ≡ take l (drop p s)
     → part-key (part-at s i p) ≡ code-key (code-of e) piece
 part-key-at s i p e l piece he hl hp = rw (hp, hl, he) (kind-key (code-of (entry-at s i)) _ (code-lt (entry-at s i)))
+
+-- The steps from the `i`th on, as the code reads one after another.
+pub next-step : (s : Bytes) (i p n e l : ℕ) (piece : Bytes) → i < n → e ≡ entry-at s i → l ≡ length-of e → piece ≡ take l (drop p s)
+    → part-steps (parts-at s i p (n - i))
+    ≡ step (code-key (code-of e) piece) piece ∷ part-steps (parts-at s (i + 1) (p + l) (n - (i + 1)))
+next-step s i p n e l piece lt he hl hp =
+    let key : part-key (part-at s i p) ≡ code-key (code-of e) piece = part-key-at s i p e l piece he hl hp in
+    rw (parts-step s i p n lt, key, ← he, ← hl, ← hp)
 
 -- All items.
 pub steps-start : (s : Bytes) (start n : ℕ) → are-steps (parts-at s 0 start n) ≡ are-steps (parts-at s 0 start (n - 0))

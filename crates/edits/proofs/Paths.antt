@@ -29,11 +29,10 @@ use Rattle.layout.proofs.Places.{length-parts}
 use Rattle.layout.proofs.Nestings.{readable-gives, refused-as, head-of, header-read}
 use Rattle.builders.proofs.Knowns.{Known, known}
 use Rattle.builders.proofs.Builds.{array-parts, array-known}
-use Rattle.edits.specs.Path.{Step, name, index, in-range, integer, step-of, steps-of, path-in, or-path, path-of}
-use Rattle.edits.specs.Steps.{int-key, number-key, code-key, is-step, step, part-key, part-step, are-steps, part-steps, steps-told}
+use Rattle.edits.specs.Path.{Step, index, in-range, integer, step-of, steps-of, path-in, or-path, path-of}
+use Rattle.edits.specs.Steps.{int-key, number-key, code-key, is-step, step, part-key, are-steps, part-steps, steps-told}
 use Rattle.edits.specs.declared.keypath.KeyPath.{KeyPath}
-use Rattle.edits.specs.declared.keypath.KeyPath.the-variants.{Index, Name, Other}
-use Rattle.edits.specs.declared.keypath.Steps.{Steps}
+use Rattle.edits.specs.declared.keypath.KeyPath.the-variants.{Index, Other}
 use Rattle.edits.specs.declared.keypath.Steps.the-variants.{Count, Refused}
 
 -- One item.
@@ -143,6 +142,9 @@ module _ (b : Bytes) (n : ℕ) (o : Octets b) (c : checked (read b) ≡ Readable
 
 -- What the count of the steps says.
 
+no-count : {C : Type 0} (n : ℕ) → Count n ≡ Refused → C
+no-count n e = let z : _≡_ {A = ℕ} 0 1 = cc in let w : ⊥ = omega arith in absurd w
+
 -- A path of `n` steps.
 abbrev Counted : Bytes → ℕ → Type 0
 Counted b n =
@@ -160,22 +162,22 @@ module _ (b : Bytes) (n : ℕ) (o : Octets b) where
   counted-items ts k true q e =
       let l : n ≡ length (part-steps (item-parts ts)) = cc in
       counted-array ts k (l ∙ length-part-steps (item-parts ts)) q
-  counted-items ts k false q e = let z : _≡_ {A = ℕ} 0 1 = cc in let w : ⊥ = omega arith in absurd w
+  counted-items ts k false q e = no-count n e
 
   counted-tree : (t : Tree) → read b ≡ gives t → Count n ≡ steps-told (path-in t) → Counted b n
-  counted-tree null r e = let z : _≡_ {A = ℕ} 0 1 = cc in let w : ⊥ = omega arith in absurd w
-  counted-tree (boolean x) r e = let z : _≡_ {A = ℕ} 0 1 = cc in let w : ⊥ = omega arith in absurd w
-  counted-tree (number x) r e = let z : _≡_ {A = ℕ} 0 1 = cc in let w : ⊥ = omega arith in absurd w
-  counted-tree (string x) r e = let z : _≡_ {A = ℕ} 0 1 = cc in let w : ⊥ = omega arith in absurd w
-  counted-tree (extension x) r e = let z : _≡_ {A = ℕ} 0 1 = cc in let w : ⊥ = omega arith in absurd w
+  counted-tree null r e = no-count n e
+  counted-tree (boolean x) r e = no-count n e
+  counted-tree (number x) r e = no-count n e
+  counted-tree (string x) r e = no-count n e
+  counted-tree (extension x) r e = no-count n e
   counted-tree (array ts) r e =
       counted-items ts (known b (array ts) o r) (are-steps (item-parts ts)) refl (e ∙ ap steps-told (steps-taken ts))
-  counted-tree (object ms) r e = let z : _≡_ {A = ℕ} 0 1 = cc in let w : ⊥ = omega arith in absurd w
+  counted-tree (object ms) r e = no-count n e
 
   counted-read : (m : Answer Tree) → read b ≡ m → Count n ≡ steps-told (or-path m >>= path-in) → Counted b n
   unfolding _>>=_
   counted-read (gives t) r e = counted-tree t r e
-  counted-read (refused x) r e = let z : _≡_ {A = ℕ} 0 1 = cc in let w : ⊥ = omega arith in absurd w
+  counted-read (refused x) r e = no-count n e
 
   pub steps-counted : Count n ≡ steps-told (path-of b)
       → (header b ≡ Array n) × (n < 2 ^ 29) × (path-of b ≡ gives (part-steps (parts-at b 0 (4 + 4 * n) n)))

@@ -122,7 +122,7 @@ none-by n m t ms Less q e rest = rw (q, rest e)
 none-by n m t ms Greater q e rest = rw (q, rest e)
 none-by n m t ms Equal q e rest = nothing-some (sym e)
 
-pub first-none : (n : Bytes) (ms : Members) → find n ms ≡ nothing → first n (names ms) ≡ nothing
+pub no-first : (n : Bytes) (ms : Members) → find n ms ≡ nothing → first n (names ms) ≡ nothing
 unfolding first
-first-none n empty e = refl
-first-none n (member m t ms) e = none-by n m t ms (order n m) refl e (first-none n ms)
+no-first n empty e = refl
+no-first n (member m t ms) e = none-by n m t ms (order n m) refl e (no-first n ms)

@@ -4,34 +4,16 @@ use mathlib.Core.Logic.{⊎-elim}
 use mir.Syntax.{w32}
 use mir.Val.{toZ, ofZ}
 use mir.ValLaws.{toZ-ofZ}
-use Rattle.edits.proofs.Parts.{item-name, item-none, item-lt, item-found}
+use Rattle.edits.proofs.Finds.{item-name, item-none, item-lt, item-found}
 use borrow.Author.Needs.{needs}
 use Rattle.edits.proofs.find.find_item.Statement.{statement}
 use Rattle.edits.proofs.find.find_item.Tie as tie
 
-enum-known-key : tie.Need-enum-known-key
-enum-known-key c = search needs
-
 returns : tie.Need-returns
 returns c = item-name _ _ _ (λ z e. ⊎-elim (λ q. omega arith) (λ q. omega arith) (rw e at (c .match .keys2)))
 
-place-of-requires : tie.Need-place-of-requires
-place-of-requires c κs = search needs
-
-enum-known-index : tie.Need-enum-known-index
-enum-known-index c = search needs
-
-enum-told : tie.Need-enum-told
-enum-told c = search needs
-
 returns-2 : tie.Need-returns-2
 returns-2 c = item-none _ _ _ (toZ w32 (ofZ w32 (c .before .before .before .before .key .given .0 .0))) _ _ (c .before .before .before .before .key .given .1) (toZ-ofZ w32 _ (record { sfits = c .before .before .before .known-told .given .0 .1 })) (c .before .before .place-of .ensures) (c .enum-told .given .1)
-
-mul-t8 : tie.Need-mul-t8
-mul-t8 c = search needs
-
-add-t9 : tie.Need-add-t9
-add-t9 c = search needs
 
 place-after-requires : tie.Need-place-after-requires
 place-after-requires c κs = (omega arith, omega (arith, item-lt (c .before .before .before .before .before .before .before .before .args .s .now) (c .before .before .before .before .before .before .before .before .args .n) _ (toZ w32 (ofZ w32 (c .before .before .before .before .before .key .given .0 .0))) _ _ (c .before .before .before .before .before .key .given .1) (toZ-ofZ w32 _ (record { sfits = c .before .before .before .before .known-told .given .0 .1 })) (c .before .before .before .place-of .ensures) _ (c .before .index .given .1)), omega arith)
@@ -43,13 +25,13 @@ pub find-item-spec : {M : Type 1} → statement M
 find-item-spec =
     tie.close
     (tie.spec
-    enum-known-key
+    (λ c. search needs)
     returns
-    place-of-requires
-    enum-known-index
-    enum-told
+    (λ c κs. search needs)
+    (λ c. search needs)
+    (λ c. search needs)
     returns-2
-    mul-t8
-    add-t9
+    (λ c. search needs)
+    (λ c. search needs)
     place-after-requires
     returns-3)

@@ -1,18 +1,10 @@
 -- `edits::find::find_member` meets its contract.
 use native.Mathlib.Omega.{arith}
-use Rattle.edits.proofs.Parts.{first-lt, member-none, member-found, key-bounds}
+use Rattle.edits.proofs.Parts.{first-lt}
+use Rattle.edits.proofs.Finds.{member-none, member-found, key-bounds}
 use borrow.Author.Needs.{needs}
 use Rattle.edits.proofs.find.find_member.Statement.{statement}
 use Rattle.edits.proofs.find.find_member.Tie as tie
-
-find-name-requires : tie.Need-find-name-requires
-find-name-requires c κs = search needs
-
-enum-known-key : tie.Need-enum-known-key
-enum-known-key c = search needs
-
-enum-told : tie.Need-enum-told
-enum-told c = search needs
 
 returns : tie.Need-returns
 returns c = member-none _ _ _ _ (c .before .before .find-name .ensures) (c .enum-told .given .1)
@@ -30,9 +22,9 @@ pub find-member-spec : {M : Type 1} → statement M
 find-member-spec =
     tie.close
     (tie.spec
-    find-name-requires
-    enum-known-key
-    enum-told
+    (λ c κs. search needs)
+    (λ c. search needs)
+    (λ c. search needs)
     returns
     add-index
     place-after-requires

@@ -8,57 +8,28 @@ use Rattle.layout.specs.Place.{parts-at}
 use Rattle.layout.proofs.Fields.{length-lt}
 use Rattle.builders.specs.Search.{texts}
 use Rattle.edits.specs.Spot.{first}
-use Rattle.edits.proofs.Parts.{moved, place-start, first-start, first-found, first-more, first-place, first-none}
+use Rattle.edits.proofs.Parts.{moved, place-start, first-start, first-found, first-more, place-next, first-none}
 use Rattle.edits.proofs.find.find_name.Statement.{statement}
 use Rattle.edits.proofs.find.find_name.Tie as tie
 
 abbrev Inv-loop : tie.InvT-loop
-Inv-loop s n name place₀ i₀ place i = (i ≤ n) × (place ≤ 4 + 4 * (n + n) + 2 ^ 28 * i) × (place ≡ 4 + 4 * (n + n) + lengths s 0 i) × (first name (texts (parts-at s 0 (4 + 4 * (n + n)) n)) ≡ moved i (first name (texts (parts-at s i place (n - i)))))
+Inv-loop s n name place₀ i₀ place i =
+    (i ≤ n)
+    × (place ≤ 4 + 4 * (n + n) + 2 ^ 28 * i)
+    × (place ≡ 4 + 4 * (n + n) + lengths s 0 i)
+    × (first name (texts (parts-at s 0 (4 + 4 * (n + n)) n)) ≡ moved i (first name (texts (parts-at s i place (n - i)))))
 
 abbrev μ-loop : tie.MeasureT-loop
 μ-loop s n name place₀ i₀ place i = n - i
 
-add-place : tie.Need-add-place Inv-loop μ-loop
-add-place c = search needs
-
-mul-place : tie.Need-mul-place Inv-loop μ-loop
-mul-place c = search needs
-
-add-place-2 : tie.Need-add-place-2 Inv-loop μ-loop
-add-place-2 c = search needs
-
 loop-holds : tie.Need-loop-holds Inv-loop μ-loop
 loop-holds c = (omega arith, omega arith, place-start _ _, first-start _ _ _ _)
-
-read-jentry-requires : tie.Need-read-jentry-requires Inv-loop μ-loop
-read-jentry-requires c κs = search needs
-
-payload-len-requires : tie.Need-payload-len-requires Inv-loop μ-loop
-payload-len-requires c κs = search needs
-
-cast-len : tie.Need-cast-len Inv-loop μ-loop
-cast-len c = search needs
-
-slice-requires : tie.Need-slice-requires Inv-loop μ-loop
-slice-requires c κs = search needs
-
-is-same-requires : tie.Need-is-same-requires Inv-loop μ-loop
-is-same-requires c κs = search needs
 
 returns : tie.Need-returns Inv-loop μ-loop
 returns c = first-found _ _ _ _ _ (c .before .before .before .before .before .before .loop .inv .3) (c .before .before .before .before .before .loop-test .taken) _ _ _ _ (c .before .before .before .before .read-jentry .ensures) (c .before .before .before .payload-len .ensures) (c .before .before .slice .ensures) (c .before .is-same .ensures) (c .if1 .taken) (c .before .before .before .before .before .before .loop .inv .2)
 
-add-place-3 : tie.Need-add-place-3 Inv-loop μ-loop
-add-place-3 c = search needs
-
-add-i : tie.Need-add-i Inv-loop μ-loop
-add-i c = search needs
-
-loop-less : tie.Need-loop-less Inv-loop μ-loop
-loop-less c = search needs
-
 loop-again : tie.Need-loop-again Inv-loop μ-loop
-loop-again c = (omega arith, omega (arith, c .before .before .before .payload-len .ensures, length-lt (c .before .before .before .before .read-jentry .result)), first-place _ _ _ _ _ (c .before .before .before .before .before .before .loop .inv .3) (c .before .before .before .before .before .loop-test .taken) _ _ _ _ (c .before .before .before .before .read-jentry .ensures) (c .before .before .before .payload-len .ensures) (c .before .before .slice .ensures) (c .before .is-same .ensures) (c .before .before .before .before .before .before .loop .inv .2), first-more _ _ _ _ _ (c .before .before .before .before .before .before .loop .inv .3) (c .before .before .before .before .before .loop-test .taken) _ _ _ _ (c .before .before .before .before .read-jentry .ensures) (c .before .before .before .payload-len .ensures) (c .before .before .slice .ensures) (c .before .is-same .ensures) (c .if1 .left))
+loop-again c = (omega arith, omega (arith, c .before .before .before .payload-len .ensures, length-lt (c .before .before .before .before .read-jentry .result)), place-next _ _ _ _ _ _ (c .before .before .before .before .read-jentry .ensures) (c .before .before .before .payload-len .ensures) (c .before .before .before .before .before .before .loop .inv .2), first-more _ _ _ _ _ (c .before .before .before .before .before .before .loop .inv .3) (c .before .before .before .before .before .loop-test .taken) _ _ _ _ (c .before .before .before .before .read-jentry .ensures) (c .before .before .before .payload-len .ensures) (c .before .before .slice .ensures) (c .before .is-same .ensures) (c .if1 .left))
 
 returns-2 : tie.Need-returns-2 Inv-loop μ-loop
 returns-2 c = first-none _ _ _ _ _ (c .before .loop .inv .3) (c .loop-test .left)
@@ -69,18 +40,18 @@ find-name-spec =
     (tie.spec
     Inv-loop
     μ-loop
-    add-place
-    mul-place
-    add-place-2
+    (λ c. search needs)
+    (λ c. search needs)
+    (λ c. search needs)
     loop-holds
-    read-jentry-requires
-    payload-len-requires
-    cast-len
-    slice-requires
-    is-same-requires
+    (λ c κs. search needs)
+    (λ c κs. search needs)
+    (λ c. search needs)
+    (λ c κs. search needs)
+    (λ c κs. search needs)
     returns
-    add-place-3
-    add-i
-    loop-less
+    (λ c. search needs)
+    (λ c. search needs)
+    (λ c. search needs)
     loop-again
     returns-2)

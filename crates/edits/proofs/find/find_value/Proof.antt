@@ -6,34 +6,13 @@ use mir.Syntax.{w32}
 use mir.Val.{toZ, ofZ}
 use mir.ValLaws.{toZ-ofZ}
 use Rattle.edits.proofs.Decimals.{text-back}
-use Rattle.edits.proofs.Parts.{value-name, value-index}
+use Rattle.edits.proofs.Finds.{value-name, value-index}
 use borrow.Author.Needs.{needs}
 use Rattle.edits.proofs.find.find_value.Statement.{statement}
 use Rattle.edits.proofs.find.find_value.Tie as tie
 
-enum-known-key : tie.Need-enum-known-key
-enum-known-key c = search needs
-
-find-member-requires : tie.Need-find-member-requires
-find-member-requires c κs = search needs
-
 returns : tie.Need-returns
 returns c = value-name _ _ (c .before .before .before .before .args .key) (c .before .before .before .before .args .text .now) _ _ (λ z e. ⊎-elim (λ q. omega arith) (λ q. omega arith) (rw e at (c .before .match .keys2))) (c .find-member .ensures)
-
-slice-aggregate-put-index : tie.Need-slice-aggregate-put-index
-slice-aggregate-put-index c = search needs
-
-put-index-requires : tie.Need-put-index-requires
-put-index-requires c κs = search needs
-
-slice-aggregate-slice : tie.Need-slice-aggregate-slice
-slice-aggregate-slice c = search needs
-
-slice-requires : tie.Need-slice-requires
-slice-requires c κs = search needs
-
-find-member-requires-2 : tie.Need-find-member-requires-2
-find-member-requires-2 c κs = search needs
 
 returns-2 : tie.Need-returns-2
 returns-2 c = value-index _ _ (c .before .before .before .before .before .before .before .before .before .before .before .args .key) (c .before .before .before .before .before .before .before .before .before .before .before .args .text .now) _ _ (toZ w32 (ofZ w32 (c .before .before .before .before .before .before .before .key .given .0 .0))) _ _ (c .before .before .before .before .before .before .before .key .given .1) (toZ-ofZ w32 _ (record { sfits = c .before .before .before .before .before .before .known-told .given .0 .1 })) (text-back _ _ _ _ _ refl (c .before .before .before .before .put-index .ensures) (c .before .slice .ensures)) (c .find-member2 .ensures)
@@ -42,12 +21,12 @@ pub find-value-spec : {M : Type 1} → statement M
 find-value-spec =
     tie.close
     (tie.spec
-    enum-known-key
-    find-member-requires
+    (λ c. search needs)
+    (λ c κs. search needs)
     returns
-    slice-aggregate-put-index
-    put-index-requires
-    slice-aggregate-slice
-    slice-requires
-    find-member-requires-2
+    (λ c. search needs)
+    (λ c κs. search needs)
+    (λ c. search needs)
+    (λ c κs. search needs)
+    (λ c κs. search needs)
     returns-2)

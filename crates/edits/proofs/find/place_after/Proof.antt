@@ -10,31 +10,16 @@ use Rattle.edits.proofs.find.place_after.Statement.{statement}
 use Rattle.edits.proofs.find.place_after.Tie as tie
 
 abbrev Inv-loop : tie.InvT-loop
-Inv-loop s to place₀ i₀ place i = (i ≤ to) × (place ≤ place₀ + 2 ^ 28 * i) × (place₀ + lengths s i₀ (to - i₀) ≡ place + lengths s i (to - i))
+Inv-loop s to place₀ i₀ place i =
+    (i ≤ to)
+    × (place ≤ place₀ + 2 ^ 28 * i)
+    × (place₀ + lengths s i₀ (to - i₀) ≡ place + lengths s i (to - i))
 
 abbrev μ-loop : tie.MeasureT-loop
 μ-loop s to place₀ i₀ place i = to - i
 
 loop-holds : tie.Need-loop-holds Inv-loop μ-loop
 loop-holds c = (c .before .pre .0, omega arith, refl)
-
-read-jentry-requires : tie.Need-read-jentry-requires Inv-loop μ-loop
-read-jentry-requires c κs = search needs
-
-payload-len-requires : tie.Need-payload-len-requires Inv-loop μ-loop
-payload-len-requires c κs = search needs
-
-cast-place : tie.Need-cast-place Inv-loop μ-loop
-cast-place c = search needs
-
-add-place : tie.Need-add-place Inv-loop μ-loop
-add-place c = search needs
-
-add-i : tie.Need-add-i Inv-loop μ-loop
-add-i c = search needs
-
-loop-less : tie.Need-loop-less Inv-loop μ-loop
-loop-less c = search needs
 
 loop-again : tie.Need-loop-again Inv-loop μ-loop
 loop-again c = (omega arith, omega (arith, c .payload-len .ensures, length-lt (c .before .read-jentry .result)), place-more _ _ _ _ _ _ _ (c .before .before .loop-test .taken) (c .before .before .before .loop .inv .2) (c .before .read-jentry .ensures) (c .payload-len .ensures))
@@ -49,11 +34,11 @@ place-after-spec =
     Inv-loop
     μ-loop
     loop-holds
-    read-jentry-requires
-    payload-len-requires
-    cast-place
-    add-place
-    add-i
-    loop-less
+    (λ c κs. search needs)
+    (λ c κs. search needs)
+    (λ c. search needs)
+    (λ c. search needs)
+    (λ c. search needs)
+    (λ c. search needs)
     loop-again
     returns)

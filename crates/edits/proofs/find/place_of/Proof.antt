@@ -1,6 +1,6 @@
 -- `edits::find::place_of` meets its contract.
 use borrow.Author.Needs.{needs}
-use mir.Syntax.{w32, w64}
+use mir.Syntax.{w32}
 use mir.Val.{toZ, ofZ}
 use mir.ValLaws.{toZ-ofZ}
 use Rattle.edits.proofs.Indexes.{wider, widened, sum-fits, summed, index-back, index-on}

@@ -23,76 +23,41 @@ abbrev put-decimal-below : ℕ → In 1 put-decimal-kinds.ps
 put-decimal-below t =
     and 1 put-decimal-kinds.ps (falls 1 put-decimal-kinds.ps _<_ μ-put-decimal t) put-decimal.Pre
 
--- what the functions that `put-decimal` calls ask and give
+-- What the functions that `put_decimal` calls ask and give.
 abbrev put-decimal-claims : ℕ → put-decimal-lts.Claims
 put-decimal-claims t = (put-reads.Asked, put-reads.Learnt, put-decimal-below t, put-decimal.Post)
 
 put-decimal-returns : (t : ℕ) → put-decimal-lts.Need-returns (put-decimal-claims t) (put-decimal-at t) put-decimal.Post
 put-decimal-returns t c = stores-none _ _ _ _ (c .if1 .taken)
 
-put-decimal-add-put : (t : ℕ) → put-decimal-lts.Need-add-put (put-decimal-claims t) (put-decimal-at t) put-decimal.Post
-put-decimal-add-put t c = search needs
-
-put-decimal-cast-put : (t : ℕ) → put-decimal-lts.Need-cast-put (put-decimal-claims t) (put-decimal-at t) put-decimal.Post
-put-decimal-cast-put t c = search needs
-
-put-decimal-put-requires : (t : ℕ) → put-decimal-lts.Need-put-requires (put-decimal-claims t) (put-decimal-at t) put-decimal.Post
-put-decimal-put-requires t c κs = search needs
-
-put-decimal-add-result : (t : ℕ) → put-decimal-lts.Need-add-result (put-decimal-claims t) (put-decimal-at t) put-decimal.Post
-put-decimal-add-result t c = search needs
-
-put-decimal-same-length : (t : ℕ) → put-decimal-lts.Need-same-length (put-decimal-claims t) (put-decimal-at t) put-decimal.Post
-put-decimal-same-length t c = search needs
-
 put-decimal-returns-2 : (t : ℕ) → put-decimal-lts.Need-returns-2 (put-decimal-claims t) (put-decimal-at t) put-decimal.Post
 put-decimal-returns-2 t c = stores-one _ _ _ _ (c .before .before .before .before .before .if1 .left) _ (c .before .before .before .before .if2 .taken) (c .before .before .put .ensures)
-
-put-decimal-sub-put-decimal : (t : ℕ) → put-decimal-lts.Need-sub-put-decimal (put-decimal-claims t) (put-decimal-at t) put-decimal.Post
-put-decimal-sub-put-decimal t c = search needs
 
 put-decimal-put-decimal-requires : (t : ℕ) → put-decimal-lts.Need-put-decimal-requires (put-decimal-claims t) (put-decimal-at t) put-decimal.Post
 put-decimal-put-decimal-requires t c κs = (omega (arith, c .before .before .before .before .pre .0), (omega arith, omega arith))
 
-put-decimal-add-put-2 : (t : ℕ) → put-decimal-lts.Need-add-put-2 (put-decimal-claims t) (put-decimal-at t) put-decimal.Post
-put-decimal-add-put-2 t c = search needs
-
-put-decimal-cast-put-2 : (t : ℕ) → put-decimal-lts.Need-cast-put-2 (put-decimal-claims t) (put-decimal-at t) put-decimal.Post
-put-decimal-cast-put-2 t c = search needs
-
-put-decimal-put-requires-2 : (t : ℕ) → put-decimal-lts.Need-put-requires-2 (put-decimal-claims t) (put-decimal-at t) put-decimal.Post
-put-decimal-put-requires-2 t c κs = search needs
-
 put-decimal-add-result-2 : (t : ℕ) → put-decimal-lts.Need-add-result-2 (put-decimal-claims t) (put-decimal-at t) put-decimal.Post
 put-decimal-add-result-2 t c = omega (arith, c .before .before .before .before .before .before .put-decimal .ensures .0 .0, c .before .before .before .before .before .before .put-decimal .ensures .0 .1)
-
-put-decimal-same-length-2 : (t : ℕ) → put-decimal-lts.Need-same-length-2 (put-decimal-claims t) (put-decimal-at t) put-decimal.Post
-put-decimal-same-length-2 t c = search needs
 
 put-decimal-returns-3 : (t : ℕ) → put-decimal-lts.Need-returns-3 (put-decimal-claims t) (put-decimal-at t) put-decimal.Post
 put-decimal-returns-3 t c = stores-more _ _ _ _ (c .before .before .before .before .before .before .before .before .before .if1 .left) _ _ _ (c .before .before .before .before .before .before .before .before .if2 .left) (c .before .before .before .before .before .before .put-decimal .ensures) (c .before .before .put2 .ensures)
 
 pub +put-decimal-spec : {M : Type 1} → statement M
-+put-decimal-spec = close μ-put-decimal λ t. put-decimal-lts.spec (
-  put-reads.Asked,
-  put-reads.Learnt,
-  put-decimal-below t,
-  put-decimal.Post,
-)
++put-decimal-spec = close μ-put-decimal λ t. put-decimal-lts.spec (put-decimal-claims t)
     (put-decimal-at t)
     put-decimal.Post
     (put-decimal-returns t)
-    (put-decimal-add-put t)
-    (put-decimal-cast-put t)
-    (put-decimal-put-requires t)
-    (put-decimal-add-result t)
-    (put-decimal-same-length t)
+    (λ c. search needs)
+    (λ c. search needs)
+    (λ c κs. search needs)
+    (λ c. search needs)
+    (λ c. search needs)
     (put-decimal-returns-2 t)
-    (put-decimal-sub-put-decimal t)
+    (λ c. search needs)
     (put-decimal-put-decimal-requires t)
-    (put-decimal-add-put-2 t)
-    (put-decimal-cast-put-2 t)
-    (put-decimal-put-requires-2 t)
+    (λ c. search needs)
+    (λ c. search needs)
+    (λ c κs. search needs)
     (put-decimal-add-result-2 t)
-    (put-decimal-same-length-2 t)
+    (λ c. search needs)
     (put-decimal-returns-3 t)

@@ -12,49 +12,19 @@ use Rattle.edits.proofs.keypath.are_steps.Statement.{statement}
 use Rattle.edits.proofs.keypath.are_steps.Tie as tie
 
 abbrev Inv-loop : tie.InvT-loop
-Inv-loop path n place₀ i₀ place i = (i ≤ n) × (place ≤ 4 + 4 * n + 2 ^ 28 * i) × (are-steps (parts-at path 0 (4 + 4 * n) n) ≡ are-steps (parts-at path i place (n - i)))
+Inv-loop path n place₀ i₀ place i =
+    (i ≤ n)
+    × (place ≤ 4 + 4 * n + 2 ^ 28 * i)
+    × (are-steps (parts-at path 0 (4 + 4 * n) n) ≡ are-steps (parts-at path i place (n - i)))
 
 abbrev μ-loop : tie.MeasureT-loop
 μ-loop path n place₀ i₀ place i = n - i
 
-mul-place : tie.Need-mul-place Inv-loop μ-loop
-mul-place c = search needs
-
-add-place : tie.Need-add-place Inv-loop μ-loop
-add-place c = search needs
-
 loop-holds : tie.Need-loop-holds Inv-loop μ-loop
 loop-holds c = (omega arith, omega arith, steps-start _ _ _)
 
-read-jentry-requires : tie.Need-read-jentry-requires Inv-loop μ-loop
-read-jentry-requires c κs = search needs
-
-payload-len-requires : tie.Need-payload-len-requires Inv-loop μ-loop
-payload-len-requires c κs = search needs
-
-cast-len : tie.Need-cast-len Inv-loop μ-loop
-cast-len c = search needs
-
-slice-requires : tie.Need-slice-requires Inv-loop μ-loop
-slice-requires c κs = search needs
-
-key-of-requires : tie.Need-key-of-requires Inv-loop μ-loop
-key-of-requires c κs = search needs
-
-enum-told : tie.Need-enum-told Inv-loop μ-loop
-enum-told c = search needs
-
 returns : tie.Need-returns Inv-loop μ-loop
 returns c = steps-other _ _ _ _ _ (c .before .before .before .before .before .before .before .loop .inv .2) (c .before .before .before .before .before .before .loop-test .taken) _ _ _ _ (c .before .before .before .before .before .read-jentry .ensures) (c .before .before .before .before .payload-len .ensures) (c .before .before .before .slice .ensures) (c .before .before .key-of .ensures) (c .enum-told .given .1)
-
-add-place-2 : tie.Need-add-place-2 Inv-loop μ-loop
-add-place-2 c = search needs
-
-add-i : tie.Need-add-i Inv-loop μ-loop
-add-i c = search needs
-
-loop-less : tie.Need-loop-less Inv-loop μ-loop
-loop-less c = search needs
 
 loop-again : tie.Need-loop-again Inv-loop μ-loop
 loop-again c = (omega arith, omega (arith, c .before .before .before .payload-len .ensures, length-lt (c .before .before .before .before .read-jentry .result)), steps-more _ _ _ _ _ (c .before .before .before .before .before .before .loop .inv .2) (c .before .before .before .before .before .loop-test .taken) _ _ _ _ (c .before .before .before .before .read-jentry .ensures) (c .before .before .before .payload-len .ensures) (c .before .before .slice .ensures) (c .before .key-of .ensures) (λ e. ⊎-elim (λ q. omega arith) (λ q. omega arith) (rw e at (c .match .keys2))))
@@ -68,18 +38,18 @@ are-steps-spec =
     (tie.spec
     Inv-loop
     μ-loop
-    mul-place
-    add-place
+    (λ c. search needs)
+    (λ c. search needs)
     loop-holds
-    read-jentry-requires
-    payload-len-requires
-    cast-len
-    slice-requires
-    key-of-requires
-    enum-told
+    (λ c κs. search needs)
+    (λ c κs. search needs)
+    (λ c. search needs)
+    (λ c κs. search needs)
+    (λ c κs. search needs)
+    (λ c. search needs)
     returns
-    add-place-2
-    add-i
-    loop-less
+    (λ c. search needs)
+    (λ c. search needs)
+    (λ c. search needs)
     loop-again
     returns-2)

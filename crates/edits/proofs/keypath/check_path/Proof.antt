@@ -8,23 +8,8 @@ use borrow.Author.Needs.{needs}
 use Rattle.edits.proofs.keypath.check_path.Statement.{statement}
 use Rattle.edits.proofs.keypath.check_path.Tie as tie
 
-check-record-requires : tie.Need-check-record-requires
-check-record-requires c κs = search needs
-
-enum-told : tie.Need-enum-told
-enum-told c = search needs
-
 returns : tie.Need-returns
 returns c = count-unreadable (c .before .before .before .before .args .path .now) _ (c .before .before .check-record .ensures) _ (c .enum-told .given .1)
-
-enum-told-2 : tie.Need-enum-told-2
-enum-told-2 c = search needs
-
-read-header-requires : tie.Need-read-header-requires
-read-header-requires c κs = search needs
-
-enum-known-n : tie.Need-enum-known-n
-enum-known-n c = search needs
 
 returns-2 : tie.Need-returns-2
 returns-2 c = count-no-array (c .before .before .before .before .before .before .args .path .now) _ (c .before .before .before .before .check-record .ensures) (octets-of (c .before .before .before .before .before .before .args .path .now) (λ i. omega (arith, c .before .before .before .before .before .shared-slice-known .given i))) (c .before .before .enum-told2 .given .1) _ (c .before .read-header .ensures) (λ n e. none-of (λ q. omega arith) (λ q. omega arith) (λ q. omega arith) (rw e at (c .match2 .keys2)))
@@ -42,12 +27,12 @@ pub check-path-spec : {M : Type 1} → statement M
 check-path-spec =
     tie.close
     (tie.spec
-    check-record-requires
-    enum-told
+    (λ c κs. search needs)
+    (λ c. search needs)
     returns
-    enum-told-2
-    read-header-requires
-    enum-known-n
+    (λ c. search needs)
+    (λ c κs. search needs)
+    (λ c. search needs)
     returns-2
     are-steps-requires
     returns-3

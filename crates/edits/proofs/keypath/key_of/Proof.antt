@@ -4,17 +4,8 @@ use borrow.Author.Needs.{needs}
 use Rattle.edits.proofs.keypath.key_of.Statement.{statement}
 use Rattle.edits.proofs.keypath.key_of.Tie as tie
 
-type-code-requires : tie.Need-type-code-requires
-type-code-requires c κs = search needs
-
 returns : tie.Need-returns
 returns c = key-name _ _ _ (c .before .type-code .ensures) (c .if1 .taken)
-
-decode-requires : tie.Need-decode-requires
-decode-requires c κs = search needs
-
-number-key-requires : tie.Need-number-key-requires
-number-key-requires c κs = search needs
 
 returns-2 : tie.Need-returns-2
 returns-2 c = key-number _ _ _ (c .before .before .before .before .type-code .ensures) (c .before .before .if2 .taken) _ _ (c .before .decode .ensures) (c .number-key .ensures)
@@ -25,4 +16,4 @@ returns-3 c = key-other _ _ _ (c .before .before .type-code .ensures) (c .before
 pub key-of-spec : {M : Type 1} → statement M
 key-of-spec =
     tie.close
-    (tie.spec type-code-requires returns decode-requires number-key-requires returns-2 returns-3)
+    (tie.spec (λ c κs. search needs) returns (λ c κs. search needs) (λ c κs. search needs) returns-2 returns-3)
