@@ -35,30 +35,65 @@ module _ (ks vs : Bytes) (m : MemberAt) (n v : Bytes) (hn : n ≡ bytes-at ks (m
       → o₄ ≡ stored (name-in ks) (value-in vs) own-entry o (at .«key_jentry») (at .«val_jentry») (at .key) (at .val) m
   member-stored o o₁ o₂ o₃ o₄ e₁ e₂ e₃ e₄ = rw (e₄, e₃, e₂, e₁, hn, hv)
 
--- The loop: `i` members of those in byte order are stored, and the rest is to come.
-module _ (name value : MemberAt → Bytes) (entry : MemberAt → ℕ) (searched : List MemberAt) (o : Bytes) (to : Places) where
+-- The search, repeated: `i` members of those in byte order were found, the last of them with the name `last`.
+module _ (name : MemberAt → Bytes) (searched : List MemberAt) where
   abbrev in-turn : List MemberAt
   in-turn = sorted name searched
+
+  pub record Sought (last : Bytes) (i : ℕ) : Type 0 where
+    pub count : i ≤ length in-turn
+    pub known : bound (eqb i 0) last ≡ bound-at name in-turn i
+
+  pub sought-none : (last : Bytes) → Sought last 0
+  unfolding bound-at
+  sought-none last = record { count = zero-le; known = refl }
+
+  pub sought-all : (n i : ℕ) → length searched ≤ n → n ≤ i → length in-turn ≤ i
+  sought-all n i l h = omega (arith, length-sorted name searched)
+
+  module _ (last : Bytes) (i : ℕ) (now : Sought last i) (found : Found) (hf : found ≡ least name (bound (eqb i 0) last) Nothing searched) where
+    next-is : found ≡ nth in-turn i
+    next-is = hf ∙ ap (λ b. least name b Nothing searched) (now .known) ∙ search-nth name searched i (now .count)
+
+    pub sought-end : found ≡ Nothing → length in-turn ≤ i
+    sought-end q = nth-none in-turn i (sym next-is ∙ q)
+
+    module _ (m : MemberAt) (q : found ≡ At m) where
+      here : nth in-turn i ≡ At m
+      here = sym next-is ∙ q
+
+      pub sought-cut : drop i in-turn ≡ m ∷ drop (suc i) in-turn
+      sought-cut = nth-drop in-turn i m here
+
+      pub sought-more : (next : Bytes) → next ≡ name m → Sought next (i + 1)
+      sought-more next e =
+          let later : eqb (i + 1) 0 ≡ false = ne-eqb (i + 1) 0 (λ z. omega arith) in
+          record {
+            count = omega (arith, nth-inside in-turn i m here);
+            known = rw (later, add-one i, e) (sym (bound-next name in-turn i m here));
+          }
+
+-- The loop: `i` members of those in byte order are stored, and the rest is to come.
+module _ (name value : MemberAt → Bytes) (entry : MemberAt → ℕ) (searched : List MemberAt) (o : Bytes) (to : Places) where
+  abbrev all : List MemberAt
+  all = in-turn name searched
 
   abbrev weave : Bytes → Places → List MemberAt → Bytes
   weave out at = woven name value entry out (at .«key_jentry») (at .«val_jentry») (at .key) (at .val)
 
   pub record Stored (out last : Bytes) (at : Places) (i : ℕ) : Type 0 where
-    pub count : i ≤ length in-turn
-    pub known : bound (eqb i 0) last ≡ bound-at name in-turn i
+    pub sought : Sought name searched last i
     pub near-key-jentry : at .«key_jentry» ≤ to .«key_jentry» + 4 * i
     pub near-val-jentry : at .«val_jentry» ≤ to .«val_jentry» + 4 * i
     pub near-key : at .key ≤ to .key + 2 ^ 28 * i
     pub near-val : at .val ≤ to .val + 2 ^ 28 * i
-    pub run : weave o to in-turn ≡ weave out at (drop i in-turn)
+    pub run : weave o to all ≡ weave out at (drop i all)
     pub as-long : length out ≡ length o
 
   pub begins : (last : Bytes) → Stored o last to 0
-  unfolding bound-at
   begins last =
       record {
-        count = zero-le;
-        known = refl;
+        sought = sought-none name searched last;
         near-key-jentry = omega arith;
         near-val-jentry = omega arith;
         near-key = omega arith;
@@ -68,19 +103,16 @@ module _ (name value : MemberAt → Bytes) (entry : MemberAt → ℕ) (searched 
       }
 
   module _ (out last : Bytes) (at : Places) (i : ℕ) (now : Stored out last at i) where
-    ended : length in-turn ≤ i → out ≡ weave o to in-turn
+    ended : length all ≤ i → out ≡ weave o to all
     unfolding woven
-    ended h = sym (rw (drop-of-length-le in-turn h) at (now .run))
+    ended h = sym (rw (drop-of-length-le all h) at (now .run))
 
-    pub ends-full : (n : ℕ) → length searched ≤ n → n ≤ i → out ≡ weave o to in-turn
-    ends-full n l h = ended (omega (arith, length-sorted name searched))
+    pub ends-full : (n : ℕ) → length searched ≤ n → n ≤ i → out ≡ weave o to all
+    ends-full n l h = ended (sought-all name searched n i l h)
 
     module _ (found : Found) (hf : found ≡ least name (bound (eqb i 0) last) Nothing searched) where
-      next-is : found ≡ nth in-turn i
-      next-is = hf ∙ ap (λ b. least name b Nothing searched) (now .known) ∙ search-nth name searched i (now .count)
-
-      pub ends-early : found ≡ Nothing → out ≡ weave o to in-turn
-      ends-early q = ended (nth-none in-turn i (sym next-is ∙ q))
+      pub ends-early : found ≡ Nothing → out ≡ weave o to all
+      ends-early q = ended (sought-end name searched last i (now .sought) found hf q)
 
       pub goes : (m : MemberAt) (next out′ : Bytes) (at′ : Places) → found ≡ At m
           → (at′ ≡ behind (name m) (value m) at)
@@ -88,12 +120,9 @@ module _ (name value : MemberAt → Bytes) (entry : MemberAt → ℕ) (searched 
           → next ≡ name m → length (name m) < 2 ^ 28 → length (value m) < 2 ^ 28 → Stored out′ next at′ (i + 1)
       unfolding woven
       goes m next out′ at′ q h hn ln lv =
-          let here : nth in-turn i ≡ At m = sym next-is ∙ q in
-          let cut : drop i in-turn ≡ m ∷ drop (suc i) in-turn = nth-drop in-turn i m here in
-          let later : eqb (i + 1) 0 ≡ false = ne-eqb (i + 1) 0 (λ z. omega arith) in
+          let cut : drop i all ≡ m ∷ drop (suc i) all = sought-cut name searched last i (now .sought) found hf m q in
           record {
-            count = omega (arith, nth-inside in-turn i m here);
-            known = rw (later, add-one i, hn) (sym (bound-next name in-turn i m here));
+            sought = sought-more name searched last i (now .sought) found hf m q next hn;
             near-key-jentry = rw (h .0) (omega (arith, now .near-key-jentry));
             near-val-jentry = rw (h .0) (omega (arith, now .near-val-jentry));
             near-key = rw (h .0) (omega (arith, now .near-key, ln));

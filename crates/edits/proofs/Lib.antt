@@ -12,3 +12,4 @@ pub mod KeypathCases
 pub mod Rows
 pub mod Splits
 pub mod Runs
+pub mod Manners
