@@ -44,7 +44,7 @@ member-none s n nothing r e q = refl
 member-none s n (some k) r e q = cc
 
 -- The part of its name.
-key-part : (s : Bytes) (n : ℕ) (o : Option ℕ) (key : PartAt) → At key ≡ spot-at s n o → (k : ℕ) × (o ≡ some k) × (key ≡ nth-part s n k)
+pub key-part : (s : Bytes) (n : ℕ) (o : Option ℕ) (key : PartAt) → At key ≡ spot-at s n o → (k : ℕ) × (o ≡ some k) × (key ≡ nth-part s n k)
 unfolding spot-at
 key-part s n nothing key e = let z : _≡_ {A = ℕ} 0 1 = cc in let w : ⊥ = omega arith in absurd w
 key-part s n (some k) key e = (k, refl, cc)
@@ -145,11 +145,11 @@ place-step (Index z) b n = refl
 place-step Name b n = refl
 place-step Other b n = refl
 
-spot-array : (n : ℕ) (s : Bytes) (t : Step) → spot (Array n) s t ≡ spot-at s n (step-place t n)
+pub spot-array : (n : ℕ) (s : Bytes) (t : Step) → spot (Array n) s t ≡ spot-at s n (step-place t n)
 unfolding spot
 spot-array n s t = refl
 
-spot-object : (n : ℕ) (s : Bytes) (t : Step)
+pub spot-object : (n : ℕ) (s : Bytes) (t : Step)
     → spot (Object n) s t ≡ spot-member s n (first (step-name t) (texts (parts-at s 0 (4 + 4 * (n + n)) n)))
 unfolding spot
 spot-object n s t = refl

@@ -11,5 +11,10 @@ pub mod Meanings
 pub mod KeypathCases
 pub mod Rows
 pub mod Splits
+pub mod Tables
 pub mod Runs
+pub mod Spots
+pub mod Cuts
+pub mod Withouts
 pub mod Manners
+pub mod Measures

@@ -13,6 +13,9 @@ use Rattle.layout.proofs.Level.{entries-length}
 use Rattle.layout.proofs.Decoding.{payloads-append}
 use Rattle.layout.proofs.Patches.{patch-append, patch-comm}
 use Rattle.builders.proofs.Weaves.{patch-then, entries-append}
+use Rattle.edits.specs.Cut.{run-entries, run-payloads, run-behind}
+use Rattle.edits.specs.declared.find.PartAt.{PartAt}
+use Rattle.edits.specs.declared.delete.Cursor.{Cursor}
 use Rattle.edits.proofs.Rows.{table-behind, payloads-behind}
 
 -- A buffer with the entries of some parts stored at one place and their payloads at another.
@@ -65,3 +68,41 @@ module _ (w : ℕ) (xs ys zs : List Part) where
 
   pub run-rest : (p n : ℕ) → p ≡ start + length (payloads xs) → n ≡ length (payloads ys) → take n (drop p (record-of w all)) ≡ payloads ys
   run-rest p n hp hn = rw (hp, hn, payloads-behind w xs (ys ++ zs), payloads-append ys zs) (take-append-seam (payloads ys) (payloads zs))
+
+-- The same as the code goes from one part to another.
+pub record Run (s : Bytes) (a b : PartAt) (ys : List Part) : Type 0 where
+  pub table : run-entries s a b ≡ entries ys
+  pub rest : run-payloads s a b ≡ payloads ys
+  pub count : b .index - a .index ≡ length ys
+  pub bytes : b .place - a .place ≡ length (payloads ys)
+
+pub run-is : (w : ℕ) (xs ys zs : List Part) (s : Bytes) (a b : PartAt) → record-of w (xs ++ (ys ++ zs)) ≡ s
+    → a .index ≡ length xs → b .index ≡ a .index + length ys
+    → a .place ≡ 4 + 4 * length (xs ++ (ys ++ zs)) + length (payloads xs) → b .place ≡ a .place + length (payloads ys)
+    → Run s a b ys
+run-is w xs ys zs s a b e ai bi ap′ bp =
+    let c : b .index - a .index ≡ length ys = omega arith in
+    let d : b .place - a .place ≡ length (payloads ys) = omega arith in
+    record {
+      table = rw (← e) (run-table w xs ys zs (a .index) (b .index - a .index) ai c);
+      rest = rw (← e) (run-rest w xs ys zs (a .place) (b .place - a .place) ap′ d);
+      count = c;
+      bytes = d;
+    }
+
+-- A run stored behind what was stored: `done` so far, and then `ys` too.
+module _ (o : Bytes) (e p : ℕ) where
+  pub run-stored : (done ys : List Part) (s : Bytes) (a b : PartAt) (at at′ : Cursor) (o₁ o₂ : Bytes) → Run s a b ys
+      → e + 4 * (length done + length ys) ≤ p
+      → o₁ ≡ laid o e p done → at .jentry ≡ e + 4 * length done → at .place ≡ p + length (payloads done)
+      → (at′ ≡ run-behind a b at) × (o₂ ≡ patch (patch o₁ (at .jentry) (run-entries s a b)) (at .place) (run-payloads s a b))
+      → (o₂ ≡ laid o e p (done ++ ys)) × (at′ .jentry ≡ e + 4 * length (done ++ ys)) × (at′ .place ≡ p + length (payloads (done ++ ys)))
+  run-stored done ys s a b at at′ o₁ o₂ r h e₁ ej ep h₂ =
+      let l = length-append done ys in
+      let m = ap length (payloads-append done ys) ∙ length-append (payloads done) (payloads ys) in
+      let n = r .count in
+      let k = r .bytes in (
+        rw (h₂ .1, r .table, r .rest, e₁, ej, ep) (laid-append o e p done ys h),
+        rw (h₂ .0) (omega arith),
+        rw (h₂ .0) (omega arith),
+      )

@@ -303,8 +303,10 @@ fn put_part_anew(s: &[u8], total: usize, part: PartAt, path: &[u8], way: Way, ou
     };
     put_u32(out, at, read_u32(s, 0));
     let here = put_run(s, first, part, out, start);
+    let start_of = part.place;
+    let end_of = next.place;
     let len = put_deleted(
-        &s[part.place..next.place],
+        &s[start_of..end_of],
         path,
         way_behind(path, way),
         out,

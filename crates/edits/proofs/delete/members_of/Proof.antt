@@ -1,4 +1,5 @@
 -- `edits::delete::members_of` meets its contract.
+use Rattle.edits.proofs.Manners.{members-places}
 use borrow.Author.Needs.{needs}
 use Rattle.edits.proofs.delete.members_of.Statement.{statement}
 use Rattle.edits.proofs.delete.members_of.Tie as tie
@@ -32,7 +33,7 @@ place-after-requires c κs = search needs
 
 -- src/delete.rt:176:1
 returns : tie.Need-returns
-returns c = rw (c .place-after .ensures)
+returns c = members-places _ _ _ (c .place-after .ensures)
 
 pub members-of-spec : {M : Type 1} → statement M
 members-of-spec =

@@ -1,3 +1,11 @@
+-- `edits::delete::put_object_without` meets its contract.
+use native.Mathlib.Omega.{arith}
+use mathlib.Core.Path.{refl, ap}
+use Rattle.layout.proofs.Words.{octets-of}
+use Rattle.edits.specs.declared.find.PartAt.{PartAt}
+use Rattle.edits.specs.declared.delete.Cursor.{Cursor}
+use Rattle.edits.proofs.Tables.{parted}
+use Rattle.edits.proofs.Withouts.{bounds, object-gone, key-stands}
 use borrow.Author.Needs.{needs}
 use Rattle.edits.proofs.delete.put_object_without.Statement.{statement}
 use Rattle.edits.proofs.delete.put_object_without.Tie as tie
@@ -10,19 +18,19 @@ use Rattle.layout.proofs.writer.put_u32.Reads as put-u32-reads
 
 -- src/delete.rt:153:45
 add-put-u32 : tie.Need-add-put-u32
-add-put-u32 c = ?
+add-put-u32 c = let d = bounds (c .before .before .args .s .now) _ (parted (c .before .before .args .s .now) _ (octets-of (c .before .before .args .s .now) (λ i. omega (arith, c .before .shared-slice-known .given i))) (c .before .before .pre .0)) (c .before .before .args .val) (c .before .before .pre .1) (c .before .before .pre .2) in omega (arith, d .table, d .short, d .inside, d .key-below, d .val-below, c .before .before .pre .2, c .before .before .pre .3)
 
 -- src/delete.rt:153:30
 mul-put-u32 : tie.Need-mul-put-u32
-mul-put-u32 c = ?
+mul-put-u32 c = let d = bounds (c .before .before .args .s .now) _ (parted (c .before .before .args .s .now) _ (octets-of (c .before .before .args .s .now) (λ i. omega (arith, c .before .shared-slice-known .given i))) (c .before .before .pre .0)) (c .before .before .args .val) (c .before .before .pre .1) (c .before .before .pre .2) in omega (arith, d .table, d .short, d .inside, d .key-below, d .val-below, c .before .before .pre .2, c .before .before .pre .3)
 
 -- src/delete.rt:153:16
 add-put-u32-2 : tie.Need-add-put-u32-2
-add-put-u32-2 c = ?
+add-put-u32-2 c = let d = bounds (c .before .before .args .s .now) _ (parted (c .before .before .args .s .now) _ (octets-of (c .before .before .args .s .now) (λ i. omega (arith, c .before .shared-slice-known .given i))) (c .before .before .pre .0)) (c .before .before .args .val) (c .before .before .pre .1) (c .before .before .pre .2) in omega (arith, d .table, d .short, d .inside, d .key-below, d .val-below, c .before .before .pre .2, c .before .before .pre .3)
 
 -- src/delete.rt:156:16
 add-t14 : tie.Need-add-t14
-add-t14 c = ?
+add-t14 c = let d = bounds (c .before .before .args .s .now) _ (parted (c .before .before .args .s .now) _ (octets-of (c .before .before .args .s .now) (λ i. omega (arith, c .before .shared-slice-known .given i))) (c .before .before .pre .0)) (c .before .before .args .val) (c .before .before .pre .1) (c .before .before .pre .2) in omega (arith, d .table, d .short, d .inside, d .key-below, d .val-below, c .before .before .pre .2, c .before .before .pre .3)
 
 -- src/delete.rt:159:13
 sub-k : tie.Need-sub-k
@@ -30,7 +38,7 @@ sub-k c = search needs
 
 -- src/delete.rt:162:16
 place-after-requires : tie.Need-place-after-requires
-place-after-requires c κs = ?
+place-after-requires c κs = let d = bounds (c .before .before .before .args .s .now) _ (parted (c .before .before .before .args .s .now) _ (octets-of (c .before .before .before .args .s .now) (λ i. omega (arith, c .before .before .shared-slice-known .given i))) (c .before .before .before .pre .0)) (c .before .before .before .args .val) (c .before .before .before .pre .1) (c .before .before .before .pre .2) in (omega (arith, d .table, d .short, d .inside, d .key-below, d .val-below, c .before .before .before .pre .2, c .before .before .before .pre .3), omega (arith, d .table, d .short, d .inside, d .key-below, d .val-below, c .before .before .before .pre .2, c .before .before .before .pre .3), omega (arith, d .table, d .short, d .inside, d .key-below, d .val-below, c .before .before .before .pre .2, c .before .before .before .pre .3))
 
 -- src/delete.rt:165:17
 add-put-u32-3 : tie.Need-add-put-u32-3
@@ -58,7 +66,7 @@ mul-t19 c = search needs
 
 -- src/delete.rt:166:16
 add-t20 : tie.Need-add-t20
-add-t20 c = ?
+add-t20 c = let d = bounds (c .before .before .before .before .args .s .now) _ (parted (c .before .before .before .before .args .s .now) _ (octets-of (c .before .before .before .before .args .s .now) (λ i. omega (arith, c .before .before .before .shared-slice-known .given i))) (c .before .before .before .before .pre .0)) (c .before .before .before .before .args .val) (c .before .before .before .before .pre .1) (c .before .before .before .before .pre .2) in omega (arith, d .table, d .short, d .inside, d .key-below, d .val-below, c .before .before .before .before .pre .2, c .before .before .before .before .pre .3)
 
 -- src/delete.rt:168:46
 sub-put-u32 : tie.Need-sub-put-u32
@@ -66,7 +74,7 @@ sub-put-u32 c = search needs
 
 -- src/delete.rt:168:45
 cast-put-u32 : tie.Need-cast-put-u32
-cast-put-u32 c = ?
+cast-put-u32 c = let d = bounds (c .before .before .before .before .before .args .s .now) _ (parted (c .before .before .before .before .before .args .s .now) _ (octets-of (c .before .before .before .before .before .args .s .now) (λ i. omega (arith, c .before .before .before .before .shared-slice-known .given i))) (c .before .before .before .before .before .pre .0)) (c .before .before .before .before .before .args .val) (c .before .before .before .before .before .pre .1) (c .before .before .before .before .before .pre .2) in omega (arith, d .table, d .short, d .inside, d .key-below, d .val-below, c .before .before .before .before .before .pre .2, c .before .before .before .before .before .pre .3)
 
 -- src/delete.rt:168:5
 put-u32-requires : tie.Need-put-u32-requires
@@ -74,27 +82,27 @@ put-u32-requires c κs = search needs
 
 -- src/delete.rt:169:9
 put-run-requires : tie.Need-put-run-requires
-put-run-requires c κs = ?
+put-run-requires c κs = let d = bounds (c .before .before .before .before .before .before .before .before .before .args .s .now) _ (parted (c .before .before .before .before .before .before .before .before .before .args .s .now) _ (octets-of (c .before .before .before .before .before .before .before .before .before .args .s .now) (λ i. omega (arith, c .before .before .before .before .before .before .before .before .shared-slice-known .given i))) (c .before .before .before .before .before .before .before .before .before .pre .0)) (c .before .before .before .before .before .before .before .before .before .args .val) (c .before .before .before .before .before .before .before .before .before .pre .1) (c .before .before .before .before .before .before .before .before .before .pre .2) in let f0 = key-stands _ _ _ (c .before .before .before .before .before .place-after .ensures) in (omega (arith, d .table, d .short, d .inside, d .key-below, d .val-below, c .before .before .before .before .before .before .before .before .before .pre .2, c .before .before .before .before .before .before .before .before .before .pre .3, f0), omega (arith, d .table, d .short, d .inside, d .key-below, d .val-below, c .before .before .before .before .before .before .before .before .before .pre .2, c .before .before .before .before .before .before .before .before .before .pre .3, f0), omega (arith, d .table, d .short, d .inside, d .key-below, d .val-below, c .before .before .before .before .before .before .before .before .before .pre .2, c .before .before .before .before .before .before .before .before .before .pre .3, f0), omega (arith, d .table, d .short, d .inside, d .key-below, d .val-below, c .before .before .before .before .before .before .before .before .before .pre .2, c .before .before .before .before .before .before .before .before .before .pre .3, f0), omega (arith, d .table, d .short, d .inside, d .key-below, d .val-below, c .before .before .before .before .before .before .before .before .before .pre .2, c .before .before .before .before .before .before .before .before .before .pre .3, f0), omega (arith, d .table, d .short, d .inside, d .key-below, d .val-below, c .before .before .before .before .before .before .before .before .before .pre .2, c .before .before .before .before .before .before .before .before .before .pre .3, f0))
 
 -- src/delete.rt:170:27
 part-behind-requires : tie.Need-part-behind-requires
-part-behind-requires c κs = ?
+part-behind-requires c κs = let d = bounds (c .before .before .before .before .before .before .before .before .before .before .before .before .args .s .now) _ (parted (c .before .before .before .before .before .before .before .before .before .before .before .before .args .s .now) _ (octets-of (c .before .before .before .before .before .before .before .before .before .before .before .before .args .s .now) (λ i. omega (arith, c .before .before .before .before .before .before .before .before .before .before .before .shared-slice-known .given i))) (c .before .before .before .before .before .before .before .before .before .before .before .before .pre .0)) (c .before .before .before .before .before .before .before .before .before .before .before .before .args .val) (c .before .before .before .before .before .before .before .before .before .before .before .before .pre .1) (c .before .before .before .before .before .before .before .before .before .before .before .before .pre .2) in let f0 = key-stands _ _ _ (c .before .before .before .before .before .before .before .before .place-after .ensures) in (omega (arith, d .table, d .short, d .inside, d .key-below, d .val-below, c .before .before .before .before .before .before .before .before .before .before .before .before .pre .2, c .before .before .before .before .before .before .before .before .before .before .before .before .pre .3, f0), omega (arith, d .table, d .short, d .inside, d .key-below, d .val-below, c .before .before .before .before .before .before .before .before .before .before .before .before .pre .2, c .before .before .before .before .before .before .before .before .before .before .before .before .pre .3, f0))
 
 -- src/delete.rt:170:9
 put-run-requires-2 : tie.Need-put-run-requires-2
-put-run-requires-2 c κs = ?
+put-run-requires-2 c κs = let d = bounds (c .before .before .before .before .before .before .before .before .before .before .before .before .before .before .args .s .now) _ (parted (c .before .before .before .before .before .before .before .before .before .before .before .before .before .before .args .s .now) _ (octets-of (c .before .before .before .before .before .before .before .before .before .before .before .before .before .before .args .s .now) (λ i. omega (arith, c .before .before .before .before .before .before .before .before .before .before .before .before .before .shared-slice-known .given i))) (c .before .before .before .before .before .before .before .before .before .before .before .before .before .before .pre .0)) (c .before .before .before .before .before .before .before .before .before .before .before .before .before .before .args .val) (c .before .before .before .before .before .before .before .before .before .before .before .before .before .before .pre .1) (c .before .before .before .before .before .before .before .before .before .before .before .before .before .before .pre .2) in let f0 = key-stands _ _ _ (c .before .before .before .before .before .before .before .before .before .before .place-after .ensures) in let f1 = ap (λ (x : PartAt). x .index) (c .before .part-behind .ensures) in let f2 = ap (λ (x : PartAt). x .place) (c .before .part-behind .ensures) in let f3 = ap (λ (x : Cursor). x .jentry) (c .before .before .before .before .put-run .ensures .0) in let f4 = ap (λ (x : Cursor). x .place) (c .before .before .before .before .put-run .ensures .0) in (omega (arith, d .table, d .short, d .inside, d .key-below, d .val-below, c .before .before .before .before .before .before .before .before .before .before .before .before .before .before .pre .2, c .before .before .before .before .before .before .before .before .before .before .before .before .before .before .pre .3, f0, f1, f2, f3, f4), omega (arith, d .table, d .short, d .inside, d .key-below, d .val-below, c .before .before .before .before .before .before .before .before .before .before .before .before .before .before .pre .2, c .before .before .before .before .before .before .before .before .before .before .before .before .before .before .pre .3, f0, f1, f2, f3, f4), omega (arith, d .table, d .short, d .inside, d .key-below, d .val-below, c .before .before .before .before .before .before .before .before .before .before .before .before .before .before .pre .2, c .before .before .before .before .before .before .before .before .before .before .before .before .before .before .pre .3, f0, f1, f2, f3, f4), omega (arith, d .table, d .short, d .inside, d .key-below, d .val-below, c .before .before .before .before .before .before .before .before .before .before .before .before .before .before .pre .2, c .before .before .before .before .before .before .before .before .before .before .before .before .before .before .pre .3, f0, f1, f2, f3, f4), omega (arith, d .table, d .short, d .inside, d .key-below, d .val-below, c .before .before .before .before .before .before .before .before .before .before .before .before .before .before .pre .2, c .before .before .before .before .before .before .before .before .before .before .before .before .before .before .pre .3, f0, f1, f2, f3, f4), omega (arith, d .table, d .short, d .inside, d .key-below, d .val-below, c .before .before .before .before .before .before .before .before .before .before .before .before .before .before .pre .2, c .before .before .before .before .before .before .before .before .before .before .before .before .before .before .pre .3, f0, f1, f2, f3, f4))
 
 -- src/delete.rt:171:26
 part-behind-requires-2 : tie.Need-part-behind-requires-2
-part-behind-requires-2 c κs = ?
+part-behind-requires-2 c κs = let d = bounds (c .before .before .before .before .before .before .before .before .before .before .before .before .before .before .before .before .before .args .s .now) _ (parted (c .before .before .before .before .before .before .before .before .before .before .before .before .before .before .before .before .before .args .s .now) _ (octets-of (c .before .before .before .before .before .before .before .before .before .before .before .before .before .before .before .before .before .args .s .now) (λ i. omega (arith, c .before .before .before .before .before .before .before .before .before .before .before .before .before .before .before .before .shared-slice-known .given i))) (c .before .before .before .before .before .before .before .before .before .before .before .before .before .before .before .before .before .pre .0)) (c .before .before .before .before .before .before .before .before .before .before .before .before .before .before .before .before .before .args .val) (c .before .before .before .before .before .before .before .before .before .before .before .before .before .before .before .before .before .pre .1) (c .before .before .before .before .before .before .before .before .before .before .before .before .before .before .before .before .before .pre .2) in (omega (arith, d .table, d .short, d .inside, d .key-below, d .val-below, c .before .before .before .before .before .before .before .before .before .before .before .before .before .before .before .before .before .pre .2, c .before .before .before .before .before .before .before .before .before .before .before .before .before .before .before .before .before .pre .3), omega (arith, d .table, d .short, d .inside, d .key-below, d .val-below, c .before .before .before .before .before .before .before .before .before .before .before .before .before .before .before .before .before .pre .2, c .before .before .before .before .before .before .before .before .before .before .before .before .before .before .before .before .before .pre .3))
 
 -- src/delete.rt:171:9
 put-run-requires-3 : tie.Need-put-run-requires-3
-put-run-requires-3 c κs = ?
+put-run-requires-3 c κs = let d = bounds (c .before .before .before .before .before .before .before .before .before .before .before .before .before .before .before .before .before .before .before .args .s .now) _ (parted (c .before .before .before .before .before .before .before .before .before .before .before .before .before .before .before .before .before .before .before .args .s .now) _ (octets-of (c .before .before .before .before .before .before .before .before .before .before .before .before .before .before .before .before .before .before .before .args .s .now) (λ i. omega (arith, c .before .before .before .before .before .before .before .before .before .before .before .before .before .before .before .before .before .before .shared-slice-known .given i))) (c .before .before .before .before .before .before .before .before .before .before .before .before .before .before .before .before .before .before .before .pre .0)) (c .before .before .before .before .before .before .before .before .before .before .before .before .before .before .before .before .before .before .before .args .val) (c .before .before .before .before .before .before .before .before .before .before .before .before .before .before .before .before .before .before .before .pre .1) (c .before .before .before .before .before .before .before .before .before .before .before .before .before .before .before .before .before .before .before .pre .2) in let f0 = key-stands _ _ _ (c .before .before .before .before .before .before .before .before .before .before .before .before .before .before .before .place-after .ensures) in let f1 = ap (λ (x : PartAt). x .index) (c .before .before .before .before .before .before .part-behind .ensures) in let f2 = ap (λ (x : PartAt). x .place) (c .before .before .before .before .before .before .part-behind .ensures) in let f3 = ap (λ (x : PartAt). x .index) (c .before .part-behind2 .ensures) in let f4 = ap (λ (x : PartAt). x .place) (c .before .part-behind2 .ensures) in let f5 = ap (λ (x : Cursor). x .jentry) (c .before .before .before .before .before .before .before .before .before .put-run .ensures .0) in let f6 = ap (λ (x : Cursor). x .place) (c .before .before .before .before .before .before .before .before .before .put-run .ensures .0) in let f7 = ap (λ (x : Cursor). x .jentry) (c .before .before .before .before .put-run2 .ensures .0) in let f8 = ap (λ (x : Cursor). x .place) (c .before .before .before .before .put-run2 .ensures .0) in (omega (arith, d .table, d .short, d .inside, d .key-below, d .val-below, c .before .before .before .before .before .before .before .before .before .before .before .before .before .before .before .before .before .before .before .pre .2, c .before .before .before .before .before .before .before .before .before .before .before .before .before .before .before .before .before .before .before .pre .3, f0, f1, f2, f3, f4, f5, f6, f7, f8), omega (arith, d .table, d .short, d .inside, d .key-below, d .val-below, c .before .before .before .before .before .before .before .before .before .before .before .before .before .before .before .before .before .before .before .pre .2, c .before .before .before .before .before .before .before .before .before .before .before .before .before .before .before .before .before .before .before .pre .3, f0, f1, f2, f3, f4, f5, f6, f7, f8), omega (arith, d .table, d .short, d .inside, d .key-below, d .val-below, c .before .before .before .before .before .before .before .before .before .before .before .before .before .before .before .before .before .before .before .pre .2, c .before .before .before .before .before .before .before .before .before .before .before .before .before .before .before .before .before .before .before .pre .3, f0, f1, f2, f3, f4, f5, f6, f7, f8), omega (arith, d .table, d .short, d .inside, d .key-below, d .val-below, c .before .before .before .before .before .before .before .before .before .before .before .before .before .before .before .before .before .before .before .pre .2, c .before .before .before .before .before .before .before .before .before .before .before .before .before .before .before .before .before .before .before .pre .3, f0, f1, f2, f3, f4, f5, f6, f7, f8), omega (arith, d .table, d .short, d .inside, d .key-below, d .val-below, c .before .before .before .before .before .before .before .before .before .before .before .before .before .before .before .before .before .before .before .pre .2, c .before .before .before .before .before .before .before .before .before .before .before .before .before .before .before .before .before .before .before .pre .3, f0, f1, f2, f3, f4, f5, f6, f7, f8), omega (arith, d .table, d .short, d .inside, d .key-below, d .val-below, c .before .before .before .before .before .before .before .before .before .before .before .before .before .before .before .before .before .before .before .pre .2, c .before .before .before .before .before .before .before .before .before .before .before .before .before .before .before .before .before .before .before .pre .3, f0, f1, f2, f3, f4, f5, f6, f7, f8))
 
 -- src/delete.rt:172:5
 sub-result : tie.Need-sub-result
-sub-result c = ?
+sub-result c = let d = bounds (c .before .before .before .before .before .before .before .before .before .before .before .before .before .before .before .before .before .before .before .before .before .before .before .args .s .now) _ (parted (c .before .before .before .before .before .before .before .before .before .before .before .before .before .before .before .before .before .before .before .before .before .before .before .args .s .now) _ (octets-of (c .before .before .before .before .before .before .before .before .before .before .before .before .before .before .before .before .before .before .before .before .before .before .before .args .s .now) (λ i. omega (arith, c .before .before .before .before .before .before .before .before .before .before .before .before .before .before .before .before .before .before .before .before .before .before .shared-slice-known .given i))) (c .before .before .before .before .before .before .before .before .before .before .before .before .before .before .before .before .before .before .before .before .before .before .before .pre .0)) (c .before .before .before .before .before .before .before .before .before .before .before .before .before .before .before .before .before .before .before .before .before .before .before .args .val) (c .before .before .before .before .before .before .before .before .before .before .before .before .before .before .before .before .before .before .before .before .before .before .before .pre .1) (c .before .before .before .before .before .before .before .before .before .before .before .before .before .before .before .before .before .before .before .before .before .before .before .pre .2) in let f0 = key-stands _ _ _ (c .before .before .before .before .before .before .before .before .before .before .before .before .before .before .before .before .before .before .before .place-after .ensures) in let f1 = ap (λ (x : PartAt). x .index) (c .before .before .before .before .before .before .before .before .before .before .part-behind .ensures) in let f2 = ap (λ (x : PartAt). x .place) (c .before .before .before .before .before .before .before .before .before .before .part-behind .ensures) in let f3 = ap (λ (x : PartAt). x .index) (c .before .before .before .before .before .part-behind2 .ensures) in let f4 = ap (λ (x : PartAt). x .place) (c .before .before .before .before .before .part-behind2 .ensures) in let f5 = ap (λ (x : Cursor). x .jentry) (c .before .before .before .before .before .before .before .before .before .before .before .before .before .put-run .ensures .0) in let f6 = ap (λ (x : Cursor). x .place) (c .before .before .before .before .before .before .before .before .before .before .before .before .before .put-run .ensures .0) in let f7 = ap (λ (x : Cursor). x .jentry) (c .before .before .before .before .before .before .before .before .put-run2 .ensures .0) in let f8 = ap (λ (x : Cursor). x .place) (c .before .before .before .before .before .before .before .before .put-run2 .ensures .0) in let f9 = ap (λ (x : Cursor). x .jentry) (c .before .before .before .put-run3 .ensures .0) in let f10 = ap (λ (x : Cursor). x .place) (c .before .before .before .put-run3 .ensures .0) in omega (arith, d .table, d .short, d .inside, d .key-below, d .val-below, c .before .before .before .before .before .before .before .before .before .before .before .before .before .before .before .before .before .before .before .before .before .before .before .pre .2, c .before .before .before .before .before .before .before .before .before .before .before .before .before .before .before .before .before .before .before .before .before .before .before .pre .3, f0, f1, f2, f3, f4, f5, f6, f7, f8, f9, f10)
 
 -- src/delete.rt:146:1
 same-length : tie.Need-same-length
@@ -102,7 +110,7 @@ same-length c = search needs
 
 -- src/delete.rt:146:1
 returns : tie.Need-returns
-returns c = ?
+returns c = object-gone (c .before .before .before .before .before .before .before .before .before .before .before .before .before .before .before .before .before .before .before .before .before .before .before .args .s .now) _ (parted (c .before .before .before .before .before .before .before .before .before .before .before .before .before .before .before .before .before .before .before .before .before .before .before .args .s .now) _ (octets-of (c .before .before .before .before .before .before .before .before .before .before .before .before .before .before .before .before .before .before .before .before .before .before .before .args .s .now) (λ i. omega (arith, c .before .before .before .before .before .before .before .before .before .before .before .before .before .before .before .before .before .before .before .before .before .before .shared-slice-known .given i))) (c .before .before .before .before .before .before .before .before .before .before .before .before .before .before .before .before .before .before .before .before .before .before .before .pre .0)) (c .before .before .before .before .before .before .before .before .before .before .before .before .before .before .before .before .before .before .before .before .before .before .before .args .val) (c .before .before .before .before .before .before .before .before .before .before .before .before .before .before .before .before .before .before .before .before .before .before .before .pre .1) (c .before .before .before .before .before .before .before .before .before .before .before .before .before .before .before .before .before .before .before .before .before .before .before .pre .2) _ _ _ _ _ _ _ _ _ _ _ _ _ _ refl (c .before .before .before .before .before .before .before .before .before .before .before .before .before .before .before .before .before .before .before .place-after .ensures) (c .before .before .before .before .before .before .before .before .before .before .before .before .before .before .before .before .before .put-u32 .ensures) refl refl (c .before .before .before .before .before .before .before .before .before .before .before .before .before .put-run .ensures) (c .before .before .before .before .before .before .before .before .before .before .part-behind .ensures) (c .before .before .before .before .before .before .before .before .put-run2 .ensures) (c .before .before .before .before .before .part-behind2 .ensures) (c .before .before .before .put-run3 .ensures)
 
 pub put-object-without-spec : {M : Type 1} → statement M
 put-object-without-spec =

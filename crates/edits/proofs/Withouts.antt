@@ -1,0 +1,117 @@
+-- An array and an object without one of their items, as the code stores them.
+use Prim.Native.Nat.{ℕ, suc, _+_, _*_, _-_, _^_, _≤_, _<_}
+use native.Mathlib.Omega.{arith}
+use mathlib.Core.Path.{_≡_, refl, ap, sym, _∙_}
+use mathlib.Core.List.{List, _∷_, _++_}
+use lib.Bits.{bitOr, or-shifted}
+use lib.ListN.{length, length-append}
+use Rattle.layout.specs.Bytes.{Bytes, be32}
+use Rattle.layout.specs.Entry.{length-of, entry-at, lengths}
+use Rattle.layout.specs.Encode.{Part, payloads, record-of}
+use Rattle.layout.specs.Patch.{patch}
+use Rattle.layout.proofs.Level.{AllFit}
+use Rattle.edits.specs.Spot.{nth-part, behind}
+use Rattle.edits.specs.Cut.{Left, PartOf, parts-of, without, without-member, run-entries, run-payloads, run-behind}
+use Rattle.edits.specs.declared.find.PartAt.{PartAt}
+use Rattle.edits.specs.declared.delete.Cursor.{Cursor}
+use Rattle.edits.proofs.Tables.{Parted}
+use Rattle.edits.proofs.Cuts.{Part-at, without-stored, Member-at, at-member, two-stored, key-size, key-place, val-place, val-size, two-end}
+
+-- A header with a smaller count.
+array-word : (n : ℕ) → n ≤ 65536 → bitOr (2 ^ 31) (n - 1) ≡ 2 ^ 31 + (n - 1)
+array-word n h = or-shifted 1 31 (n - 1) (omega arith)
+
+pub object-word : (n : ℕ) → n ≤ 65536 → bitOr (2 ^ 30) n ≡ 2 ^ 30 + n
+object-word n h = or-shifted 1 30 n (omega arith)
+
+module _ (s : Bytes) (n : ℕ) (a : PartAt) (d : Part-at s n a) (o o₁ o₂ o₃ : Bytes) (at w : ℕ) (start middle end : Cursor) (next : PartAt) where
+  pub array-gone : w ≡ bitOr (2 ^ 31) (n - 1) → o₁ ≡ patch o at (be32 w) → start .jentry ≡ at + 4 → start .place ≡ at + 4 * n
+      → (middle ≡ run-behind (record { index = 0; place = 4 + 4 * n }) a start)
+      × (o₂ ≡ patch (patch o₁ (start .jentry) (run-entries s (record { index = 0; place = 4 + 4 * n }) a)) (start .place) (run-payloads s (record { index = 0; place = 4 + 4 * n }) a))
+      → next ≡ behind s a
+      → (end ≡ run-behind next (record { index = n; place = length s }) middle)
+      × (o₃ ≡ patch (patch o₂ (middle .jentry) (run-entries s next (record { index = n; place = length s }))) (middle .place) (run-payloads s next (record { index = n; place = length s })))
+      → Left (end .place - at) o o₃ at (record-of (2 ^ 31 + (n - 1)) (without (a .index) (parts-of s n)))
+  array-gone ew e₁ sj sp h₁ en h₂ =
+      let q : w ≡ 2 ^ 31 + (n - 1) = ew ∙ array-word n (omega (arith, d .table, d .short)) in
+      rw (← q) (without-stored s n a d o o₁ o₂ o₃ at w start middle end next e₁ sj sp h₁ en h₂)
+
+-- An object at one of its values, the name of which is its part `k`.
+module _ (s : Bytes) (n : ℕ) (p : Parted s (n + n)) (val : PartAt) (h : PartOf s (n + n) val) (lo : n ≤ val .index) where
+  abbrev k : ℕ
+  k = val .index - n
+
+  abbrev key : PartAt
+  key = nth-part s (n + n) (val .index - n)
+
+  mem : Member-at (parts-of s (n + n)) n (val .index - n)
+  mem = at-member (parts-of s (n + n)) n (val .index - n) (p .count) (omega (arith, h .inside, lo))
+
+  bytes : record-of (p .word) (mem .left ++ (mem .key ∷ (mem .middle ++ (mem .val ∷ mem .right)))) ≡ s
+  bytes = rw (← mem .whole) (p .bytes)
+
+  fits : AllFit (mem .left ++ (mem .key ∷ (mem .middle ++ (mem .val ∷ mem .right))))
+  fits = rw (← mem .whole) (p .fits)
+
+  total : length (mem .left ++ (mem .key ∷ (mem .middle ++ (mem .val ∷ mem .right)))) ≡ n + n
+  total = rw (← mem .whole) (p .count)
+
+  val-at : val .index ≡ length (mem .left) + 1 + length (mem .middle)
+  val-at = omega (arith, mem .before, mem .between, lo)
+
+  val-stands : val .place ≡ 4 + 4 * (n + n) + lengths s 0 (val .index)
+  val-stands = ap (λ (x : PartAt). x .place) (h .is)
+
+  pub record Bounds : Type 0 where
+    pub table : 4 + 4 * (n + n) ≤ length s
+    pub short : length s ≤ 65536
+    pub inside : val .index < n + n
+    pub key-below : 4 + 4 * (n + n) + lengths s 0 (val .index - n) + length-of (entry-at s (val .index - n)) ≤ val .place
+    pub val-below : val .place + length-of (entry-at s (val .index)) ≤ length s
+
+  pub bounds : Bounds
+  bounds =
+      let kz = key-size s (n + n) (p .word) (mem .left) (mem .key) (mem .middle) (mem .val) (mem .right) bytes fits total key val (sym (mem .before)) val-at refl val-stands in
+      let kp = key-place s (n + n) (p .word) (mem .left) (mem .key) (mem .middle) (mem .val) (mem .right) bytes fits total key val (sym (mem .before)) val-at refl val-stands in
+      let vp = val-place s (n + n) (p .word) (mem .left) (mem .key) (mem .middle) (mem .val) (mem .right) bytes fits total key val (sym (mem .before)) val-at refl val-stands in
+      let vz = val-size s (n + n) (p .word) (mem .left) (mem .key) (mem .middle) (mem .val) (mem .right) bytes fits total key val (sym (mem .before)) val-at refl val-stands in
+      let ve = two-end s (n + n) (p .word) (mem .left) (mem .key) (mem .middle) (mem .val) (mem .right) bytes fits total key val (sym (mem .before)) val-at refl val-stands in
+      record {
+        table = p .table;
+        short = p .short;
+        inside = h .inside;
+        key-below = omega (arith, kz, kp, vp);
+        val-below = omega (arith, vz, ve);
+      }
+
+  module _ (o o₁ o₂ o₃ o₄ : Bytes) (at w place : ℕ) (start keys vals end : Cursor) (next after : PartAt) where
+    abbrev first : PartAt
+    first = record { index = 0; place = 4 + 4 * (n + n) }
+
+    abbrev last : PartAt
+    last = record { index = n + n; place = length s }
+
+    abbrev name : PartAt
+    name = record { index = val .index - n; place = place }
+
+    pub object-gone : w ≡ bitOr (2 ^ 30) (n - 1) → place ≡ 4 + 4 * (n + n) + lengths s 0 (val .index - n - 0) → o₁ ≡ patch o at (be32 w)
+        → start .jentry ≡ at + 4 → start .place ≡ at + 4 + 4 * (n - 1 + (n - 1))
+        → (keys ≡ run-behind first name start)
+        × (o₂ ≡ patch (patch o₁ (start .jentry) (run-entries s first name)) (start .place) (run-payloads s first name))
+        → next ≡ behind s name
+        → (vals ≡ run-behind next val keys)
+        × (o₃ ≡ patch (patch o₂ (keys .jentry) (run-entries s next val)) (keys .place) (run-payloads s next val))
+        → after ≡ behind s val
+        → (end ≡ run-behind after last vals)
+        × (o₄ ≡ patch (patch o₃ (vals .jentry) (run-entries s after last)) (vals .place) (run-payloads s after last))
+        → Left (end .place - at) o o₄ at (record-of (2 ^ 30 + (n - 1)) (without-member n (val .index - n) (parts-of s (n + n))))
+    object-gone ew ep e₁ sj sp h₁ en h₂ ea h₃ =
+        let q : w ≡ 2 ^ 30 + (n - 1) = ew ∙ object-word (n - 1) (omega (arith, p .table, p .short)) in
+        let z : val .index - n - 0 ≡ val .index - n = omega arith in
+        rw (mem .gone, ← q)
+        (two-stored s (n + n) (p .word) (mem .left) (mem .key) (mem .middle) (mem .val) (mem .right) bytes fits total name val (sym (mem .before)) val-at (rw z at ep) val-stands
+        o o₁ o₂ o₃ o₄ at w start keys vals end next after e₁ sj (omega (arith, sp, lo, h .inside)) h₁ en h₂ ea h₃)
+
+-- The place of a name, as the code sums it.
+pub key-stands : (s : Bytes) (n k : ℕ) {place : ℕ} → place ≡ 4 + 4 * (n + n) + lengths s 0 (k - 0) → place ≡ 4 + 4 * (n + n) + lengths s 0 k
+key-stands s n k e = let z : k - 0 ≡ k = omega arith in rw z at e
