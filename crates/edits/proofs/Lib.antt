@@ -18,3 +18,6 @@ pub mod Cuts
 pub mod Withouts
 pub mod Manners
 pub mod Measures
+pub mod Helds
+pub mod OnPaths
+pub mod Lookups

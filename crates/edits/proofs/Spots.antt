@@ -192,7 +192,8 @@ object-spotted ms s p a e l q =
     row-spotted (object ms) s p a (2 ^ 30 + length (member-parts ms)) (name-parts (names ms) ++ k .vals-left) (w .0) (k .vals-right)
     (name-parts (names ms) ++ member-parts ms)
     (w .1) (f .fits)
-    (ap (λ (ps : List Part). name-parts (names ms) ++ ps) (k .vals) ∙ sym (append-assoc (name-parts (names ms)) (k .vals-left) (part (w .0) ∷ k .vals-right)))
+    (ap (λ (ps : List Part). name-parts (names ms) ++ ps) (k .vals)
+    ∙ sym (append-assoc (name-parts (names ms)) (k .vals-left) (part (w .0) ∷ k .vals-right)))
     e l (rw (i, ← f .whole) (w .2))
 
 -- Where there is a part, there is a tree, and the part is the tree's.

@@ -26,7 +26,7 @@ use layout::util::slice;
 use layout::writer::copy;
 use layout::writer::put_u32;
 ghost use mathlib.Core.Path.{_≡_};
-ghost use Prim.Native.Nat.{_+_, _*_, _^_, _<_};
+ghost use Prim.Native.Nat.{_+_, _*_, _^_, _≤_, _<_};
 ghost use lib.ListN.{length};
 ghost use Rattle.layout.specs.Entry.{«code-of» as codeOf};
 ghost use Rattle.layout.specs.Encode.{encode};
@@ -65,7 +65,7 @@ fn step_from(s: &[u8], item: ItemAt, jentry: u32, text: &[u8]) -> Item
 
 // What a path of n steps finds in a container.
 fn find_path(s: &[u8], path: &[u8], n: usize) -> Item
-    requires { ⌜ (length (now s) < 2 ^ 28) × (checked (nested 64 (now s)) ≡ Readable) × (n < 2 ^ 29) ⌝ }
+    requires { ⌜ (length (now s) ≤ 65536) × (checked (nested 64 (now s)) ≡ Readable) × (n < 2 ^ 29) ⌝ }
     ensures { λ r. ⌜ Finds (now (s .entry)) (partSteps (partsAt (now (path .entry)) 0 (4 + 4 * n) n)) r ⌝ }
 {
     let mut item = ItemAt {
