@@ -16,6 +16,7 @@ pub mod Runs
 pub mod Spots
 pub mod Cuts
 pub mod Withouts
+pub mod Sorteds
 pub mod Manners
 pub mod Measures
 pub mod Helds

@@ -147,7 +147,7 @@ names-complete : (ms : Members) → ValidMembers ms → names-in (name-parts (na
 names-complete empty v = refl
 names-complete (member n t ms) v = to-bind _ (text-complete n (v .0)) (to-bind _ (names-complete ms (v .2)) refl)
 
-pair-of : (ms : Members) → pair (names ms) (values ms) ≡ ms
+pub pair-of : (ms : Members) → pair (names ms) (values ms) ≡ ms
 pair-of empty = refl
 pair-of (member n t ms) = ap (member n t) (pair-of ms)
 
