@@ -17,6 +17,7 @@ pub mod Spots
 pub mod Cuts
 pub mod Withouts
 pub mod Sorteds
+pub mod Leds
 pub mod Manners
 pub mod Measures
 pub mod Helds

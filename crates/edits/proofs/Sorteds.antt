@@ -5,29 +5,49 @@ use mathlib.Core.Path.{_≡_, refl, ap, ap₂, sym, _∙_}
 use mathlib.Core.Bool.{Bool, true, false, not, cond}
 use mathlib.Core.List.{List, [], _∷_, _++_, append-assoc, append-nil}
 use mathlib.Core.Option.{Option, none as nothing, some}
+use lib.Bits.{bitOr}
 use lib.Dec.{eqb}
-use lib.ListN.{length, drop}
+use lib.ListN.{length, drop, length-append}
 use borrow.Author.Tests.{eq-eqb, ne-eqb}
-use Rattle.layout.specs.Bytes.{Bytes}
+use Rattle.layout.specs.Bytes.{Bytes, Octets, be32}
 use Rattle.layout.specs.Entry.{lengths}
 use Rattle.layout.specs.Tree.{Tree, object, Items, none, item, Members, empty, member, names, values, pair}
 use Rattle.layout.specs.Encode.{Part, payload, payloads, entries, record-of, name-parts, item-parts, member-parts, part}
+use Rattle.layout.specs.Answer.{gives}
+use Rattle.layout.specs.Limits.{size}
+use Rattle.layout.specs.Read.{header, nested}
+use Rattle.layout.specs.Check.{checked}
+use Rattle.layout.specs.Patch.{patch}
 use Rattle.layout.specs.Order.{order}
+use Rattle.layout.specs.declared.check.Check.the-variants.{Readable}
+use Rattle.layout.specs.declared.util.Header.the-variants.{Object}
 use Rattle.layout.specs.declared.order.Ordering.{Ordering}
 use Rattle.layout.specs.declared.order.Ordering.the-variants.{Less, Equal, Greater}
 use Rattle.layout.proofs.Level.{AllFit}
 use Rattle.layout.proofs.Encoding.{object-fits, names-count, pair-of}
 use Rattle.layout.proofs.Decoding.{payloads-append}
-use Rattle.builders.specs.Order.{by, same}
+use Rattle.layout.proofs.Readables.{record-of-length, size-payload}
+use Rattle.builders.specs.Order.{by, find, same, in-order}
 use Rattle.builders.specs.Search.{name-in, value-in, members-from, members-at, is-kept, kept-of}
-use Rattle.builders.specs.Weave.{own-entry}
+use Rattle.builders.specs.Weave.{own-entry, woven, column}
 use Rattle.builders.specs.declared.search.Kept.the-variants.{But}
 use Rattle.builders.specs.declared.search.MemberAt.{MemberAt}
-use Rattle.builders.proofs.Stands.{Stand, stand-from}
-use Rattle.builders.proofs.Weaves.{entries-append}
-use Rattle.edits.specs.Delete.{change-member}
-use Rattle.edits.specs.Spot.{first, one-more}
-use Rattle.edits.specs.Cut.{members-of}
+use Rattle.builders.specs.declared.search.Places.{Places}
+use Rattle.builders.proofs.Stands.{Stand, stand-from, stand-names, stand-values, stand-sorted}
+use Rattle.builders.proofs.Weaves.{entries-append, woven-record}
+use Rattle.edits.specs.Path.{Step}
+use Rattle.edits.specs.Find.{step-name}
+use Rattle.edits.specs.Delete.{change-member, delete}
+use Rattle.edits.specs.Spot.{first, one-more, nth-part, spot}
+use Rattle.edits.specs.Cut.{Left, members-of, places-for, in-turn, sizes-of, left-of}
+use Rattle.edits.specs.declared.find.PartAt.{PartAt}
+use Rattle.edits.specs.declared.find.Spot.the-variants.{At}
+use Rattle.edits.specs.declared.delete.Sizes.{Sizes}
+use Rattle.edits.proofs.Tables.{Contains, contains, an-object}
+use Rattle.edits.proofs.Splits.{member-split}
+use Rattle.edits.proofs.Spots.{object-spot}
+use Rattle.edits.proofs.Withouts.{object-word}
+use Rattle.edits.proofs.Kept.{delete-kept}
 use Rattle.edits.proofs.Deletes.{some-inj, nothing-some}
 use Rattle.edits.proofs.Rows.{fits-left, fits-right, table-behind, payloads-behind, row-lengths}
 
@@ -45,6 +65,26 @@ start-behind w xs ys =
     let z : 4 + 4 * length (xs ++ ys) ≡ 4 + 4 * length (xs ++ ys) + 0 = omega arith in
     rw z (payloads-behind w [] (xs ++ ys)) ∙ payloads-append xs ys
 
+-- The lengths of an object's names.
+names-lengths : (ms : Members) (s : Bytes) (n : ℕ) → payload (object ms) ≡ s → length s ≤ 65536 → n ≡ length (member-parts ms)
+    → lengths s 0 n ≡ length (payloads (name-parts (names ms)))
+names-lengths ms s n e l en =
+    let f = object-fits ms (omega (arith, ap length e)) in
+    let nk : length (name-parts (names ms)) ≡ n = names-count ms ∙ sym en in
+    rw (← nk, ← e) (row-lengths (2 ^ 30 + length (member-parts ms)) (name-parts (names ms)) (member-parts ms) (f .fits))
+
+object-length : (ms : Members) → length (payload (object ms))
+    ≡ 4 + 4 * (length (member-parts ms) + length (member-parts ms)) + length (payloads (name-parts (names ms))) + length (payloads (member-parts ms))
+object-length ms =
+    omega (
+      arith,
+      record-of-length (2 ^ 30 + length (member-parts ms)) (name-parts (names ms) ++ member-parts ms),
+      length-append (name-parts (names ms)) (member-parts ms),
+      names-count ms,
+      ap length (payloads-append (name-parts (names ms)) (member-parts ms)),
+      length-append (payloads (name-parts (names ms))) (payloads (member-parts ms)),
+    )
+
 -- The members of an object's record stand for those of its tree.
 pub object-stand : (ms : Members) (s : Bytes) (n : ℕ) → payload (object ms) ≡ s → length s ≤ 65536 → n ≡ length (member-parts ms)
     → Stand (name-in s) (value-in s) own-entry (members-at s s (members-of s n) n) ms
@@ -56,8 +96,7 @@ object-stand ms s n e l en =
     let two : length (name-parts (names ms) ++ member-parts ms) ≡ n + n = omega (arith, f .whole, en) in
     let vs : item-parts (values ms) ≡ member-parts ms = values-parts ms in
     let nn : length (names ms) ≡ n = names-length ms ∙ sym en in
-    let ln : lengths s 0 n ≡ length (payloads (name-parts (names ms))) =
-    rw (← nk, ← e) (row-lengths (2 ^ 30 + length (member-parts ms)) (name-parts (names ms)) (member-parts ms) (f .fits)) in
+    let ln = names-lengths ms s n e l en in
     let ha : drop 4 s ≡ entries (name-parts (names ms)) ++ (entries (member-parts ms) ++ payloads (name-parts (names ms) ++ member-parts ms)) =
     rw (← e) (table-behind (2 ^ 30 + length (member-parts ms)) [] (name-parts (names ms) ++ member-parts ms)
     ∙ rw (entries-append (name-parts (names ms)) (member-parts ms), append-assoc)) in
@@ -125,3 +164,152 @@ module _ (name value : MemberAt → Bytes) (entry : MemberAt → ℕ) (n : Bytes
       as-by Less r q = q
       as-by Equal r q = q
       as-by Greater r q = q
+
+pub stand-count : (name value : MemberAt → Bytes) (entry : MemberAt → ℕ) (xs : List MemberAt) (ms : Members) → Stand name value entry xs ms
+    → length xs ≡ length (member-parts ms)
+stand-count name value entry [] empty h = refl
+stand-count name value entry [] (member n t ms) h = absurd h
+stand-count name value entry (x ∷ xs) empty h = absurd h
+stand-count name value entry (x ∷ xs) (member n t ms) h = ap suc (stand-count name value entry xs ms (h .1))
+
+-- The sizes of members that stand for those of a tree.
+module _ (name value : MemberAt → Bytes) (entry : MemberAt → ℕ) (xs : List MemberAt) (ms : Members) (h : Stand name value entry xs ms) where
+  pub stand-sizes : 4 + 8 * length xs + length (column name xs) + length (column value xs) ≡ length (payload (object ms))
+  stand-sizes =
+      let c = stand-count name value entry xs ms h in
+      omega (
+        arith,
+        c,
+        ap length (stand-names name value entry xs ms h),
+        ap length (stand-values name value entry xs ms h),
+        object-length ms,
+      )
+
+  -- Woven behind their header they are the object.
+  pub stand-woven : (o o₁ o₂ : Bytes) (at : ℕ) (z : Sizes) → z .count ≡ length xs → z .keys ≡ length (column name xs)
+      → o₁ ≡ patch o at (be32 (2 ^ 30 + z .count))
+      → o₂ ≡ woven name value entry o₁ (at + 4) (at + 4 + 4 * z .count) (at + 4 + 4 * z .count + 4 * z .count) (at + 4 + 4 * z .count + 4 * z .count + z .keys) xs
+      → o₂ ≡ patch o at (payload (object ms))
+  stand-woven o o₁ o₂ at z ec ek e₁ e₂ =
+      woven-record name value entry xs ms o o₁ o₂ at (z .count) _ _ _ _ h (ec ∙ stand-count name value entry xs ms h) refl refl refl
+      (ap (λ (i : ℕ). at + 4 + 4 * z .count + 4 * z .count + i) (ek ∙ ap length (stand-names name value entry xs ms h))) e₁ e₂
+
+-- An object in which a step leads to a value, by its bytes.
+pub record Value-at (s : Bytes) (n : ℕ) (val : PartAt) (p : Step) : Type 0 where
+  pub members : Members
+  pub value : Tree
+  pub contained : Contains 64 s (object members)
+  pub reads : nested 64 s ≡ gives (object members)
+  pub bytes : payload (object members) ≡ s
+  pub short : length s ≤ 65536
+  pub count : n ≡ length (member-parts members)
+  pub found : find (step-name p) members ≡ some value
+  pub index : val .index ≡ n + member-split (step-name p) members value found .count
+  pub stands : val ≡ nth-part s (n + n) (val .index)
+  pub below : member-split (step-name p) members value found .count < n
+  pub table : 4 + 4 * (n + n) ≤ length s
+  pub values : 4 + 4 * (n + n) + lengths s 0 n ≤ length s
+  pub stand : Stand (name-in s) (value-in s) own-entry (members-at s s (members-of s n) n) members
+
+pub value-at : (s : Bytes) (n : ℕ) (val : PartAt) (p : Step) → Octets s → checked (nested 64 s) ≡ Readable → length s ≤ 65536
+    → header s ≡ Object n → spot (header s) s p ≡ At val → Value-at s n val p
+value-at s n val p o c l h q =
+    let k = contains 64 s o l c in
+    let w = an-object (k .0) n (sym (k .1 .head) ∙ h) in
+    let ms : Members = w .0 in
+    let k′ : Contains 64 s (object (w .0)) = rw (w .1) at (k .1) in
+    let e : payload (object (w .0)) ≡ s = k′ .bytes in
+    let sp = object-spot (w .0) s p val e l q in
+    let ix : val .index ≡ length (member-parts (w .0)) + member-split (step-name p) (w .0) (sp .0) (sp .1) .count = ap (λ (x : PartAt). x .index) (sp .2) in
+    let ms′ = member-split (step-name p) (w .0) (sp .0) (sp .1) in
+    let b : member-split (step-name p) (w .0) (sp .0) (sp .1) .count < n =
+    omega (arith, w .2, ap length (ms′ .vals), length-append (ms′ .vals-left) (part (sp .0) ∷ ms′ .vals-right), ms′ .vals-before) in
+    let le : length (payload (object (w .0))) ≡ length s = ap length e in
+    record {
+      members = w .0;
+      value = sp .0;
+      contained = k′;
+      reads = k′ .reads;
+      bytes = e;
+      short = l;
+      count = w .2;
+      found = sp .1;
+      index = omega (arith, ix, w .2);
+      stands = sp .2 ∙ ap₂ (nth-part s) (rw (← w .2)) (sym ix);
+      below = b;
+      table = omega (arith, le, object-length (w .0), w .2);
+      values = omega (arith, le, object-length (w .0), w .2, names-lengths (w .0) s n e l (w .2));
+      stand = object-stand (w .0) s n e l (w .2);
+    }
+
+-- What is left of it without that member: its members stand in byte order, and it is no longer than it was.
+pub record Gone (s : Bytes) (n : ℕ) (val : PartAt) (p : Step) : Type 0 where
+  pub rest : Members
+  pub stand : Stand (name-in s) (value-in s) own-entry (in-turn s (members-of s n) n (But (val .index - n))) rest
+  pub left : left-of s (p ∷ []) ≡ payload (object rest)
+  pub shorter : length (payload (object rest)) ≤ length s
+
+pub gone : (s : Bytes) (n : ℕ) (val : PartAt) (p : Step) → Value-at s n val p → Gone s n val p
+unfolding left-of
+gone s n val p v =
+    let ms : Members = v .members in
+    let sp = member-split (step-name p) (v .members) (v .value) (v .found) in
+    let z : val .index - n ≡ 0 + member-split (step-name p) (v .members) (v .value) (v .found) .count = omega (arith, v .index) in
+    let st = stand-sorted (name-in s) (value-in s) own-entry _ _
+    (stand-gone (name-in s) (value-in s) own-entry (step-name p) (members-at s s (members-of s n) n) (v .members) (sp .count) 0 (sp .is-first) (v .stand)) in
+    let d : delete (p ∷ []) (object (v .members)) ≡ object (in-order (change-member nothing (step-name p) (v .members))) = rw (v .found) in
+    record {
+      rest = in-order (change-member nothing (step-name p) (v .members));
+      stand = rw z st;
+      left = rw (v .reads, v .found);
+      shorter =
+          omega (
+            arith,
+            delete-kept (p ∷ []) (object (v .members)) .payload,
+            ap size d,
+            size-payload (object (v .members)),
+            size-payload (object (in-order (change-member nothing (step-name p) (v .members)))),
+            ap length (v .bytes),
+          );
+    }
+
+-- The same in the code's terms.
+module _ (s : Bytes) (n : ℕ) (val : PartAt) (p : Step) (v : Value-at s n val p) (from : Places) (z : Sizes)
+    (ef : from ≡ members-of s n) (ez : z ≡ sizes-of s (in-turn s from n (But (val .index - n)))) where
+  abbrev xs : List MemberAt
+  xs = in-turn s (members-of s n) n (But (val .index - n))
+
+  sizes : z ≡ sizes-of s xs
+  sizes = rw ef at ez
+
+  counted : z .count ≡ length xs
+  counted = ap (λ (x : Sizes). x .count) sizes
+
+  named : z .keys ≡ length (column (name-in s) xs)
+  named = ap (λ (x : Sizes). x .keys) sizes
+
+  summed : 4 + 8 * z .count + z .keys + z .vals ≡ length (payload (object (gone s n val p v .rest)))
+  summed =
+      omega (
+        arith,
+        counted,
+        named,
+        ap (λ (x : Sizes). x .vals) sizes,
+        stand-sizes (name-in s) (value-in s) own-entry xs (gone s n val p v .rest) (gone s n val p v .stand),
+      )
+
+  pub gone-room : 4 + 8 * z .count + z .keys + z .vals ≤ 65536
+  gone-room = omega (arith, summed, gone s n val p v .shorter, v .short)
+
+  pub gone-stored : (to : Places) (o o₁ o₂ : Bytes) (at w : ℕ) → to ≡ places-for z at → w ≡ bitOr (2 ^ 30) (z .count)
+      → o₁ ≡ patch o at (be32 w)
+      → o₂ ≡ woven (name-in s) (value-in s) own-entry o₁ (to .«key_jentry») (to .«val_jentry») (to .key) (to .val)
+      (in-turn s from n (But (val .index - n)))
+      → Left (to .val + z .vals - at) o o₂ at (left-of s (p ∷ []))
+  gone-stored to o o₁ o₂ at w et ew e₁ e₂ =
+      let q : w ≡ 2 ^ 30 + z .count = ew ∙ object-word (z .count) (omega (arith, gone-room)) in
+      rw (gone s n val p v .left) (record {
+        length-is = rw et (omega (arith, summed));
+        stored =
+            stand-woven (name-in s) (value-in s) own-entry xs (gone s n val p v .rest) (gone s n val p v .stand) o o₁ o₂ at z counted named (rw q at e₁) (rw (et, ef) at e₂);
+      })

@@ -15,6 +15,7 @@ use Rattle.layout.specs.Check.{checked}
 use Rattle.layout.specs.Place.{parts-at}
 use Rattle.layout.specs.declared.item.Kind.the-variants.{Container}
 use Rattle.layout.specs.declared.check.Check.the-variants.{Readable}
+use Rattle.layout.specs.declared.util.Header.the-variants.{Object}
 use Rattle.layout.proofs.Level.{AllFit}
 use Rattle.layout.proofs.Encoding.{array-fits, object-fits}
 use Rattle.layout.proofs.Decoding.{container-encode}
@@ -67,6 +68,15 @@ contains-more a b s t o h c =
   where
     same-part : part t ≡ record { kind = Container; bytes = s }
     same-part = rw (c .container, c .bytes)
+
+pub an-object : (t : Tree) (n : ℕ) → head-of t ≡ Object n → (ms : Members) × (t ≡ object ms) × (n ≡ length (member-parts ms))
+an-object null n e = let z : _≡_ {A = ℕ} 0 1 = cc in let w : ⊥ = omega arith in absurd w
+an-object (boolean x) n e = let z : _≡_ {A = ℕ} 0 1 = cc in let w : ⊥ = omega arith in absurd w
+an-object (number b) n e = let z : _≡_ {A = ℕ} 0 1 = cc in let w : ⊥ = omega arith in absurd w
+an-object (string b) n e = let z : _≡_ {A = ℕ} 0 1 = cc in let w : ⊥ = omega arith in absurd w
+an-object (extension b) n e = let z : _≡_ {A = ℕ} 0 1 = cc in let w : ⊥ = omega arith in absurd w
+an-object (array ts) n e = let z : _≡_ {A = ℕ} 0 1 = cc in let w : ⊥ = omega arith in absurd w
+an-object (object ms) n e = (ms, refl, cc)
 
 -- Its parts.
 pub record Parted (s : Bytes) (n : ℕ) : Type 0 where

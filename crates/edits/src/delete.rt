@@ -245,7 +245,8 @@ fn places_for(sizes: Sizes, at: usize) -> Places
 
 // Stores an object of n members in byte order of the names, without the member with this value, and gives its length.
 fn put_sorted_without(s: &[u8], n: usize, val: PartAt, out: &mut [u8], at: usize) -> usize
-    requires { ⌜ Table (now s) (n + n) × (header (now s) ≡ Header.Object n) × (n ≤ val .index) × (val .index < n + n) × (at ≤ 2 ^ 23) ⌝ }
+    requires { ⌜ (checked (nested 64 (now s)) ≡ Readable) × (length (now s) ≤ 65536) × (header (now s) ≡ Header.Object n)
+        × LedTo (now s) val × (at ≤ 2 ^ 23) ⌝ }
     ensures { λ r. ⌜ LeftBy (now (s .entry)) val r (now (out .entry)) (now (out .exit)) at ⌝ }
 {
     let from = members_of(s, n);

@@ -1,0 +1,2290 @@
+use Prim.Native.Nat.{ℕ, _<_}
+use borrow.Fn.Kinds.{In}
+use borrow.Fn.PlainCycle.{Measures, is, falls, and}
+use Rattle.edits.proofs.delete.put_deleted.Reads as put-deleted
+use Rattle.edits.proofs.delete.put_deleted.Kinds as put-deleted-kinds
+use Rattle.edits.proofs.delete.+put_deleted+put_member_anew+put_part_anew+put_sorted_anew.Lts-put_deleted as put-deleted-lts
+use Rattle.edits.proofs.delete.put_member_anew.Reads as put-member-anew
+use Rattle.edits.proofs.delete.put_member_anew.Kinds as put-member-anew-kinds
+use Rattle.edits.proofs.delete.+put_deleted+put_member_anew+put_part_anew+put_sorted_anew.Lts-put_member_anew as put-member-anew-lts
+use Rattle.edits.proofs.delete.put_part_anew.Reads as put-part-anew
+use Rattle.edits.proofs.delete.put_part_anew.Kinds as put-part-anew-kinds
+use Rattle.edits.proofs.delete.+put_deleted+put_member_anew+put_part_anew+put_sorted_anew.Lts-put_part_anew as put-part-anew-lts
+use Rattle.edits.proofs.delete.put_sorted_anew.Reads as put-sorted-anew
+use Rattle.edits.proofs.delete.put_sorted_anew.Kinds as put-sorted-anew-kinds
+use Rattle.edits.proofs.delete.+put_deleted+put_member_anew+put_part_anew+put_sorted_anew.Lts-put_sorted_anew as put-sorted-anew-lts
+use Rattle.builders.proofs.names.is_same.Reads as is-same-reads
+use Rattle.builders.proofs.search.next_member.Reads as next-member-reads
+use Rattle.builders.proofs.search.payload_at.Reads as payload-at-reads
+use Rattle.builders.proofs.search.put_member.Reads as put-member-reads
+use Rattle.edits.proofs.delete.manner_of.Reads as manner-of-reads
+use Rattle.edits.proofs.delete.measure_members.Reads as measure-members-reads
+use Rattle.edits.proofs.delete.members_of.Reads as members-of-reads
+use Rattle.edits.proofs.delete.name_of.Reads as name-of-reads
+use Rattle.edits.proofs.delete.places_for.Reads as places-for-reads
+use Rattle.edits.proofs.delete.put_run.Reads as put-run-reads
+use Rattle.edits.proofs.delete.put_without.Reads as put-without-reads
+use Rattle.edits.proofs.delete.way_behind.Reads as way-behind-reads
+use Rattle.edits.proofs.find.find_step.Reads as find-step-reads
+use Rattle.edits.proofs.find.part_behind.Reads as part-behind-reads
+use Rattle.layout.proofs.jentry.encoded.Reads as encoded-reads
+use Rattle.layout.proofs.jentry.payload_len.Reads as payload-len-reads
+use Rattle.layout.proofs.jentry.read_jentry.Reads as read-jentry-reads
+use Rattle.layout.proofs.util.read_u32.Reads as read-u32-reads
+use Rattle.layout.proofs.util.slice.Reads as slice-reads
+use Rattle.layout.proofs.writer.copy.Reads as copy-reads
+use Rattle.layout.proofs.writer.put_u32.Reads as put-u32-reads
+use Rattle.edits.proofs.delete.+put_deleted+put_member_anew+put_part_anew+put_sorted_anew.{
+  statement,
+}
+use Rattle.edits.proofs.delete.+put_deleted+put_member_anew+put_part_anew+put_sorted_anew.Tie.{
+  close,
+}
+
+abbrev μ-put-deleted : Measures 3 put-deleted-kinds.ps ℕ
+μ-put-deleted κs a = ?
+
+abbrev μ-put-member-anew : Measures 4 put-member-anew-kinds.ps ℕ
+μ-put-member-anew κs a = ?
+
+abbrev μ-put-part-anew : Measures 3 put-part-anew-kinds.ps ℕ
+μ-put-part-anew κs a = ?
+
+abbrev μ-put-sorted-anew : Measures 3 put-sorted-anew-kinds.ps ℕ
+μ-put-sorted-anew κs a = ?
+
+abbrev put-deleted-at : ℕ → In 3 put-deleted-kinds.ps
+put-deleted-at t =
+    and 3 put-deleted-kinds.ps (is 3 put-deleted-kinds.ps μ-put-deleted t) put-deleted.Pre
+
+abbrev put-deleted-below : ℕ → In 3 put-deleted-kinds.ps
+put-deleted-below t =
+    and 3 put-deleted-kinds.ps (falls 3 put-deleted-kinds.ps _<_ μ-put-deleted t) put-deleted.Pre
+
+abbrev put-member-anew-at : ℕ → In 4 put-member-anew-kinds.ps
+put-member-anew-at t =
+    and
+    4
+    put-member-anew-kinds.ps
+    (is 4 put-member-anew-kinds.ps μ-put-member-anew t)
+    put-member-anew.Pre
+
+abbrev put-member-anew-below : ℕ → In 4 put-member-anew-kinds.ps
+put-member-anew-below t =
+    and
+    4
+    put-member-anew-kinds.ps
+    (falls 4 put-member-anew-kinds.ps _<_ μ-put-member-anew t)
+    put-member-anew.Pre
+
+abbrev put-part-anew-at : ℕ → In 3 put-part-anew-kinds.ps
+put-part-anew-at t =
+    and 3 put-part-anew-kinds.ps (is 3 put-part-anew-kinds.ps μ-put-part-anew t) put-part-anew.Pre
+
+abbrev put-part-anew-below : ℕ → In 3 put-part-anew-kinds.ps
+put-part-anew-below t =
+    and
+    3
+    put-part-anew-kinds.ps
+    (falls 3 put-part-anew-kinds.ps _<_ μ-put-part-anew t)
+    put-part-anew.Pre
+
+abbrev put-sorted-anew-at : ℕ → In 3 put-sorted-anew-kinds.ps
+put-sorted-anew-at t =
+    and
+    3
+    put-sorted-anew-kinds.ps
+    (is 3 put-sorted-anew-kinds.ps μ-put-sorted-anew t)
+    put-sorted-anew.Pre
+
+abbrev put-sorted-anew-below : ℕ → In 3 put-sorted-anew-kinds.ps
+put-sorted-anew-below t =
+    and
+    3
+    put-sorted-anew-kinds.ps
+    (falls 3 put-sorted-anew-kinds.ps _<_ μ-put-sorted-anew t)
+    put-sorted-anew.Pre
+
+-- src/delete.rt:394:9
+put-deleted-read-jentry-requires : (t : ℕ) → put-deleted-lts.Need-read-jentry-requires (
+  read-jentry-reads.Asked,
+  read-jentry-reads.Learnt,
+  payload-len-reads.Asked,
+  payload-len-reads.Learnt,
+  slice-reads.Asked,
+  slice-reads.Learnt,
+  find-step-reads.Asked,
+  find-step-reads.Learnt,
+  put-without-reads.Asked,
+  put-without-reads.Learnt,
+  manner-of-reads.Asked,
+  manner-of-reads.Learnt,
+  put-part-anew-below t,
+  put-part-anew.Post,
+  put-sorted-anew-below t,
+  put-sorted-anew.Post,
+) (put-deleted-at t) put-deleted.Post
+put-deleted-read-jentry-requires t c κs = ?
+
+-- src/delete.rt:395:44
+put-deleted-payload-len-requires : (t : ℕ) → put-deleted-lts.Need-payload-len-requires (
+  read-jentry-reads.Asked,
+  read-jentry-reads.Learnt,
+  payload-len-reads.Asked,
+  payload-len-reads.Learnt,
+  slice-reads.Asked,
+  slice-reads.Learnt,
+  find-step-reads.Asked,
+  find-step-reads.Learnt,
+  put-without-reads.Asked,
+  put-without-reads.Learnt,
+  manner-of-reads.Asked,
+  manner-of-reads.Learnt,
+  put-part-anew-below t,
+  put-part-anew.Post,
+  put-sorted-anew-below t,
+  put-sorted-anew.Post,
+) (put-deleted-at t) put-deleted.Post
+put-deleted-payload-len-requires t c κs = ?
+
+-- src/delete.rt:395:44
+put-deleted-cast-slice : (t : ℕ) → put-deleted-lts.Need-cast-slice (
+  read-jentry-reads.Asked,
+  read-jentry-reads.Learnt,
+  payload-len-reads.Asked,
+  payload-len-reads.Learnt,
+  slice-reads.Asked,
+  slice-reads.Learnt,
+  find-step-reads.Asked,
+  find-step-reads.Learnt,
+  put-without-reads.Asked,
+  put-without-reads.Learnt,
+  manner-of-reads.Asked,
+  manner-of-reads.Learnt,
+  put-part-anew-below t,
+  put-part-anew.Post,
+  put-sorted-anew-below t,
+  put-sorted-anew.Post,
+) (put-deleted-at t) put-deleted.Post
+put-deleted-cast-slice t c = ?
+
+-- src/delete.rt:395:9
+put-deleted-slice-requires : (t : ℕ) → put-deleted-lts.Need-slice-requires (
+  read-jentry-reads.Asked,
+  read-jentry-reads.Learnt,
+  payload-len-reads.Asked,
+  payload-len-reads.Learnt,
+  slice-reads.Asked,
+  slice-reads.Learnt,
+  find-step-reads.Asked,
+  find-step-reads.Learnt,
+  put-without-reads.Asked,
+  put-without-reads.Learnt,
+  manner-of-reads.Asked,
+  manner-of-reads.Learnt,
+  put-part-anew-below t,
+  put-part-anew.Post,
+  put-sorted-anew-below t,
+  put-sorted-anew.Post,
+) (put-deleted-at t) put-deleted.Post
+put-deleted-slice-requires t c κs = ?
+
+-- src/delete.rt:396:26
+put-deleted-find-step-requires : (t : ℕ) → put-deleted-lts.Need-find-step-requires (
+  read-jentry-reads.Asked,
+  read-jentry-reads.Learnt,
+  payload-len-reads.Asked,
+  payload-len-reads.Learnt,
+  slice-reads.Asked,
+  slice-reads.Learnt,
+  find-step-reads.Asked,
+  find-step-reads.Learnt,
+  put-without-reads.Asked,
+  put-without-reads.Learnt,
+  manner-of-reads.Asked,
+  manner-of-reads.Learnt,
+  put-part-anew-below t,
+  put-part-anew.Post,
+  put-sorted-anew-below t,
+  put-sorted-anew.Post,
+) (put-deleted-at t) put-deleted.Post
+put-deleted-find-step-requires t c κs = ?
+
+-- src/delete.rt:396:18
+put-deleted-enum-known-part : (t : ℕ) → put-deleted-lts.Need-enum-known-part (
+  read-jentry-reads.Asked,
+  read-jentry-reads.Learnt,
+  payload-len-reads.Asked,
+  payload-len-reads.Learnt,
+  slice-reads.Asked,
+  slice-reads.Learnt,
+  find-step-reads.Asked,
+  find-step-reads.Learnt,
+  put-without-reads.Asked,
+  put-without-reads.Learnt,
+  manner-of-reads.Asked,
+  manner-of-reads.Learnt,
+  put-part-anew-below t,
+  put-part-anew.Post,
+  put-sorted-anew-below t,
+  put-sorted-anew.Post,
+) (put-deleted-at t) put-deleted.Post
+put-deleted-enum-known-part t c = ?
+
+-- src/delete.rt:397:9
+put-deleted-enum-told : (t : ℕ) → put-deleted-lts.Need-enum-told (
+  read-jentry-reads.Asked,
+  read-jentry-reads.Learnt,
+  payload-len-reads.Asked,
+  payload-len-reads.Learnt,
+  slice-reads.Asked,
+  slice-reads.Learnt,
+  find-step-reads.Asked,
+  find-step-reads.Learnt,
+  put-without-reads.Asked,
+  put-without-reads.Learnt,
+  manner-of-reads.Asked,
+  manner-of-reads.Learnt,
+  put-part-anew-below t,
+  put-part-anew.Post,
+  put-sorted-anew-below t,
+  put-sorted-anew.Post,
+) (put-deleted-at t) put-deleted.Post
+put-deleted-enum-told t c = ?
+
+-- src/delete.rt:397:9
+put-deleted-returns : (t : ℕ) → put-deleted-lts.Need-returns (
+  read-jentry-reads.Asked,
+  read-jentry-reads.Learnt,
+  payload-len-reads.Asked,
+  payload-len-reads.Learnt,
+  slice-reads.Asked,
+  slice-reads.Learnt,
+  find-step-reads.Asked,
+  find-step-reads.Learnt,
+  put-without-reads.Asked,
+  put-without-reads.Learnt,
+  manner-of-reads.Asked,
+  manner-of-reads.Learnt,
+  put-part-anew-below t,
+  put-part-anew.Post,
+  put-sorted-anew-below t,
+  put-sorted-anew.Post,
+) (put-deleted-at t) put-deleted.Post
+put-deleted-returns t c = ?
+
+-- src/delete.rt:399:8
+put-deleted-add-if1 : (t : ℕ) → put-deleted-lts.Need-add-if1 (
+  read-jentry-reads.Asked,
+  read-jentry-reads.Learnt,
+  payload-len-reads.Asked,
+  payload-len-reads.Learnt,
+  slice-reads.Asked,
+  slice-reads.Learnt,
+  find-step-reads.Asked,
+  find-step-reads.Learnt,
+  put-without-reads.Asked,
+  put-without-reads.Learnt,
+  manner-of-reads.Asked,
+  manner-of-reads.Learnt,
+  put-part-anew-below t,
+  put-part-anew.Post,
+  put-sorted-anew-below t,
+  put-sorted-anew.Post,
+) (put-deleted-at t) put-deleted.Post
+put-deleted-add-if1 t c = ?
+
+-- src/delete.rt:400:9
+put-deleted-put-without-requires : (t : ℕ) → put-deleted-lts.Need-put-without-requires (
+  read-jentry-reads.Asked,
+  read-jentry-reads.Learnt,
+  payload-len-reads.Asked,
+  payload-len-reads.Learnt,
+  slice-reads.Asked,
+  slice-reads.Learnt,
+  find-step-reads.Asked,
+  find-step-reads.Learnt,
+  put-without-reads.Asked,
+  put-without-reads.Learnt,
+  manner-of-reads.Asked,
+  manner-of-reads.Learnt,
+  put-part-anew-below t,
+  put-part-anew.Post,
+  put-sorted-anew-below t,
+  put-sorted-anew.Post,
+) (put-deleted-at t) put-deleted.Post
+put-deleted-put-without-requires t c κs = ?
+
+-- src/delete.rt:400:9
+put-deleted-same-length : (t : ℕ) → put-deleted-lts.Need-same-length (
+  read-jentry-reads.Asked,
+  read-jentry-reads.Learnt,
+  payload-len-reads.Asked,
+  payload-len-reads.Learnt,
+  slice-reads.Asked,
+  slice-reads.Learnt,
+  find-step-reads.Asked,
+  find-step-reads.Learnt,
+  put-without-reads.Asked,
+  put-without-reads.Learnt,
+  manner-of-reads.Asked,
+  manner-of-reads.Learnt,
+  put-part-anew-below t,
+  put-part-anew.Post,
+  put-sorted-anew-below t,
+  put-sorted-anew.Post,
+) (put-deleted-at t) put-deleted.Post
+put-deleted-same-length t c = ?
+
+-- src/delete.rt:400:9
+put-deleted-returns-2 : (t : ℕ) → put-deleted-lts.Need-returns-2 (
+  read-jentry-reads.Asked,
+  read-jentry-reads.Learnt,
+  payload-len-reads.Asked,
+  payload-len-reads.Learnt,
+  slice-reads.Asked,
+  slice-reads.Learnt,
+  find-step-reads.Asked,
+  find-step-reads.Learnt,
+  put-without-reads.Asked,
+  put-without-reads.Learnt,
+  manner-of-reads.Asked,
+  manner-of-reads.Learnt,
+  put-part-anew-below t,
+  put-part-anew.Post,
+  put-sorted-anew-below t,
+  put-sorted-anew.Post,
+) (put-deleted-at t) put-deleted.Post
+put-deleted-returns-2 t c = ?
+
+-- src/delete.rt:402:11
+put-deleted-manner-of-requires : (t : ℕ) → put-deleted-lts.Need-manner-of-requires (
+  read-jentry-reads.Asked,
+  read-jentry-reads.Learnt,
+  payload-len-reads.Asked,
+  payload-len-reads.Learnt,
+  slice-reads.Asked,
+  slice-reads.Learnt,
+  find-step-reads.Asked,
+  find-step-reads.Learnt,
+  put-without-reads.Asked,
+  put-without-reads.Learnt,
+  manner-of-reads.Asked,
+  manner-of-reads.Learnt,
+  put-part-anew-below t,
+  put-part-anew.Post,
+  put-sorted-anew-below t,
+  put-sorted-anew.Post,
+) (put-deleted-at t) put-deleted.Post
+put-deleted-manner-of-requires t c κs = ?
+
+-- src/delete.rt:403:23
+put-deleted-enum-known-n : (t : ℕ) → put-deleted-lts.Need-enum-known-n (
+  read-jentry-reads.Asked,
+  read-jentry-reads.Learnt,
+  payload-len-reads.Asked,
+  payload-len-reads.Learnt,
+  slice-reads.Asked,
+  slice-reads.Learnt,
+  find-step-reads.Asked,
+  find-step-reads.Learnt,
+  put-without-reads.Asked,
+  put-without-reads.Learnt,
+  manner-of-reads.Asked,
+  manner-of-reads.Learnt,
+  put-part-anew-below t,
+  put-part-anew.Post,
+  put-sorted-anew-below t,
+  put-sorted-anew.Post,
+) (put-deleted-at t) put-deleted.Post
+put-deleted-enum-known-n t c = ?
+
+-- src/delete.rt:403:29
+put-deleted-put-part-anew-requires : (t : ℕ) → put-deleted-lts.Need-put-part-anew-requires (
+  read-jentry-reads.Asked,
+  read-jentry-reads.Learnt,
+  payload-len-reads.Asked,
+  payload-len-reads.Learnt,
+  slice-reads.Asked,
+  slice-reads.Learnt,
+  find-step-reads.Asked,
+  find-step-reads.Learnt,
+  put-without-reads.Asked,
+  put-without-reads.Learnt,
+  manner-of-reads.Asked,
+  manner-of-reads.Learnt,
+  put-part-anew-below t,
+  put-part-anew.Post,
+  put-sorted-anew-below t,
+  put-sorted-anew.Post,
+) (put-deleted-at t) put-deleted.Post
+put-deleted-put-part-anew-requires t c κs = ?
+
+-- src/delete.rt:404:24
+put-deleted-enum-known-n-2 : (t : ℕ) → put-deleted-lts.Need-enum-known-n-2 (
+  read-jentry-reads.Asked,
+  read-jentry-reads.Learnt,
+  payload-len-reads.Asked,
+  payload-len-reads.Learnt,
+  slice-reads.Asked,
+  slice-reads.Learnt,
+  find-step-reads.Asked,
+  find-step-reads.Learnt,
+  put-without-reads.Asked,
+  put-without-reads.Learnt,
+  manner-of-reads.Asked,
+  manner-of-reads.Learnt,
+  put-part-anew-below t,
+  put-part-anew.Post,
+  put-sorted-anew-below t,
+  put-sorted-anew.Post,
+) (put-deleted-at t) put-deleted.Post
+put-deleted-enum-known-n-2 t c = ?
+
+-- src/delete.rt:404:47
+put-deleted-add-put-part-anew : (t : ℕ) → put-deleted-lts.Need-add-put-part-anew (
+  read-jentry-reads.Asked,
+  read-jentry-reads.Learnt,
+  payload-len-reads.Asked,
+  payload-len-reads.Learnt,
+  slice-reads.Asked,
+  slice-reads.Learnt,
+  find-step-reads.Asked,
+  find-step-reads.Learnt,
+  put-without-reads.Asked,
+  put-without-reads.Learnt,
+  manner-of-reads.Asked,
+  manner-of-reads.Learnt,
+  put-part-anew-below t,
+  put-part-anew.Post,
+  put-sorted-anew-below t,
+  put-sorted-anew.Post,
+) (put-deleted-at t) put-deleted.Post
+put-deleted-add-put-part-anew t c = ?
+
+-- src/delete.rt:404:30
+put-deleted-put-part-anew-requires-2 : (t : ℕ) → put-deleted-lts.Need-put-part-anew-requires-2 (
+  read-jentry-reads.Asked,
+  read-jentry-reads.Learnt,
+  payload-len-reads.Asked,
+  payload-len-reads.Learnt,
+  slice-reads.Asked,
+  slice-reads.Learnt,
+  find-step-reads.Asked,
+  find-step-reads.Learnt,
+  put-without-reads.Asked,
+  put-without-reads.Learnt,
+  manner-of-reads.Asked,
+  manner-of-reads.Learnt,
+  put-part-anew-below t,
+  put-part-anew.Post,
+  put-sorted-anew-below t,
+  put-sorted-anew.Post,
+) (put-deleted-at t) put-deleted.Post
+put-deleted-put-part-anew-requires-2 t c κs = ?
+
+-- src/delete.rt:405:26
+put-deleted-enum-known-n-3 : (t : ℕ) → put-deleted-lts.Need-enum-known-n-3 (
+  read-jentry-reads.Asked,
+  read-jentry-reads.Learnt,
+  payload-len-reads.Asked,
+  payload-len-reads.Learnt,
+  slice-reads.Asked,
+  slice-reads.Learnt,
+  find-step-reads.Asked,
+  find-step-reads.Learnt,
+  put-without-reads.Asked,
+  put-without-reads.Learnt,
+  manner-of-reads.Asked,
+  manner-of-reads.Learnt,
+  put-part-anew-below t,
+  put-part-anew.Post,
+  put-sorted-anew-below t,
+  put-sorted-anew.Post,
+) (put-deleted-at t) put-deleted.Post
+put-deleted-enum-known-n-3 t c = ?
+
+-- src/delete.rt:405:32
+put-deleted-put-sorted-anew-requires : (t : ℕ) → put-deleted-lts.Need-put-sorted-anew-requires (
+  read-jentry-reads.Asked,
+  read-jentry-reads.Learnt,
+  payload-len-reads.Asked,
+  payload-len-reads.Learnt,
+  slice-reads.Asked,
+  slice-reads.Learnt,
+  find-step-reads.Asked,
+  find-step-reads.Learnt,
+  put-without-reads.Asked,
+  put-without-reads.Learnt,
+  manner-of-reads.Asked,
+  manner-of-reads.Learnt,
+  put-part-anew-below t,
+  put-part-anew.Post,
+  put-sorted-anew-below t,
+  put-sorted-anew.Post,
+) (put-deleted-at t) put-deleted.Post
+put-deleted-put-sorted-anew-requires t c κs = ?
+
+-- src/delete.rt:406:28
+put-deleted-enum-told-2 : (t : ℕ) → put-deleted-lts.Need-enum-told-2 (
+  read-jentry-reads.Asked,
+  read-jentry-reads.Learnt,
+  payload-len-reads.Asked,
+  payload-len-reads.Learnt,
+  slice-reads.Asked,
+  slice-reads.Learnt,
+  find-step-reads.Asked,
+  find-step-reads.Learnt,
+  put-without-reads.Asked,
+  put-without-reads.Learnt,
+  manner-of-reads.Asked,
+  manner-of-reads.Learnt,
+  put-part-anew-below t,
+  put-part-anew.Post,
+  put-sorted-anew-below t,
+  put-sorted-anew.Post,
+) (put-deleted-at t) put-deleted.Post
+put-deleted-enum-told-2 t c = ?
+
+-- src/delete.rt:390:1
+put-deleted-same-length-2 : (t : ℕ) → put-deleted-lts.Need-same-length-2 (
+  read-jentry-reads.Asked,
+  read-jentry-reads.Learnt,
+  payload-len-reads.Asked,
+  payload-len-reads.Learnt,
+  slice-reads.Asked,
+  slice-reads.Learnt,
+  find-step-reads.Asked,
+  find-step-reads.Learnt,
+  put-without-reads.Asked,
+  put-without-reads.Learnt,
+  manner-of-reads.Asked,
+  manner-of-reads.Learnt,
+  put-part-anew-below t,
+  put-part-anew.Post,
+  put-sorted-anew-below t,
+  put-sorted-anew.Post,
+) (put-deleted-at t) put-deleted.Post
+put-deleted-same-length-2 t c = ?
+
+-- src/delete.rt:390:1
+put-deleted-returns-3 : (t : ℕ) → put-deleted-lts.Need-returns-3 (
+  read-jentry-reads.Asked,
+  read-jentry-reads.Learnt,
+  payload-len-reads.Asked,
+  payload-len-reads.Learnt,
+  slice-reads.Asked,
+  slice-reads.Learnt,
+  find-step-reads.Asked,
+  find-step-reads.Learnt,
+  put-without-reads.Asked,
+  put-without-reads.Learnt,
+  manner-of-reads.Asked,
+  manner-of-reads.Learnt,
+  put-part-anew-below t,
+  put-part-anew.Post,
+  put-sorted-anew-below t,
+  put-sorted-anew.Post,
+) (put-deleted-at t) put-deleted.Post
+put-deleted-returns-3 t c = ?
+
+-- src/delete.rt:390:1
+put-deleted-same-length-3 : (t : ℕ) → put-deleted-lts.Need-same-length-3 (
+  read-jentry-reads.Asked,
+  read-jentry-reads.Learnt,
+  payload-len-reads.Asked,
+  payload-len-reads.Learnt,
+  slice-reads.Asked,
+  slice-reads.Learnt,
+  find-step-reads.Asked,
+  find-step-reads.Learnt,
+  put-without-reads.Asked,
+  put-without-reads.Learnt,
+  manner-of-reads.Asked,
+  manner-of-reads.Learnt,
+  put-part-anew-below t,
+  put-part-anew.Post,
+  put-sorted-anew-below t,
+  put-sorted-anew.Post,
+) (put-deleted-at t) put-deleted.Post
+put-deleted-same-length-3 t c = ?
+
+-- src/delete.rt:390:1
+put-deleted-returns-4 : (t : ℕ) → put-deleted-lts.Need-returns-4 (
+  read-jentry-reads.Asked,
+  read-jentry-reads.Learnt,
+  payload-len-reads.Asked,
+  payload-len-reads.Learnt,
+  slice-reads.Asked,
+  slice-reads.Learnt,
+  find-step-reads.Asked,
+  find-step-reads.Learnt,
+  put-without-reads.Asked,
+  put-without-reads.Learnt,
+  manner-of-reads.Asked,
+  manner-of-reads.Learnt,
+  put-part-anew-below t,
+  put-part-anew.Post,
+  put-sorted-anew-below t,
+  put-sorted-anew.Post,
+) (put-deleted-at t) put-deleted.Post
+put-deleted-returns-4 t c = ?
+
+-- src/delete.rt:390:1
+put-deleted-same-length-4 : (t : ℕ) → put-deleted-lts.Need-same-length-4 (
+  read-jentry-reads.Asked,
+  read-jentry-reads.Learnt,
+  payload-len-reads.Asked,
+  payload-len-reads.Learnt,
+  slice-reads.Asked,
+  slice-reads.Learnt,
+  find-step-reads.Asked,
+  find-step-reads.Learnt,
+  put-without-reads.Asked,
+  put-without-reads.Learnt,
+  manner-of-reads.Asked,
+  manner-of-reads.Learnt,
+  put-part-anew-below t,
+  put-part-anew.Post,
+  put-sorted-anew-below t,
+  put-sorted-anew.Post,
+) (put-deleted-at t) put-deleted.Post
+put-deleted-same-length-4 t c = ?
+
+-- src/delete.rt:390:1
+put-deleted-returns-5 : (t : ℕ) → put-deleted-lts.Need-returns-5 (
+  read-jentry-reads.Asked,
+  read-jentry-reads.Learnt,
+  payload-len-reads.Asked,
+  payload-len-reads.Learnt,
+  slice-reads.Asked,
+  slice-reads.Learnt,
+  find-step-reads.Asked,
+  find-step-reads.Learnt,
+  put-without-reads.Asked,
+  put-without-reads.Learnt,
+  manner-of-reads.Asked,
+  manner-of-reads.Learnt,
+  put-part-anew-below t,
+  put-part-anew.Post,
+  put-sorted-anew-below t,
+  put-sorted-anew.Post,
+) (put-deleted-at t) put-deleted.Post
+put-deleted-returns-5 t c = ?
+
+-- src/delete.rt:390:1
+put-deleted-returns-6 : (t : ℕ) → put-deleted-lts.Need-returns-6 (
+  read-jentry-reads.Asked,
+  read-jentry-reads.Learnt,
+  payload-len-reads.Asked,
+  payload-len-reads.Learnt,
+  slice-reads.Asked,
+  slice-reads.Learnt,
+  find-step-reads.Asked,
+  find-step-reads.Learnt,
+  put-without-reads.Asked,
+  put-without-reads.Learnt,
+  manner-of-reads.Asked,
+  manner-of-reads.Learnt,
+  put-part-anew-below t,
+  put-part-anew.Post,
+  put-sorted-anew-below t,
+  put-sorted-anew.Post,
+) (put-deleted-at t) put-deleted.Post
+put-deleted-returns-6 t c = ?
+
+-- src/delete.rt:348:9
+put-member-anew-payload-at-requires : (t : ℕ) → put-member-anew-lts.Need-payload-at-requires (
+  payload-at-reads.Asked,
+  payload-at-reads.Learnt,
+  is-same-reads.Asked,
+  is-same-reads.Learnt,
+  put-u32-reads.Asked,
+  put-u32-reads.Learnt,
+  copy-reads.Asked,
+  copy-reads.Learnt,
+  put-deleted-below t,
+  put-deleted.Post,
+  encoded-reads.Asked,
+  encoded-reads.Learnt,
+  put-member-reads.Asked,
+  put-member-reads.Learnt,
+) (put-member-anew-at t) put-member-anew.Post
+put-member-anew-payload-at-requires t c κs = ?
+
+-- src/delete.rt:349:8
+put-member-anew-is-same-requires : (t : ℕ) → put-member-anew-lts.Need-is-same-requires (
+  payload-at-reads.Asked,
+  payload-at-reads.Learnt,
+  is-same-reads.Asked,
+  is-same-reads.Learnt,
+  put-u32-reads.Asked,
+  put-u32-reads.Learnt,
+  copy-reads.Asked,
+  copy-reads.Learnt,
+  put-deleted-below t,
+  put-deleted.Post,
+  encoded-reads.Asked,
+  encoded-reads.Learnt,
+  put-member-reads.Asked,
+  put-member-reads.Learnt,
+) (put-member-anew-at t) put-member-anew.Post
+put-member-anew-is-same-requires t c κs = ?
+
+-- src/delete.rt:350:9
+put-member-anew-put-u32-requires : (t : ℕ) → put-member-anew-lts.Need-put-u32-requires (
+  payload-at-reads.Asked,
+  payload-at-reads.Learnt,
+  is-same-reads.Asked,
+  is-same-reads.Learnt,
+  put-u32-reads.Asked,
+  put-u32-reads.Learnt,
+  copy-reads.Asked,
+  copy-reads.Learnt,
+  put-deleted-below t,
+  put-deleted.Post,
+  encoded-reads.Asked,
+  encoded-reads.Learnt,
+  put-member-reads.Asked,
+  put-member-reads.Learnt,
+) (put-member-anew-at t) put-member-anew.Post
+put-member-anew-put-u32-requires t c κs = ?
+
+-- src/delete.rt:351:9
+put-member-anew-copy-requires : (t : ℕ) → put-member-anew-lts.Need-copy-requires (
+  payload-at-reads.Asked,
+  payload-at-reads.Learnt,
+  is-same-reads.Asked,
+  is-same-reads.Learnt,
+  put-u32-reads.Asked,
+  put-u32-reads.Learnt,
+  copy-reads.Asked,
+  copy-reads.Learnt,
+  put-deleted-below t,
+  put-deleted.Post,
+  encoded-reads.Asked,
+  encoded-reads.Learnt,
+  put-member-reads.Asked,
+  put-member-reads.Learnt,
+) (put-member-anew-at t) put-member-anew.Post
+put-member-anew-copy-requires t c κs = ?
+
+-- src/delete.rt:352:31
+put-member-anew-payload-at-requires-2 : (t : ℕ) → put-member-anew-lts.Need-payload-at-requires-2 (
+  payload-at-reads.Asked,
+  payload-at-reads.Learnt,
+  is-same-reads.Asked,
+  is-same-reads.Learnt,
+  put-u32-reads.Asked,
+  put-u32-reads.Learnt,
+  copy-reads.Asked,
+  copy-reads.Learnt,
+  put-deleted-below t,
+  put-deleted.Post,
+  encoded-reads.Asked,
+  encoded-reads.Learnt,
+  put-member-reads.Asked,
+  put-member-reads.Learnt,
+) (put-member-anew-at t) put-member-anew.Post
+put-member-anew-payload-at-requires-2 t c κs = ?
+
+-- src/delete.rt:352:13
+put-member-anew-put-deleted-requires : (t : ℕ) → put-member-anew-lts.Need-put-deleted-requires (
+  payload-at-reads.Asked,
+  payload-at-reads.Learnt,
+  is-same-reads.Asked,
+  is-same-reads.Learnt,
+  put-u32-reads.Asked,
+  put-u32-reads.Learnt,
+  copy-reads.Asked,
+  copy-reads.Learnt,
+  put-deleted-below t,
+  put-deleted.Post,
+  encoded-reads.Asked,
+  encoded-reads.Learnt,
+  put-member-reads.Asked,
+  put-member-reads.Learnt,
+) (put-member-anew-at t) put-member-anew.Post
+put-member-anew-put-deleted-requires t c κs = ?
+
+-- src/delete.rt:353:61
+put-member-anew-cast-encoded : (t : ℕ) → put-member-anew-lts.Need-cast-encoded (
+  payload-at-reads.Asked,
+  payload-at-reads.Learnt,
+  is-same-reads.Asked,
+  is-same-reads.Learnt,
+  put-u32-reads.Asked,
+  put-u32-reads.Learnt,
+  copy-reads.Asked,
+  copy-reads.Learnt,
+  put-deleted-below t,
+  put-deleted.Post,
+  encoded-reads.Asked,
+  encoded-reads.Learnt,
+  put-member-reads.Asked,
+  put-member-reads.Learnt,
+) (put-member-anew-at t) put-member-anew.Post
+put-member-anew-cast-encoded t c = ?
+
+-- src/delete.rt:353:37
+put-member-anew-encoded-requires : (t : ℕ) → put-member-anew-lts.Need-encoded-requires (
+  payload-at-reads.Asked,
+  payload-at-reads.Learnt,
+  is-same-reads.Asked,
+  is-same-reads.Learnt,
+  put-u32-reads.Asked,
+  put-u32-reads.Learnt,
+  copy-reads.Asked,
+  copy-reads.Learnt,
+  put-deleted-below t,
+  put-deleted.Post,
+  encoded-reads.Asked,
+  encoded-reads.Learnt,
+  put-member-reads.Asked,
+  put-member-reads.Learnt,
+) (put-member-anew-at t) put-member-anew.Post
+put-member-anew-encoded-requires t c κs = ?
+
+-- src/delete.rt:353:9
+put-member-anew-put-u32-requires-2 : (t : ℕ) → put-member-anew-lts.Need-put-u32-requires-2 (
+  payload-at-reads.Asked,
+  payload-at-reads.Learnt,
+  is-same-reads.Asked,
+  is-same-reads.Learnt,
+  put-u32-reads.Asked,
+  put-u32-reads.Learnt,
+  copy-reads.Asked,
+  copy-reads.Learnt,
+  put-deleted-below t,
+  put-deleted.Post,
+  encoded-reads.Asked,
+  encoded-reads.Learnt,
+  put-member-reads.Asked,
+  put-member-reads.Learnt,
+) (put-member-anew-at t) put-member-anew.Post
+put-member-anew-put-u32-requires-2 t c κs = ?
+
+-- src/delete.rt:355:25
+put-member-anew-add-t24 : (t : ℕ) → put-member-anew-lts.Need-add-t24 (
+  payload-at-reads.Asked,
+  payload-at-reads.Learnt,
+  is-same-reads.Asked,
+  is-same-reads.Learnt,
+  put-u32-reads.Asked,
+  put-u32-reads.Learnt,
+  copy-reads.Asked,
+  copy-reads.Learnt,
+  put-deleted-below t,
+  put-deleted.Post,
+  encoded-reads.Asked,
+  encoded-reads.Learnt,
+  put-member-reads.Asked,
+  put-member-reads.Learnt,
+) (put-member-anew-at t) put-member-anew.Post
+put-member-anew-add-t24 t c = ?
+
+-- src/delete.rt:356:25
+put-member-anew-add-t25 : (t : ℕ) → put-member-anew-lts.Need-add-t25 (
+  payload-at-reads.Asked,
+  payload-at-reads.Learnt,
+  is-same-reads.Asked,
+  is-same-reads.Learnt,
+  put-u32-reads.Asked,
+  put-u32-reads.Learnt,
+  copy-reads.Asked,
+  copy-reads.Learnt,
+  put-deleted-below t,
+  put-deleted.Post,
+  encoded-reads.Asked,
+  encoded-reads.Learnt,
+  put-member-reads.Asked,
+  put-member-reads.Learnt,
+) (put-member-anew-at t) put-member-anew.Post
+put-member-anew-add-t25 t c = ?
+
+-- src/delete.rt:357:18
+put-member-anew-add-t27 : (t : ℕ) → put-member-anew-lts.Need-add-t27 (
+  payload-at-reads.Asked,
+  payload-at-reads.Learnt,
+  is-same-reads.Asked,
+  is-same-reads.Learnt,
+  put-u32-reads.Asked,
+  put-u32-reads.Learnt,
+  copy-reads.Asked,
+  copy-reads.Learnt,
+  put-deleted-below t,
+  put-deleted.Post,
+  encoded-reads.Asked,
+  encoded-reads.Learnt,
+  put-member-reads.Asked,
+  put-member-reads.Learnt,
+) (put-member-anew-at t) put-member-anew.Post
+put-member-anew-add-t27 t c = ?
+
+-- src/delete.rt:358:18
+put-member-anew-add-t28 : (t : ℕ) → put-member-anew-lts.Need-add-t28 (
+  payload-at-reads.Asked,
+  payload-at-reads.Learnt,
+  is-same-reads.Asked,
+  is-same-reads.Learnt,
+  put-u32-reads.Asked,
+  put-u32-reads.Learnt,
+  copy-reads.Asked,
+  copy-reads.Learnt,
+  put-deleted-below t,
+  put-deleted.Post,
+  encoded-reads.Asked,
+  encoded-reads.Learnt,
+  put-member-reads.Asked,
+  put-member-reads.Learnt,
+) (put-member-anew-at t) put-member-anew.Post
+put-member-anew-add-t28 t c = ?
+
+-- src/delete.rt:354:9
+put-member-anew-same-length : (t : ℕ) → put-member-anew-lts.Need-same-length (
+  payload-at-reads.Asked,
+  payload-at-reads.Learnt,
+  is-same-reads.Asked,
+  is-same-reads.Learnt,
+  put-u32-reads.Asked,
+  put-u32-reads.Learnt,
+  copy-reads.Asked,
+  copy-reads.Learnt,
+  put-deleted-below t,
+  put-deleted.Post,
+  encoded-reads.Asked,
+  encoded-reads.Learnt,
+  put-member-reads.Asked,
+  put-member-reads.Learnt,
+) (put-member-anew-at t) put-member-anew.Post
+put-member-anew-same-length t c = ?
+
+-- src/delete.rt:354:9
+put-member-anew-returns : (t : ℕ) → put-member-anew-lts.Need-returns (
+  payload-at-reads.Asked,
+  payload-at-reads.Learnt,
+  is-same-reads.Asked,
+  is-same-reads.Learnt,
+  put-u32-reads.Asked,
+  put-u32-reads.Learnt,
+  copy-reads.Asked,
+  copy-reads.Learnt,
+  put-deleted-below t,
+  put-deleted.Post,
+  encoded-reads.Asked,
+  encoded-reads.Learnt,
+  put-member-reads.Asked,
+  put-member-reads.Learnt,
+) (put-member-anew-at t) put-member-anew.Post
+put-member-anew-returns t c = ?
+
+-- src/delete.rt:361:5
+put-member-anew-put-member-requires : (t : ℕ) → put-member-anew-lts.Need-put-member-requires (
+  payload-at-reads.Asked,
+  payload-at-reads.Learnt,
+  is-same-reads.Asked,
+  is-same-reads.Learnt,
+  put-u32-reads.Asked,
+  put-u32-reads.Learnt,
+  copy-reads.Asked,
+  copy-reads.Learnt,
+  put-deleted-below t,
+  put-deleted.Post,
+  encoded-reads.Asked,
+  encoded-reads.Learnt,
+  put-member-reads.Asked,
+  put-member-reads.Learnt,
+) (put-member-anew-at t) put-member-anew.Post
+put-member-anew-put-member-requires t c κs = ?
+
+-- src/delete.rt:327:1
+put-member-anew-same-length-2 : (t : ℕ) → put-member-anew-lts.Need-same-length-2 (
+  payload-at-reads.Asked,
+  payload-at-reads.Learnt,
+  is-same-reads.Asked,
+  is-same-reads.Learnt,
+  put-u32-reads.Asked,
+  put-u32-reads.Learnt,
+  copy-reads.Asked,
+  copy-reads.Learnt,
+  put-deleted-below t,
+  put-deleted.Post,
+  encoded-reads.Asked,
+  encoded-reads.Learnt,
+  put-member-reads.Asked,
+  put-member-reads.Learnt,
+) (put-member-anew-at t) put-member-anew.Post
+put-member-anew-same-length-2 t c = ?
+
+-- src/delete.rt:327:1
+put-member-anew-returns-2 : (t : ℕ) → put-member-anew-lts.Need-returns-2 (
+  payload-at-reads.Asked,
+  payload-at-reads.Learnt,
+  is-same-reads.Asked,
+  is-same-reads.Learnt,
+  put-u32-reads.Asked,
+  put-u32-reads.Learnt,
+  copy-reads.Asked,
+  copy-reads.Learnt,
+  put-deleted-below t,
+  put-deleted.Post,
+  encoded-reads.Asked,
+  encoded-reads.Learnt,
+  put-member-reads.Asked,
+  put-member-reads.Learnt,
+) (put-member-anew-at t) put-member-anew.Post
+put-member-anew-returns-2 t c = ?
+
+-- src/delete.rt:294:30
+put-part-anew-mul-put-deleted : (t : ℕ) → put-part-anew-lts.Need-mul-put-deleted (
+  part-behind-reads.Asked,
+  part-behind-reads.Learnt,
+  read-u32-reads.Asked,
+  read-u32-reads.Learnt,
+  put-u32-reads.Asked,
+  put-u32-reads.Learnt,
+  put-run-reads.Asked,
+  put-run-reads.Learnt,
+  way-behind-reads.Asked,
+  way-behind-reads.Learnt,
+  put-deleted-below t,
+  put-deleted.Post,
+  encoded-reads.Asked,
+  encoded-reads.Learnt,
+) (put-part-anew-at t) put-part-anew.Post
+put-part-anew-mul-put-deleted t c = ?
+
+-- src/delete.rt:294:16
+put-part-anew-add-put-deleted : (t : ℕ) → put-part-anew-lts.Need-add-put-deleted (
+  part-behind-reads.Asked,
+  part-behind-reads.Learnt,
+  read-u32-reads.Asked,
+  read-u32-reads.Learnt,
+  put-u32-reads.Asked,
+  put-u32-reads.Learnt,
+  put-run-reads.Asked,
+  put-run-reads.Learnt,
+  way-behind-reads.Asked,
+  way-behind-reads.Learnt,
+  put-deleted-below t,
+  put-deleted.Post,
+  encoded-reads.Asked,
+  encoded-reads.Learnt,
+) (put-part-anew-at t) put-part-anew.Post
+put-part-anew-add-put-deleted t c = ?
+
+-- src/delete.rt:300:9
+put-part-anew-part-behind-requires : (t : ℕ) → put-part-anew-lts.Need-part-behind-requires (
+  part-behind-reads.Asked,
+  part-behind-reads.Learnt,
+  read-u32-reads.Asked,
+  read-u32-reads.Learnt,
+  put-u32-reads.Asked,
+  put-u32-reads.Learnt,
+  put-run-reads.Asked,
+  put-run-reads.Learnt,
+  way-behind-reads.Asked,
+  way-behind-reads.Learnt,
+  put-deleted-below t,
+  put-deleted.Post,
+  encoded-reads.Asked,
+  encoded-reads.Learnt,
+) (put-part-anew-at t) put-part-anew.Post
+put-part-anew-part-behind-requires t c κs = ?
+
+-- src/delete.rt:302:17
+put-part-anew-add-put-deleted-2 : (t : ℕ) → put-part-anew-lts.Need-add-put-deleted-2 (
+  part-behind-reads.Asked,
+  part-behind-reads.Learnt,
+  read-u32-reads.Asked,
+  read-u32-reads.Learnt,
+  put-u32-reads.Asked,
+  put-u32-reads.Learnt,
+  put-run-reads.Asked,
+  put-run-reads.Learnt,
+  way-behind-reads.Asked,
+  way-behind-reads.Learnt,
+  put-deleted-below t,
+  put-deleted.Post,
+  encoded-reads.Asked,
+  encoded-reads.Learnt,
+) (put-part-anew-at t) put-part-anew.Post
+put-part-anew-add-put-deleted-2 t c = ?
+
+-- src/delete.rt:303:16
+put-part-anew-add-t19 : (t : ℕ) → put-part-anew-lts.Need-add-t19 (
+  part-behind-reads.Asked,
+  part-behind-reads.Learnt,
+  read-u32-reads.Asked,
+  read-u32-reads.Learnt,
+  put-u32-reads.Asked,
+  put-u32-reads.Learnt,
+  put-run-reads.Asked,
+  put-run-reads.Learnt,
+  way-behind-reads.Asked,
+  way-behind-reads.Learnt,
+  put-deleted-below t,
+  put-deleted.Post,
+  encoded-reads.Asked,
+  encoded-reads.Learnt,
+) (put-part-anew-at t) put-part-anew.Post
+put-part-anew-add-t19 t c = ?
+
+-- src/delete.rt:305:22
+put-part-anew-read-u32-requires : (t : ℕ) → put-part-anew-lts.Need-read-u32-requires (
+  part-behind-reads.Asked,
+  part-behind-reads.Learnt,
+  read-u32-reads.Asked,
+  read-u32-reads.Learnt,
+  put-u32-reads.Asked,
+  put-u32-reads.Learnt,
+  put-run-reads.Asked,
+  put-run-reads.Learnt,
+  way-behind-reads.Asked,
+  way-behind-reads.Learnt,
+  put-deleted-below t,
+  put-deleted.Post,
+  encoded-reads.Asked,
+  encoded-reads.Learnt,
+) (put-part-anew-at t) put-part-anew.Post
+put-part-anew-read-u32-requires t c κs = ?
+
+-- src/delete.rt:305:5
+put-part-anew-put-u32-requires : (t : ℕ) → put-part-anew-lts.Need-put-u32-requires (
+  part-behind-reads.Asked,
+  part-behind-reads.Learnt,
+  read-u32-reads.Asked,
+  read-u32-reads.Learnt,
+  put-u32-reads.Asked,
+  put-u32-reads.Learnt,
+  put-run-reads.Asked,
+  put-run-reads.Learnt,
+  way-behind-reads.Asked,
+  way-behind-reads.Learnt,
+  put-deleted-below t,
+  put-deleted.Post,
+  encoded-reads.Asked,
+  encoded-reads.Learnt,
+) (put-part-anew-at t) put-part-anew.Post
+put-part-anew-put-u32-requires t c κs = ?
+
+-- src/delete.rt:306:9
+put-part-anew-put-run-requires : (t : ℕ) → put-part-anew-lts.Need-put-run-requires (
+  part-behind-reads.Asked,
+  part-behind-reads.Learnt,
+  read-u32-reads.Asked,
+  read-u32-reads.Learnt,
+  put-u32-reads.Asked,
+  put-u32-reads.Learnt,
+  put-run-reads.Asked,
+  put-run-reads.Learnt,
+  way-behind-reads.Asked,
+  way-behind-reads.Learnt,
+  put-deleted-below t,
+  put-deleted.Post,
+  encoded-reads.Asked,
+  encoded-reads.Learnt,
+) (put-part-anew-at t) put-part-anew.Post
+put-part-anew-put-run-requires t c κs = ?
+
+-- src/delete.rt:310:9
+put-part-anew-sub-put-deleted : (t : ℕ) → put-part-anew-lts.Need-sub-put-deleted (
+  part-behind-reads.Asked,
+  part-behind-reads.Learnt,
+  read-u32-reads.Asked,
+  read-u32-reads.Learnt,
+  put-u32-reads.Asked,
+  put-u32-reads.Learnt,
+  put-run-reads.Asked,
+  put-run-reads.Learnt,
+  way-behind-reads.Asked,
+  way-behind-reads.Learnt,
+  put-deleted-below t,
+  put-deleted.Post,
+  encoded-reads.Asked,
+  encoded-reads.Learnt,
+) (put-part-anew-at t) put-part-anew.Post
+put-part-anew-sub-put-deleted t c = ?
+
+-- src/delete.rt:310:9
+put-part-anew-part-put-deleted-start : (t : ℕ) → put-part-anew-lts.Need-part-put-deleted-start (
+  part-behind-reads.Asked,
+  part-behind-reads.Learnt,
+  read-u32-reads.Asked,
+  read-u32-reads.Learnt,
+  put-u32-reads.Asked,
+  put-u32-reads.Learnt,
+  put-run-reads.Asked,
+  put-run-reads.Learnt,
+  way-behind-reads.Asked,
+  way-behind-reads.Learnt,
+  put-deleted-below t,
+  put-deleted.Post,
+  encoded-reads.Asked,
+  encoded-reads.Learnt,
+) (put-part-anew-at t) put-part-anew.Post
+put-part-anew-part-put-deleted-start t c = ?
+
+-- src/delete.rt:310:9
+put-part-anew-part-put-deleted-end : (t : ℕ) → put-part-anew-lts.Need-part-put-deleted-end (
+  part-behind-reads.Asked,
+  part-behind-reads.Learnt,
+  read-u32-reads.Asked,
+  read-u32-reads.Learnt,
+  put-u32-reads.Asked,
+  put-u32-reads.Learnt,
+  put-run-reads.Asked,
+  put-run-reads.Learnt,
+  way-behind-reads.Asked,
+  way-behind-reads.Learnt,
+  put-deleted-below t,
+  put-deleted.Post,
+  encoded-reads.Asked,
+  encoded-reads.Learnt,
+) (put-part-anew-at t) put-part-anew.Post
+put-part-anew-part-put-deleted-end t c = ?
+
+-- src/delete.rt:312:9
+put-part-anew-way-behind-requires : (t : ℕ) → put-part-anew-lts.Need-way-behind-requires (
+  part-behind-reads.Asked,
+  part-behind-reads.Learnt,
+  read-u32-reads.Asked,
+  read-u32-reads.Learnt,
+  put-u32-reads.Asked,
+  put-u32-reads.Learnt,
+  put-run-reads.Asked,
+  put-run-reads.Learnt,
+  way-behind-reads.Asked,
+  way-behind-reads.Learnt,
+  put-deleted-below t,
+  put-deleted.Post,
+  encoded-reads.Asked,
+  encoded-reads.Learnt,
+) (put-part-anew-at t) put-part-anew.Post
+put-part-anew-way-behind-requires t c κs = ?
+
+-- src/delete.rt:315:9
+put-part-anew-sub-put-deleted-2 : (t : ℕ) → put-part-anew-lts.Need-sub-put-deleted-2 (
+  part-behind-reads.Asked,
+  part-behind-reads.Learnt,
+  read-u32-reads.Asked,
+  read-u32-reads.Learnt,
+  put-u32-reads.Asked,
+  put-u32-reads.Learnt,
+  put-run-reads.Asked,
+  put-run-reads.Learnt,
+  way-behind-reads.Asked,
+  way-behind-reads.Learnt,
+  put-deleted-below t,
+  put-deleted.Post,
+  encoded-reads.Asked,
+  encoded-reads.Learnt,
+) (put-part-anew-at t) put-part-anew.Post
+put-part-anew-sub-put-deleted-2 t c = ?
+
+-- src/delete.rt:309:9
+put-part-anew-put-deleted-requires : (t : ℕ) → put-part-anew-lts.Need-put-deleted-requires (
+  part-behind-reads.Asked,
+  part-behind-reads.Learnt,
+  read-u32-reads.Asked,
+  read-u32-reads.Learnt,
+  put-u32-reads.Asked,
+  put-u32-reads.Learnt,
+  put-run-reads.Asked,
+  put-run-reads.Learnt,
+  way-behind-reads.Asked,
+  way-behind-reads.Learnt,
+  put-deleted-below t,
+  put-deleted.Post,
+  encoded-reads.Asked,
+  encoded-reads.Learnt,
+) (put-part-anew-at t) put-part-anew.Post
+put-part-anew-put-deleted-requires t c κs = ?
+
+-- src/delete.rt:317:55
+put-part-anew-cast-encoded : (t : ℕ) → put-part-anew-lts.Need-cast-encoded (
+  part-behind-reads.Asked,
+  part-behind-reads.Learnt,
+  read-u32-reads.Asked,
+  read-u32-reads.Learnt,
+  put-u32-reads.Asked,
+  put-u32-reads.Learnt,
+  put-run-reads.Asked,
+  put-run-reads.Learnt,
+  way-behind-reads.Asked,
+  way-behind-reads.Learnt,
+  put-deleted-below t,
+  put-deleted.Post,
+  encoded-reads.Asked,
+  encoded-reads.Learnt,
+) (put-part-anew-at t) put-part-anew.Post
+put-part-anew-cast-encoded t c = ?
+
+-- src/delete.rt:317:31
+put-part-anew-encoded-requires : (t : ℕ) → put-part-anew-lts.Need-encoded-requires (
+  part-behind-reads.Asked,
+  part-behind-reads.Learnt,
+  read-u32-reads.Asked,
+  read-u32-reads.Learnt,
+  put-u32-reads.Asked,
+  put-u32-reads.Learnt,
+  put-run-reads.Asked,
+  put-run-reads.Learnt,
+  way-behind-reads.Asked,
+  way-behind-reads.Learnt,
+  put-deleted-below t,
+  put-deleted.Post,
+  encoded-reads.Asked,
+  encoded-reads.Learnt,
+) (put-part-anew-at t) put-part-anew.Post
+put-part-anew-encoded-requires t c κs = ?
+
+-- src/delete.rt:317:5
+put-part-anew-put-u32-requires-2 : (t : ℕ) → put-part-anew-lts.Need-put-u32-requires-2 (
+  part-behind-reads.Asked,
+  part-behind-reads.Learnt,
+  read-u32-reads.Asked,
+  read-u32-reads.Learnt,
+  put-u32-reads.Asked,
+  put-u32-reads.Learnt,
+  put-run-reads.Asked,
+  put-run-reads.Learnt,
+  way-behind-reads.Asked,
+  way-behind-reads.Learnt,
+  put-deleted-below t,
+  put-deleted.Post,
+  encoded-reads.Asked,
+  encoded-reads.Learnt,
+) (put-part-anew-at t) put-part-anew.Post
+put-part-anew-put-u32-requires-2 t c κs = ?
+
+-- src/delete.rt:319:17
+put-part-anew-add-t19-2 : (t : ℕ) → put-part-anew-lts.Need-add-t19-2 (
+  part-behind-reads.Asked,
+  part-behind-reads.Learnt,
+  read-u32-reads.Asked,
+  read-u32-reads.Learnt,
+  put-u32-reads.Asked,
+  put-u32-reads.Learnt,
+  put-run-reads.Asked,
+  put-run-reads.Learnt,
+  way-behind-reads.Asked,
+  way-behind-reads.Learnt,
+  put-deleted-below t,
+  put-deleted.Post,
+  encoded-reads.Asked,
+  encoded-reads.Learnt,
+) (put-part-anew-at t) put-part-anew.Post
+put-part-anew-add-t19-2 t c = ?
+
+-- src/delete.rt:320:16
+put-part-anew-add-t20 : (t : ℕ) → put-part-anew-lts.Need-add-t20 (
+  part-behind-reads.Asked,
+  part-behind-reads.Learnt,
+  read-u32-reads.Asked,
+  read-u32-reads.Learnt,
+  put-u32-reads.Asked,
+  put-u32-reads.Learnt,
+  put-run-reads.Asked,
+  put-run-reads.Learnt,
+  way-behind-reads.Asked,
+  way-behind-reads.Learnt,
+  put-deleted-below t,
+  put-deleted.Post,
+  encoded-reads.Asked,
+  encoded-reads.Learnt,
+) (put-part-anew-at t) put-part-anew.Post
+put-part-anew-add-t20 t c = ?
+
+-- src/delete.rt:322:9
+put-part-anew-put-run-requires-2 : (t : ℕ) → put-part-anew-lts.Need-put-run-requires-2 (
+  part-behind-reads.Asked,
+  part-behind-reads.Learnt,
+  read-u32-reads.Asked,
+  read-u32-reads.Learnt,
+  put-u32-reads.Asked,
+  put-u32-reads.Learnt,
+  put-run-reads.Asked,
+  put-run-reads.Learnt,
+  way-behind-reads.Asked,
+  way-behind-reads.Learnt,
+  put-deleted-below t,
+  put-deleted.Post,
+  encoded-reads.Asked,
+  encoded-reads.Learnt,
+) (put-part-anew-at t) put-part-anew.Post
+put-part-anew-put-run-requires-2 t c κs = ?
+
+-- src/delete.rt:323:5
+put-part-anew-sub-result : (t : ℕ) → put-part-anew-lts.Need-sub-result (
+  part-behind-reads.Asked,
+  part-behind-reads.Learnt,
+  read-u32-reads.Asked,
+  read-u32-reads.Learnt,
+  put-u32-reads.Asked,
+  put-u32-reads.Learnt,
+  put-run-reads.Asked,
+  put-run-reads.Learnt,
+  way-behind-reads.Asked,
+  way-behind-reads.Learnt,
+  put-deleted-below t,
+  put-deleted.Post,
+  encoded-reads.Asked,
+  encoded-reads.Learnt,
+) (put-part-anew-at t) put-part-anew.Post
+put-part-anew-sub-result t c = ?
+
+-- src/delete.rt:287:1
+put-part-anew-same-length : (t : ℕ) → put-part-anew-lts.Need-same-length (
+  part-behind-reads.Asked,
+  part-behind-reads.Learnt,
+  read-u32-reads.Asked,
+  read-u32-reads.Learnt,
+  put-u32-reads.Asked,
+  put-u32-reads.Learnt,
+  put-run-reads.Asked,
+  put-run-reads.Learnt,
+  way-behind-reads.Asked,
+  way-behind-reads.Learnt,
+  put-deleted-below t,
+  put-deleted.Post,
+  encoded-reads.Asked,
+  encoded-reads.Learnt,
+) (put-part-anew-at t) put-part-anew.Post
+put-part-anew-same-length t c = ?
+
+-- src/delete.rt:287:1
+put-part-anew-returns : (t : ℕ) → put-part-anew-lts.Need-returns (
+  part-behind-reads.Asked,
+  part-behind-reads.Learnt,
+  read-u32-reads.Asked,
+  read-u32-reads.Learnt,
+  put-u32-reads.Asked,
+  put-u32-reads.Learnt,
+  put-run-reads.Asked,
+  put-run-reads.Learnt,
+  way-behind-reads.Asked,
+  way-behind-reads.Learnt,
+  put-deleted-below t,
+  put-deleted.Post,
+  encoded-reads.Asked,
+  encoded-reads.Learnt,
+) (put-part-anew-at t) put-part-anew.Post
+put-part-anew-returns t c = ?
+
+abbrev put-sorted-anew-Inv-loop : put-sorted-anew-lts.InvT-loop
+put-sorted-anew-Inv-loop s n path out₀ at allowance from name next to₀ last₀ i₀ out to last i = ?
+
+abbrev put-sorted-anew-μ-loop : put-sorted-anew-lts.MeasureT-loop
+put-sorted-anew-μ-loop s n path out₀ at allowance from name next to₀ last₀ i₀ out to last i = ?
+
+-- src/delete.rt:370:9
+put-sorted-anew-members-of-requires : (t : ℕ) → put-sorted-anew-lts.Need-members-of-requires (
+  members-of-reads.Asked,
+  members-of-reads.Learnt,
+  name-of-reads.Asked,
+  name-of-reads.Learnt,
+  way-behind-reads.Asked,
+  way-behind-reads.Learnt,
+  measure-members-reads.Asked,
+  measure-members-reads.Learnt,
+  places-for-reads.Asked,
+  places-for-reads.Learnt,
+  put-u32-reads.Asked,
+  put-u32-reads.Learnt,
+  slice-reads.Asked,
+  slice-reads.Learnt,
+  next-member-reads.Asked,
+  next-member-reads.Learnt,
+  put-member-anew-below t,
+  put-member-anew.Post,
+  payload-at-reads.Asked,
+  payload-at-reads.Learnt,
+) (put-sorted-anew-at t) put-sorted-anew.Post put-sorted-anew-Inv-loop put-sorted-anew-μ-loop
+put-sorted-anew-members-of-requires t c κs = ?
+
+-- src/delete.rt:371:30
+put-sorted-anew-sub-name-of : (t : ℕ) → put-sorted-anew-lts.Need-sub-name-of (
+  members-of-reads.Asked,
+  members-of-reads.Learnt,
+  name-of-reads.Asked,
+  name-of-reads.Learnt,
+  way-behind-reads.Asked,
+  way-behind-reads.Learnt,
+  measure-members-reads.Asked,
+  measure-members-reads.Learnt,
+  places-for-reads.Asked,
+  places-for-reads.Learnt,
+  put-u32-reads.Asked,
+  put-u32-reads.Learnt,
+  slice-reads.Asked,
+  slice-reads.Learnt,
+  next-member-reads.Asked,
+  next-member-reads.Learnt,
+  put-member-anew-below t,
+  put-member-anew.Post,
+  payload-at-reads.Asked,
+  payload-at-reads.Learnt,
+) (put-sorted-anew-at t) put-sorted-anew.Post put-sorted-anew-Inv-loop put-sorted-anew-μ-loop
+put-sorted-anew-sub-name-of t c = ?
+
+-- src/delete.rt:371:9
+put-sorted-anew-name-of-requires : (t : ℕ) → put-sorted-anew-lts.Need-name-of-requires (
+  members-of-reads.Asked,
+  members-of-reads.Learnt,
+  name-of-reads.Asked,
+  name-of-reads.Learnt,
+  way-behind-reads.Asked,
+  way-behind-reads.Learnt,
+  measure-members-reads.Asked,
+  measure-members-reads.Learnt,
+  places-for-reads.Asked,
+  places-for-reads.Learnt,
+  put-u32-reads.Asked,
+  put-u32-reads.Learnt,
+  slice-reads.Asked,
+  slice-reads.Learnt,
+  next-member-reads.Asked,
+  next-member-reads.Learnt,
+  put-member-anew-below t,
+  put-member-anew.Post,
+  payload-at-reads.Asked,
+  payload-at-reads.Learnt,
+) (put-sorted-anew-at t) put-sorted-anew.Post put-sorted-anew-Inv-loop put-sorted-anew-μ-loop
+put-sorted-anew-name-of-requires t c κs = ?
+
+-- src/delete.rt:372:9
+put-sorted-anew-way-behind-requires : (t : ℕ) → put-sorted-anew-lts.Need-way-behind-requires (
+  members-of-reads.Asked,
+  members-of-reads.Learnt,
+  name-of-reads.Asked,
+  name-of-reads.Learnt,
+  way-behind-reads.Asked,
+  way-behind-reads.Learnt,
+  measure-members-reads.Asked,
+  measure-members-reads.Learnt,
+  places-for-reads.Asked,
+  places-for-reads.Learnt,
+  put-u32-reads.Asked,
+  put-u32-reads.Learnt,
+  slice-reads.Asked,
+  slice-reads.Learnt,
+  next-member-reads.Asked,
+  next-member-reads.Learnt,
+  put-member-anew-below t,
+  put-member-anew.Post,
+  payload-at-reads.Asked,
+  payload-at-reads.Learnt,
+) (put-sorted-anew-at t) put-sorted-anew.Post put-sorted-anew-Inv-loop put-sorted-anew-μ-loop
+put-sorted-anew-way-behind-requires t c κs = ?
+
+-- src/delete.rt:373:9
+put-sorted-anew-measure-members-requires :
+    (t : ℕ) → put-sorted-anew-lts.Need-measure-members-requires (
+      members-of-reads.Asked,
+      members-of-reads.Learnt,
+      name-of-reads.Asked,
+      name-of-reads.Learnt,
+      way-behind-reads.Asked,
+      way-behind-reads.Learnt,
+      measure-members-reads.Asked,
+      measure-members-reads.Learnt,
+      places-for-reads.Asked,
+      places-for-reads.Learnt,
+      put-u32-reads.Asked,
+      put-u32-reads.Learnt,
+      slice-reads.Asked,
+      slice-reads.Learnt,
+      next-member-reads.Asked,
+      next-member-reads.Learnt,
+      put-member-anew-below t,
+      put-member-anew.Post,
+      payload-at-reads.Asked,
+      payload-at-reads.Learnt,
+    ) (put-sorted-anew-at t) put-sorted-anew.Post put-sorted-anew-Inv-loop put-sorted-anew-μ-loop
+put-sorted-anew-measure-members-requires t c κs = ?
+
+-- src/delete.rt:374:9
+put-sorted-anew-places-for-requires : (t : ℕ) → put-sorted-anew-lts.Need-places-for-requires (
+  members-of-reads.Asked,
+  members-of-reads.Learnt,
+  name-of-reads.Asked,
+  name-of-reads.Learnt,
+  way-behind-reads.Asked,
+  way-behind-reads.Learnt,
+  measure-members-reads.Asked,
+  measure-members-reads.Learnt,
+  places-for-reads.Asked,
+  places-for-reads.Learnt,
+  put-u32-reads.Asked,
+  put-u32-reads.Learnt,
+  slice-reads.Asked,
+  slice-reads.Learnt,
+  next-member-reads.Asked,
+  next-member-reads.Learnt,
+  put-member-anew-below t,
+  put-member-anew.Post,
+  payload-at-reads.Asked,
+  payload-at-reads.Learnt,
+) (put-sorted-anew-at t) put-sorted-anew.Post put-sorted-anew-Inv-loop put-sorted-anew-μ-loop
+put-sorted-anew-places-for-requires t c κs = ?
+
+-- src/delete.rt:375:45
+put-sorted-anew-cast-put-u32 : (t : ℕ) → put-sorted-anew-lts.Need-cast-put-u32 (
+  members-of-reads.Asked,
+  members-of-reads.Learnt,
+  name-of-reads.Asked,
+  name-of-reads.Learnt,
+  way-behind-reads.Asked,
+  way-behind-reads.Learnt,
+  measure-members-reads.Asked,
+  measure-members-reads.Learnt,
+  places-for-reads.Asked,
+  places-for-reads.Learnt,
+  put-u32-reads.Asked,
+  put-u32-reads.Learnt,
+  slice-reads.Asked,
+  slice-reads.Learnt,
+  next-member-reads.Asked,
+  next-member-reads.Learnt,
+  put-member-anew-below t,
+  put-member-anew.Post,
+  payload-at-reads.Asked,
+  payload-at-reads.Learnt,
+) (put-sorted-anew-at t) put-sorted-anew.Post put-sorted-anew-Inv-loop put-sorted-anew-μ-loop
+put-sorted-anew-cast-put-u32 t c = ?
+
+-- src/delete.rt:375:5
+put-sorted-anew-put-u32-requires : (t : ℕ) → put-sorted-anew-lts.Need-put-u32-requires (
+  members-of-reads.Asked,
+  members-of-reads.Learnt,
+  name-of-reads.Asked,
+  name-of-reads.Learnt,
+  way-behind-reads.Asked,
+  way-behind-reads.Learnt,
+  measure-members-reads.Asked,
+  measure-members-reads.Learnt,
+  places-for-reads.Asked,
+  places-for-reads.Learnt,
+  put-u32-reads.Asked,
+  put-u32-reads.Learnt,
+  slice-reads.Asked,
+  slice-reads.Learnt,
+  next-member-reads.Asked,
+  next-member-reads.Learnt,
+  put-member-anew-below t,
+  put-member-anew.Post,
+  payload-at-reads.Asked,
+  payload-at-reads.Learnt,
+) (put-sorted-anew-at t) put-sorted-anew.Post put-sorted-anew-Inv-loop put-sorted-anew-μ-loop
+put-sorted-anew-put-u32-requires t c κs = ?
+
+-- src/delete.rt:376:9
+put-sorted-anew-slice-requires : (t : ℕ) → put-sorted-anew-lts.Need-slice-requires (
+  members-of-reads.Asked,
+  members-of-reads.Learnt,
+  name-of-reads.Asked,
+  name-of-reads.Learnt,
+  way-behind-reads.Asked,
+  way-behind-reads.Learnt,
+  measure-members-reads.Asked,
+  measure-members-reads.Learnt,
+  places-for-reads.Asked,
+  places-for-reads.Learnt,
+  put-u32-reads.Asked,
+  put-u32-reads.Learnt,
+  slice-reads.Asked,
+  slice-reads.Learnt,
+  next-member-reads.Asked,
+  next-member-reads.Learnt,
+  put-member-anew-below t,
+  put-member-anew.Post,
+  payload-at-reads.Asked,
+  payload-at-reads.Learnt,
+) (put-sorted-anew-at t) put-sorted-anew.Post put-sorted-anew-Inv-loop put-sorted-anew-μ-loop
+put-sorted-anew-slice-requires t c κs = ?
+
+-- src/delete.rt:378:5
+put-sorted-anew-loop-holds : (t : ℕ) → put-sorted-anew-lts.Need-loop-holds (
+  members-of-reads.Asked,
+  members-of-reads.Learnt,
+  name-of-reads.Asked,
+  name-of-reads.Learnt,
+  way-behind-reads.Asked,
+  way-behind-reads.Learnt,
+  measure-members-reads.Asked,
+  measure-members-reads.Learnt,
+  places-for-reads.Asked,
+  places-for-reads.Learnt,
+  put-u32-reads.Asked,
+  put-u32-reads.Learnt,
+  slice-reads.Asked,
+  slice-reads.Learnt,
+  next-member-reads.Asked,
+  next-member-reads.Learnt,
+  put-member-anew-below t,
+  put-member-anew.Post,
+  payload-at-reads.Asked,
+  payload-at-reads.Learnt,
+) (put-sorted-anew-at t) put-sorted-anew.Post put-sorted-anew-Inv-loop put-sorted-anew-μ-loop
+put-sorted-anew-loop-holds t c = ?
+
+-- src/delete.rt:379:33
+put-sorted-anew-next-member-requires : (t : ℕ) → put-sorted-anew-lts.Need-next-member-requires (
+  members-of-reads.Asked,
+  members-of-reads.Learnt,
+  name-of-reads.Asked,
+  name-of-reads.Learnt,
+  way-behind-reads.Asked,
+  way-behind-reads.Learnt,
+  measure-members-reads.Asked,
+  measure-members-reads.Learnt,
+  places-for-reads.Asked,
+  places-for-reads.Learnt,
+  put-u32-reads.Asked,
+  put-u32-reads.Learnt,
+  slice-reads.Asked,
+  slice-reads.Learnt,
+  next-member-reads.Asked,
+  next-member-reads.Learnt,
+  put-member-anew-below t,
+  put-member-anew.Post,
+  payload-at-reads.Asked,
+  payload-at-reads.Learnt,
+) (put-sorted-anew-at t) put-sorted-anew.Post put-sorted-anew-Inv-loop put-sorted-anew-μ-loop
+put-sorted-anew-next-member-requires t c κs = ?
+
+-- src/delete.rt:379:23
+put-sorted-anew-enum-known-member : (t : ℕ) → put-sorted-anew-lts.Need-enum-known-member (
+  members-of-reads.Asked,
+  members-of-reads.Learnt,
+  name-of-reads.Asked,
+  name-of-reads.Learnt,
+  way-behind-reads.Asked,
+  way-behind-reads.Learnt,
+  measure-members-reads.Asked,
+  measure-members-reads.Learnt,
+  places-for-reads.Asked,
+  places-for-reads.Learnt,
+  put-u32-reads.Asked,
+  put-u32-reads.Learnt,
+  slice-reads.Asked,
+  slice-reads.Learnt,
+  next-member-reads.Asked,
+  next-member-reads.Learnt,
+  put-member-anew-below t,
+  put-member-anew.Post,
+  payload-at-reads.Asked,
+  payload-at-reads.Learnt,
+) (put-sorted-anew-at t) put-sorted-anew.Post put-sorted-anew-Inv-loop put-sorted-anew-μ-loop
+put-sorted-anew-enum-known-member t c = ?
+
+-- src/delete.rt:380:20
+put-sorted-anew-enum-told : (t : ℕ) → put-sorted-anew-lts.Need-enum-told (
+  members-of-reads.Asked,
+  members-of-reads.Learnt,
+  name-of-reads.Asked,
+  name-of-reads.Learnt,
+  way-behind-reads.Asked,
+  way-behind-reads.Learnt,
+  measure-members-reads.Asked,
+  measure-members-reads.Learnt,
+  places-for-reads.Asked,
+  places-for-reads.Learnt,
+  put-u32-reads.Asked,
+  put-u32-reads.Learnt,
+  slice-reads.Asked,
+  slice-reads.Learnt,
+  next-member-reads.Asked,
+  next-member-reads.Learnt,
+  put-member-anew-below t,
+  put-member-anew.Post,
+  payload-at-reads.Asked,
+  payload-at-reads.Learnt,
+) (put-sorted-anew-at t) put-sorted-anew.Post put-sorted-anew-Inv-loop put-sorted-anew-μ-loop
+put-sorted-anew-enum-told t c = ?
+
+-- src/delete.rt:380:20
+put-sorted-anew-sub-result : (t : ℕ) → put-sorted-anew-lts.Need-sub-result (
+  members-of-reads.Asked,
+  members-of-reads.Learnt,
+  name-of-reads.Asked,
+  name-of-reads.Learnt,
+  way-behind-reads.Asked,
+  way-behind-reads.Learnt,
+  measure-members-reads.Asked,
+  measure-members-reads.Learnt,
+  places-for-reads.Asked,
+  places-for-reads.Learnt,
+  put-u32-reads.Asked,
+  put-u32-reads.Learnt,
+  slice-reads.Asked,
+  slice-reads.Learnt,
+  next-member-reads.Asked,
+  next-member-reads.Learnt,
+  put-member-anew-below t,
+  put-member-anew.Post,
+  payload-at-reads.Asked,
+  payload-at-reads.Learnt,
+) (put-sorted-anew-at t) put-sorted-anew.Post put-sorted-anew-Inv-loop put-sorted-anew-μ-loop
+put-sorted-anew-sub-result t c = ?
+
+-- src/delete.rt:380:13
+put-sorted-anew-same-length : (t : ℕ) → put-sorted-anew-lts.Need-same-length (
+  members-of-reads.Asked,
+  members-of-reads.Learnt,
+  name-of-reads.Asked,
+  name-of-reads.Learnt,
+  way-behind-reads.Asked,
+  way-behind-reads.Learnt,
+  measure-members-reads.Asked,
+  measure-members-reads.Learnt,
+  places-for-reads.Asked,
+  places-for-reads.Learnt,
+  put-u32-reads.Asked,
+  put-u32-reads.Learnt,
+  slice-reads.Asked,
+  slice-reads.Learnt,
+  next-member-reads.Asked,
+  next-member-reads.Learnt,
+  put-member-anew-below t,
+  put-member-anew.Post,
+  payload-at-reads.Asked,
+  payload-at-reads.Learnt,
+) (put-sorted-anew-at t) put-sorted-anew.Post put-sorted-anew-Inv-loop put-sorted-anew-μ-loop
+put-sorted-anew-same-length t c = ?
+
+-- src/delete.rt:380:13
+put-sorted-anew-returns : (t : ℕ) → put-sorted-anew-lts.Need-returns (
+  members-of-reads.Asked,
+  members-of-reads.Learnt,
+  name-of-reads.Asked,
+  name-of-reads.Learnt,
+  way-behind-reads.Asked,
+  way-behind-reads.Learnt,
+  measure-members-reads.Asked,
+  measure-members-reads.Learnt,
+  places-for-reads.Asked,
+  places-for-reads.Learnt,
+  put-u32-reads.Asked,
+  put-u32-reads.Learnt,
+  slice-reads.Asked,
+  slice-reads.Learnt,
+  next-member-reads.Asked,
+  next-member-reads.Learnt,
+  put-member-anew-below t,
+  put-member-anew.Post,
+  payload-at-reads.Asked,
+  payload-at-reads.Learnt,
+) (put-sorted-anew-at t) put-sorted-anew.Post put-sorted-anew-Inv-loop put-sorted-anew-μ-loop
+put-sorted-anew-returns t c = ?
+
+-- src/delete.rt:382:68
+put-sorted-anew-sub-put-member-anew : (t : ℕ) → put-sorted-anew-lts.Need-sub-put-member-anew (
+  members-of-reads.Asked,
+  members-of-reads.Learnt,
+  name-of-reads.Asked,
+  name-of-reads.Learnt,
+  way-behind-reads.Asked,
+  way-behind-reads.Learnt,
+  measure-members-reads.Asked,
+  measure-members-reads.Learnt,
+  places-for-reads.Asked,
+  places-for-reads.Learnt,
+  put-u32-reads.Asked,
+  put-u32-reads.Learnt,
+  slice-reads.Asked,
+  slice-reads.Learnt,
+  next-member-reads.Asked,
+  next-member-reads.Learnt,
+  put-member-anew-below t,
+  put-member-anew.Post,
+  payload-at-reads.Asked,
+  payload-at-reads.Learnt,
+) (put-sorted-anew-at t) put-sorted-anew.Post put-sorted-anew-Inv-loop put-sorted-anew-μ-loop
+put-sorted-anew-sub-put-member-anew t c = ?
+
+-- src/delete.rt:382:9
+put-sorted-anew-put-member-anew-requires :
+    (t : ℕ) → put-sorted-anew-lts.Need-put-member-anew-requires (
+      members-of-reads.Asked,
+      members-of-reads.Learnt,
+      name-of-reads.Asked,
+      name-of-reads.Learnt,
+      way-behind-reads.Asked,
+      way-behind-reads.Learnt,
+      measure-members-reads.Asked,
+      measure-members-reads.Learnt,
+      places-for-reads.Asked,
+      places-for-reads.Learnt,
+      put-u32-reads.Asked,
+      put-u32-reads.Learnt,
+      slice-reads.Asked,
+      slice-reads.Learnt,
+      next-member-reads.Asked,
+      next-member-reads.Learnt,
+      put-member-anew-below t,
+      put-member-anew.Post,
+      payload-at-reads.Asked,
+      payload-at-reads.Learnt,
+    ) (put-sorted-anew-at t) put-sorted-anew.Post put-sorted-anew-Inv-loop put-sorted-anew-μ-loop
+put-sorted-anew-put-member-anew-requires t c κs = ?
+
+-- src/delete.rt:383:9
+put-sorted-anew-payload-at-requires : (t : ℕ) → put-sorted-anew-lts.Need-payload-at-requires (
+  members-of-reads.Asked,
+  members-of-reads.Learnt,
+  name-of-reads.Asked,
+  name-of-reads.Learnt,
+  way-behind-reads.Asked,
+  way-behind-reads.Learnt,
+  measure-members-reads.Asked,
+  measure-members-reads.Learnt,
+  places-for-reads.Asked,
+  places-for-reads.Learnt,
+  put-u32-reads.Asked,
+  put-u32-reads.Learnt,
+  slice-reads.Asked,
+  slice-reads.Learnt,
+  next-member-reads.Asked,
+  next-member-reads.Learnt,
+  put-member-anew-below t,
+  put-member-anew.Post,
+  payload-at-reads.Asked,
+  payload-at-reads.Learnt,
+) (put-sorted-anew-at t) put-sorted-anew.Post put-sorted-anew-Inv-loop put-sorted-anew-μ-loop
+put-sorted-anew-payload-at-requires t c κs = ?
+
+-- src/delete.rt:384:9
+put-sorted-anew-add-i : (t : ℕ) → put-sorted-anew-lts.Need-add-i (
+  members-of-reads.Asked,
+  members-of-reads.Learnt,
+  name-of-reads.Asked,
+  name-of-reads.Learnt,
+  way-behind-reads.Asked,
+  way-behind-reads.Learnt,
+  measure-members-reads.Asked,
+  measure-members-reads.Learnt,
+  places-for-reads.Asked,
+  places-for-reads.Learnt,
+  put-u32-reads.Asked,
+  put-u32-reads.Learnt,
+  slice-reads.Asked,
+  slice-reads.Learnt,
+  next-member-reads.Asked,
+  next-member-reads.Learnt,
+  put-member-anew-below t,
+  put-member-anew.Post,
+  payload-at-reads.Asked,
+  payload-at-reads.Learnt,
+) (put-sorted-anew-at t) put-sorted-anew.Post put-sorted-anew-Inv-loop put-sorted-anew-μ-loop
+put-sorted-anew-add-i t c = ?
+
+-- src/delete.rt:378:5
+put-sorted-anew-loop-less : (t : ℕ) → put-sorted-anew-lts.Need-loop-less (
+  members-of-reads.Asked,
+  members-of-reads.Learnt,
+  name-of-reads.Asked,
+  name-of-reads.Learnt,
+  way-behind-reads.Asked,
+  way-behind-reads.Learnt,
+  measure-members-reads.Asked,
+  measure-members-reads.Learnt,
+  places-for-reads.Asked,
+  places-for-reads.Learnt,
+  put-u32-reads.Asked,
+  put-u32-reads.Learnt,
+  slice-reads.Asked,
+  slice-reads.Learnt,
+  next-member-reads.Asked,
+  next-member-reads.Learnt,
+  put-member-anew-below t,
+  put-member-anew.Post,
+  payload-at-reads.Asked,
+  payload-at-reads.Learnt,
+) (put-sorted-anew-at t) put-sorted-anew.Post put-sorted-anew-Inv-loop put-sorted-anew-μ-loop
+put-sorted-anew-loop-less t c = ?
+
+-- src/delete.rt:378:5
+put-sorted-anew-loop-again : (t : ℕ) → put-sorted-anew-lts.Need-loop-again (
+  members-of-reads.Asked,
+  members-of-reads.Learnt,
+  name-of-reads.Asked,
+  name-of-reads.Learnt,
+  way-behind-reads.Asked,
+  way-behind-reads.Learnt,
+  measure-members-reads.Asked,
+  measure-members-reads.Learnt,
+  places-for-reads.Asked,
+  places-for-reads.Learnt,
+  put-u32-reads.Asked,
+  put-u32-reads.Learnt,
+  slice-reads.Asked,
+  slice-reads.Learnt,
+  next-member-reads.Asked,
+  next-member-reads.Learnt,
+  put-member-anew-below t,
+  put-member-anew.Post,
+  payload-at-reads.Asked,
+  payload-at-reads.Learnt,
+) (put-sorted-anew-at t) put-sorted-anew.Post put-sorted-anew-Inv-loop put-sorted-anew-μ-loop
+put-sorted-anew-loop-again t c = ?
+
+-- src/delete.rt:386:5
+put-sorted-anew-sub-result-2 : (t : ℕ) → put-sorted-anew-lts.Need-sub-result-2 (
+  members-of-reads.Asked,
+  members-of-reads.Learnt,
+  name-of-reads.Asked,
+  name-of-reads.Learnt,
+  way-behind-reads.Asked,
+  way-behind-reads.Learnt,
+  measure-members-reads.Asked,
+  measure-members-reads.Learnt,
+  places-for-reads.Asked,
+  places-for-reads.Learnt,
+  put-u32-reads.Asked,
+  put-u32-reads.Learnt,
+  slice-reads.Asked,
+  slice-reads.Learnt,
+  next-member-reads.Asked,
+  next-member-reads.Learnt,
+  put-member-anew-below t,
+  put-member-anew.Post,
+  payload-at-reads.Asked,
+  payload-at-reads.Learnt,
+) (put-sorted-anew-at t) put-sorted-anew.Post put-sorted-anew-Inv-loop put-sorted-anew-μ-loop
+put-sorted-anew-sub-result-2 t c = ?
+
+-- src/delete.rt:365:1
+put-sorted-anew-same-length-2 : (t : ℕ) → put-sorted-anew-lts.Need-same-length-2 (
+  members-of-reads.Asked,
+  members-of-reads.Learnt,
+  name-of-reads.Asked,
+  name-of-reads.Learnt,
+  way-behind-reads.Asked,
+  way-behind-reads.Learnt,
+  measure-members-reads.Asked,
+  measure-members-reads.Learnt,
+  places-for-reads.Asked,
+  places-for-reads.Learnt,
+  put-u32-reads.Asked,
+  put-u32-reads.Learnt,
+  slice-reads.Asked,
+  slice-reads.Learnt,
+  next-member-reads.Asked,
+  next-member-reads.Learnt,
+  put-member-anew-below t,
+  put-member-anew.Post,
+  payload-at-reads.Asked,
+  payload-at-reads.Learnt,
+) (put-sorted-anew-at t) put-sorted-anew.Post put-sorted-anew-Inv-loop put-sorted-anew-μ-loop
+put-sorted-anew-same-length-2 t c = ?
+
+-- src/delete.rt:365:1
+put-sorted-anew-returns-2 : (t : ℕ) → put-sorted-anew-lts.Need-returns-2 (
+  members-of-reads.Asked,
+  members-of-reads.Learnt,
+  name-of-reads.Asked,
+  name-of-reads.Learnt,
+  way-behind-reads.Asked,
+  way-behind-reads.Learnt,
+  measure-members-reads.Asked,
+  measure-members-reads.Learnt,
+  places-for-reads.Asked,
+  places-for-reads.Learnt,
+  put-u32-reads.Asked,
+  put-u32-reads.Learnt,
+  slice-reads.Asked,
+  slice-reads.Learnt,
+  next-member-reads.Asked,
+  next-member-reads.Learnt,
+  put-member-anew-below t,
+  put-member-anew.Post,
+  payload-at-reads.Asked,
+  payload-at-reads.Learnt,
+) (put-sorted-anew-at t) put-sorted-anew.Post put-sorted-anew-Inv-loop put-sorted-anew-μ-loop
+put-sorted-anew-returns-2 t c = ?
+
+pub +put-deleted+put-member-anew+put-part-anew+put-sorted-anew-spec : {M : Type 1} → statement M
++put-deleted+put-member-anew+put-part-anew+put-sorted-anew-spec =
+    close
+    μ-put-deleted
+    μ-put-member-anew
+    μ-put-part-anew
+    μ-put-sorted-anew
+    (λ t. put-deleted-lts.spec (
+      read-jentry-reads.Asked,
+      read-jentry-reads.Learnt,
+      payload-len-reads.Asked,
+      payload-len-reads.Learnt,
+      slice-reads.Asked,
+      slice-reads.Learnt,
+      find-step-reads.Asked,
+      find-step-reads.Learnt,
+      put-without-reads.Asked,
+      put-without-reads.Learnt,
+      manner-of-reads.Asked,
+      manner-of-reads.Learnt,
+      put-part-anew-below t,
+      put-part-anew.Post,
+      put-sorted-anew-below t,
+      put-sorted-anew.Post,
+    )
+    (put-deleted-at t)
+    put-deleted.Post
+    (put-deleted-read-jentry-requires t)
+    (put-deleted-payload-len-requires t)
+    (put-deleted-cast-slice t)
+    (put-deleted-slice-requires t)
+    (put-deleted-find-step-requires t)
+    (put-deleted-enum-known-part t)
+    (put-deleted-enum-told t)
+    (put-deleted-returns t)
+    (put-deleted-add-if1 t)
+    (put-deleted-put-without-requires t)
+    (put-deleted-same-length t)
+    (put-deleted-returns-2 t)
+    (put-deleted-manner-of-requires t)
+    (put-deleted-enum-known-n t)
+    (put-deleted-put-part-anew-requires t)
+    (put-deleted-enum-known-n-2 t)
+    (put-deleted-add-put-part-anew t)
+    (put-deleted-put-part-anew-requires-2 t)
+    (put-deleted-enum-known-n-3 t)
+    (put-deleted-put-sorted-anew-requires t)
+    (put-deleted-enum-told-2 t)
+    (put-deleted-same-length-2 t)
+    (put-deleted-returns-3 t)
+    (put-deleted-same-length-3 t)
+    (put-deleted-returns-4 t)
+    (put-deleted-same-length-4 t)
+    (put-deleted-returns-5 t)
+    (put-deleted-returns-6 t))
+    (λ t. put-member-anew-lts.spec (
+      payload-at-reads.Asked,
+      payload-at-reads.Learnt,
+      is-same-reads.Asked,
+      is-same-reads.Learnt,
+      put-u32-reads.Asked,
+      put-u32-reads.Learnt,
+      copy-reads.Asked,
+      copy-reads.Learnt,
+      put-deleted-below t,
+      put-deleted.Post,
+      encoded-reads.Asked,
+      encoded-reads.Learnt,
+      put-member-reads.Asked,
+      put-member-reads.Learnt,
+    )
+    (put-member-anew-at t)
+    put-member-anew.Post
+    (put-member-anew-payload-at-requires t)
+    (put-member-anew-is-same-requires t)
+    (put-member-anew-put-u32-requires t)
+    (put-member-anew-copy-requires t)
+    (put-member-anew-payload-at-requires-2 t)
+    (put-member-anew-put-deleted-requires t)
+    (put-member-anew-cast-encoded t)
+    (put-member-anew-encoded-requires t)
+    (put-member-anew-put-u32-requires-2 t)
+    (put-member-anew-add-t24 t)
+    (put-member-anew-add-t25 t)
+    (put-member-anew-add-t27 t)
+    (put-member-anew-add-t28 t)
+    (put-member-anew-same-length t)
+    (put-member-anew-returns t)
+    (put-member-anew-put-member-requires t)
+    (put-member-anew-same-length-2 t)
+    (put-member-anew-returns-2 t))
+    (λ t. put-part-anew-lts.spec (
+      part-behind-reads.Asked,
+      part-behind-reads.Learnt,
+      read-u32-reads.Asked,
+      read-u32-reads.Learnt,
+      put-u32-reads.Asked,
+      put-u32-reads.Learnt,
+      put-run-reads.Asked,
+      put-run-reads.Learnt,
+      way-behind-reads.Asked,
+      way-behind-reads.Learnt,
+      put-deleted-below t,
+      put-deleted.Post,
+      encoded-reads.Asked,
+      encoded-reads.Learnt,
+    )
+    (put-part-anew-at t)
+    put-part-anew.Post
+    (put-part-anew-mul-put-deleted t)
+    (put-part-anew-add-put-deleted t)
+    (put-part-anew-part-behind-requires t)
+    (put-part-anew-add-put-deleted-2 t)
+    (put-part-anew-add-t19 t)
+    (put-part-anew-read-u32-requires t)
+    (put-part-anew-put-u32-requires t)
+    (put-part-anew-put-run-requires t)
+    (put-part-anew-sub-put-deleted t)
+    (put-part-anew-part-put-deleted-start t)
+    (put-part-anew-part-put-deleted-end t)
+    (put-part-anew-way-behind-requires t)
+    (put-part-anew-sub-put-deleted-2 t)
+    (put-part-anew-put-deleted-requires t)
+    (put-part-anew-cast-encoded t)
+    (put-part-anew-encoded-requires t)
+    (put-part-anew-put-u32-requires-2 t)
+    (put-part-anew-add-t19-2 t)
+    (put-part-anew-add-t20 t)
+    (put-part-anew-put-run-requires-2 t)
+    (put-part-anew-sub-result t)
+    (put-part-anew-same-length t)
+    (put-part-anew-returns t))
+    λ t. put-sorted-anew-lts.spec (
+      members-of-reads.Asked,
+      members-of-reads.Learnt,
+      name-of-reads.Asked,
+      name-of-reads.Learnt,
+      way-behind-reads.Asked,
+      way-behind-reads.Learnt,
+      measure-members-reads.Asked,
+      measure-members-reads.Learnt,
+      places-for-reads.Asked,
+      places-for-reads.Learnt,
+      put-u32-reads.Asked,
+      put-u32-reads.Learnt,
+      slice-reads.Asked,
+      slice-reads.Learnt,
+      next-member-reads.Asked,
+      next-member-reads.Learnt,
+      put-member-anew-below t,
+      put-member-anew.Post,
+      payload-at-reads.Asked,
+      payload-at-reads.Learnt,
+    )
+    (put-sorted-anew-at t)
+    put-sorted-anew.Post
+    put-sorted-anew-Inv-loop
+    put-sorted-anew-μ-loop
+    (put-sorted-anew-members-of-requires t)
+    (put-sorted-anew-sub-name-of t)
+    (put-sorted-anew-name-of-requires t)
+    (put-sorted-anew-way-behind-requires t)
+    (put-sorted-anew-measure-members-requires t)
+    (put-sorted-anew-places-for-requires t)
+    (put-sorted-anew-cast-put-u32 t)
+    (put-sorted-anew-put-u32-requires t)
+    (put-sorted-anew-slice-requires t)
+    (put-sorted-anew-loop-holds t)
+    (put-sorted-anew-next-member-requires t)
+    (put-sorted-anew-enum-known-member t)
+    (put-sorted-anew-enum-told t)
+    (put-sorted-anew-sub-result t)
+    (put-sorted-anew-same-length t)
+    (put-sorted-anew-returns t)
+    (put-sorted-anew-sub-put-member-anew t)
+    (put-sorted-anew-put-member-anew-requires t)
+    (put-sorted-anew-payload-at-requires t)
+    (put-sorted-anew-add-i t)
+    (put-sorted-anew-loop-less t)
+    (put-sorted-anew-loop-again t)
+    (put-sorted-anew-sub-result-2 t)
+    (put-sorted-anew-same-length-2 t)
+    (put-sorted-anew-returns-2 t)
