@@ -4,15 +4,15 @@ use native.Mathlib.Omega.{arith}
 use native.Mathlib.Numerals.{add-one}
 use mathlib.Core.Path.{_≡_, refl, ap, sym, _∙_}
 use mathlib.Core.Bool.{false}
-use mathlib.Core.List.{List, _∷_}
+use mathlib.Core.List.{List, [], _∷_}
 use lib.Dec.{eqb}
-use lib.ListN.{length, drop, drop-of-length-le}
+use lib.ListN.{length, drop, length-append, drop-of-length-le}
 use borrow.Author.Tests.{ne-eqb}
 use Rattle.layout.specs.Bytes.{Bytes, be32}
 use Rattle.layout.specs.Patch.{patch}
 use Rattle.layout.proofs.Patches.{length-patch}
 use Rattle.builders.specs.Search.{bytes-at, name-in, value-in, members-at, kept-of, bound, least, sorted, nth}
-use Rattle.builders.specs.Weave.{behind, own-entry, stored, woven}
+use Rattle.builders.specs.Weave.{behind, own-entry, stored, woven, column}
 use Rattle.builders.specs.declared.search.ItemAt.{ItemAt}
 use Rattle.builders.specs.declared.search.MemberAt.{MemberAt}
 use Rattle.builders.specs.declared.search.Places.{Places}
@@ -34,6 +34,15 @@ module _ (ks vs : Bytes) (m : MemberAt) (n v : Bytes) (hn : n ≡ bytes-at ks (m
       → o₂ ≡ patch o₁ (at .«val_jentry») (be32 (m .val .jentry)) → o₃ ≡ patch o₂ (at .key) n → o₄ ≡ patch o₃ (at .val) v
       → o₄ ≡ stored (name-in ks) (value-in vs) own-entry o (at .«key_jentry») (at .«val_jentry») (at .key) (at .val) m
   member-stored o o₁ o₂ o₃ o₄ e₁ e₂ e₃ e₄ = rw (e₄, e₃, e₂, e₁, hn, hv)
+
+-- A column's length, from its first on.
+pub column-cons : (f : MemberAt → Bytes) (m : MemberAt) (ms : List MemberAt) → length (column f (m ∷ ms)) ≡ length (f m) + length (column f ms)
+unfolding column
+column-cons f m ms = length-append (f m) (column f ms)
+
+pub column-none : (f : MemberAt → Bytes) → length (column f []) ≡ 0
+unfolding column
+column-none f = refl
 
 -- The search, repeated: `i` members of those in byte order were found, the last of them with the name `last`.
 module _ (name : MemberAt → Bytes) (searched : List MemberAt) where
@@ -84,9 +93,11 @@ module _ (name value : MemberAt → Bytes) (entry : MemberAt → ℕ) (searched 
   pub record Stored (out last : Bytes) (at : Places) (i : ℕ) : Type 0 where
     pub sought : Sought name searched last i
     pub near-key-jentry : at .«key_jentry» ≤ to .«key_jentry» + 4 * i
-    pub near-val-jentry : at .«val_jentry» ≤ to .«val_jentry» + 4 * i
+    pub val-jentry : at .«val_jentry» ≡ to .«val_jentry» + 4 * i
     pub near-key : at .key ≤ to .key + 2 ^ 28 * i
     pub near-val : at .val ≤ to .val + 2 ^ 28 * i
+    pub key-on : to .key ≤ at .key
+    pub val-rest : at .val + length (column value (drop i all)) ≡ to .val + length (column value all)
     pub run : weave o to all ≡ weave out at (drop i all)
     pub as-long : length out ≡ length o
 
@@ -95,9 +106,11 @@ module _ (name value : MemberAt → Bytes) (entry : MemberAt → ℕ) (searched 
       record {
         sought = sought-none name searched last;
         near-key-jentry = omega arith;
-        near-val-jentry = omega arith;
+        val-jentry = omega arith;
         near-key = omega arith;
         near-val = omega arith;
+        key-on = omega arith;
+        val-rest = refl;
         run = refl;
         as-long = refl;
       }
@@ -124,9 +137,11 @@ module _ (name value : MemberAt → Bytes) (entry : MemberAt → ℕ) (searched 
           record {
             sought = sought-more name searched last i (now .sought) found hf m q next hn;
             near-key-jentry = rw (h .0) (omega (arith, now .near-key-jentry));
-            near-val-jentry = rw (h .0) (omega (arith, now .near-val-jentry));
+            val-jentry = rw (h .0) (omega (arith, now .val-jentry));
             near-key = rw (h .0) (omega (arith, now .near-key, ln));
             near-val = rw (h .0) (omega (arith, now .near-val, lv));
+            key-on = rw (h .0) (omega (arith, now .key-on));
+            val-rest = rw (h .0, add-one i) (omega (arith, now .val-rest, ap (λ (l : List MemberAt). length (column value l)) cut, column-cons value m (drop (suc i) all)));
             run = now .run ∙ rw (cut, add-one i, h .0, h .1);
             as-long = ap length (h .1) ∙ length-stored ∙ now .as-long;
           }

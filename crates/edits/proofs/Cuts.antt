@@ -6,7 +6,7 @@ use mathlib.Core.List.{List, [], _∷_, _++_, append-assoc, append-nil}
 use lib.ListN.{length, take, drop, length-append, length-take, length-drop, take-append-drop}
 use Rattle.layout.specs.Bytes.{Bytes, be32}
 use Rattle.layout.specs.Entry.{length-of, entry-at, lengths}
-use Rattle.layout.specs.Encode.{Part, payloads, record-of}
+use Rattle.layout.specs.Encode.{Part, entry-word, payloads, record-of}
 use Rattle.layout.specs.Patch.{patch}
 use Rattle.layout.proofs.Level.{AllFit}
 use Rattle.layout.proofs.Decoding.{payloads-append}
@@ -17,7 +17,7 @@ use Rattle.edits.specs.declared.find.PartAt.{PartAt}
 use Rattle.edits.specs.declared.delete.Cursor.{Cursor}
 use Rattle.edits.proofs.Rows.{row-lengths, row-entry}
 use Rattle.edits.proofs.Tables.{Parted}
-use Rattle.edits.proofs.Runs.{laid, laid-record, Run, run-is, run-stored}
+use Rattle.edits.proofs.Runs.{laid, laid-append, laid-one, laid-record, Run, run-is, run-stored}
 
 -- A list at one of its places.
 pub record Nth (ps : List Part) (k : ℕ) : Type 0 where
@@ -157,6 +157,42 @@ module _ (s : Bytes) (n : ℕ) (a : PartAt) (d : Part-at s n a) (o o₁ o₂ o�
       rw all (record {
         length-is = omega (arith, b₂ .2, record-of-length w (d .nth .left ++ d .nth .right));
         stored = b₂ .0 ∙ rw e₁ (laid-record o at w (start .jentry) (start .place) (d .nth .left ++ d .nth .right) sj (omega arith));
+      })
+
+-- A container with one of its parts written anew: its payload is stored first, and its entry behind it.
+module _ (s : Bytes) (n : ℕ) (a : PartAt) (d : Part-at s n a) (o o₁ o₂ o₃ o₄ o₅ : Bytes) (at w len e : ℕ) (start here rest end : Cursor)
+    (next : PartAt) (z : Part) where
+  pub anew-stored : o₁ ≡ patch o at (be32 w) → start .jentry ≡ at + 4 → start .place ≡ at + (4 + 4 * n)
+      → (here ≡ run-behind (record { index = 0; place = 4 + 4 * n }) a start)
+      × (o₂ ≡ patch (patch o₁ (start .jentry) (run-entries s (record { index = 0; place = 4 + 4 * n }) a)) (start .place) (run-payloads s (record { index = 0; place = 4 + 4 * n }) a))
+      → Left len o₂ o₃ (here .place) (z .bytes) → e ≡ entry-word z → o₄ ≡ patch o₃ (here .jentry) (be32 e)
+      → rest .jentry ≡ here .jentry + 4 → rest .place ≡ here .place + len → next ≡ behind s a
+      → (end ≡ run-behind next (record { index = n; place = length s }) rest)
+      × (o₅ ≡ patch (patch o₄ (rest .jentry) (run-entries s next (record { index = n; place = length s }))) (rest .place) (run-payloads s next (record { index = n; place = length s })))
+      → Left (end .place - at) o o₅ at (record-of w (d .nth .left ++ (z ∷ d .nth .right)))
+  unfolding patch
+  anew-stored e₁ sj sp h₁ l ez e₄ rj rp en h₂ =
+      let x : List Part = d .nth .left in
+      let y : List Part = d .nth .right in
+      let r₁ = run-before s n a d in
+      let r₂ : Run s next (record { index = n; place = length s }) (d .nth .right) = rw en (run-behind-it s n a d) in
+      let c₁ : length (d .nth .left) + 1 + length (d .nth .right) ≡ n = omega (arith, d .count, d .nth .before) in
+      let b₁ = run-stored o₁ (start .jentry) (start .place) [] (d .nth .left) s _ a start here o₁ o₂ r₁ (omega (arith, c₁)) refl (omega arith) (omega arith) h₁ in
+      let o₃-is : o₃ ≡ patch o₂ (here .place) (z .bytes) = l .stored in
+      let one : o₄ ≡ laid o₂ (here .jentry) (here .place) (z ∷ []) =
+      e₄ ∙ rw (ez, l .stored) (laid-one o₂ (here .jentry) (here .place) z (omega (arith, b₁ .1, b₁ .2, c₁))) in
+      let two : o₄ ≡ laid o₁ (start .jentry) (start .place) (d .nth .left ++ (z ∷ [])) =
+      one ∙ rw (b₁ .0, b₁ .1, b₁ .2) (laid-append o₁ (start .jentry) (start .place) (d .nth .left) (z ∷ []) (omega (arith, c₁))) in
+      let lz = length-append (d .nth .left) (z ∷ []) in
+      let pz : length (payloads (d .nth .left ++ (z ∷ []))) ≡ length (payloads (d .nth .left)) + length (z .bytes) =
+      omega (arith, ap length (payloads-append (d .nth .left) (z ∷ [])), length-append (payloads (d .nth .left)) (payloads (z ∷ [])), length-append (z .bytes) []) in
+      let b₂ = run-stored o₁ (start .jentry) (start .place) (d .nth .left ++ (z ∷ [])) (d .nth .right) s next _ rest end o₄ o₅ r₂ (omega (arith, c₁, lz)) two
+      (omega (arith, rj, b₁ .1, lz)) (omega (arith, rp, b₁ .2, l .length-is, pz)) h₂ in
+      let q : (d .nth .left ++ (z ∷ [])) ++ d .nth .right ≡ d .nth .left ++ (z ∷ d .nth .right) = append-assoc (d .nth .left) (z ∷ []) (d .nth .right) in
+      let m : length ((d .nth .left ++ (z ∷ [])) ++ d .nth .right) ≡ n = omega (arith, c₁, lz, length-append (d .nth .left ++ (z ∷ [])) (d .nth .right)) in
+      rw (← q) (record {
+        length-is = omega (arith, b₂ .2, record-of-length w ((d .nth .left ++ (z ∷ [])) ++ d .nth .right));
+        stored = b₂ .0 ∙ rw e₁ (laid-record o at w (start .jentry) (start .place) ((d .nth .left ++ (z ∷ [])) ++ d .nth .right) sj (omega (arith, sp, sj, m)));
       })
 
 -- A container without two of its parts.

@@ -47,11 +47,11 @@ no-more-same t = record { valid = λ v. v; sound = λ s. s; deep = omega arith; 
 -- ---- look-up
 
 -- What stands in a container is shorter by its entry and more.
-record Inside (c t : Tree) : Type 0 where
-  valid : Valid t → Valid c
-  sound : Sound t → Sound c
-  deep : suc (depth c) ≤ depth t
-  payload : 8 + size c ≤ size t
+pub record Inside (c t : Tree) : Type 0 where
+  pub valid : Valid t → Valid c
+  pub sound : Sound t → Sound c
+  pub deep : suc (depth c) ≤ depth t
+  pub payload : 8 + size c ≤ size t
 
 record InsideItems (c : Tree) (ts : Items) : Type 0 where
   valid : ValidItems ts → Valid c
@@ -85,7 +85,7 @@ member-inside n (member m t ms) c e =
     later : InsideMembers c ms → InsideMembers c (member m t ms)
     later k = record { valid = λ v. k .valid (v .2); sound = λ s. k .sound (s .1); deep = omega arith; payload = omega arith }
 
-step-inside : (s : Step) (t c : Tree) → step-into s t ≡ some c → Inside c t
+pub step-inside : (s : Step) (t c : Tree) → step-into s t ≡ some c → Inside c t
 step-inside s null c e = nothing-some e
 step-inside s (boolean x) c e = nothing-some e
 step-inside s (number b) c e = nothing-some e

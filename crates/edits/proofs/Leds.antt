@@ -3,6 +3,7 @@ use Prim.Native.Nat.{ℕ, suc, _+_, _*_, _-_, _^_, _≤_, _<_}
 use native.Mathlib.Omega.{arith}
 use native.Mathlib.Numerals.{add-one}
 use mathlib.Core.Path.{_≡_, refl, ap, ap₂, sym, _∙_}
+use mathlib.Core.Logic.{⊎-elim}
 use mathlib.Core.Bool.{Bool, true, false, cond}
 use mathlib.Core.List.{List, [], _∷_, _++_, append-assoc}
 use mathlib.Core.Option.{Option, none as nothing, some}
@@ -31,7 +32,7 @@ use Rattle.edits.specs.Path.{Step}
 use Rattle.edits.specs.Find.{step-place, step-name, item-at, step-into}
 use Rattle.edits.specs.Delete.{change-item, change-member, anew}
 use Rattle.edits.specs.Spot.{spot, nth-part}
-use Rattle.edits.specs.Cut.{Left, left-of, count-parts, Table, PartOf, parts-of, without, without-member, manner-of}
+use Rattle.edits.specs.Cut.{Left, InRuns, left-of, count-parts, Table, PartOf, parts-of, without, without-member, manner-of}
 use Rattle.edits.specs.declared.find.PartAt.{PartAt}
 use Rattle.edits.specs.declared.find.Spot.the-variants.{At}
 use Rattle.edits.specs.declared.delete.Manner.{Manner}
@@ -108,6 +109,7 @@ pub record Led (s : Bytes) (n : ℕ) (a : PartAt) (p : Step) : Type 0 where
   pub table : Table s n
   pub inside : PartOf s n a
   pub word : ℕ
+  pub small : word < 2 ^ 32
   pub left : List Part
   pub right : List Part
   pub parts : parts-of s n ≡ left ++ (part value ∷ right)
@@ -140,6 +142,7 @@ module _ (s : Bytes) (a : PartAt) (p : Step) (ts : Items) (c : Contains 64 s (ar
         table = record { readable = ap checked (c .reads); short = c .short; count = ap count-parts (c .head) };
         inside = record { inside = omega (arith, index-is, sp .before, size-all); is = ha ∙ ap (nth-part s n) (sym index-is) };
         word = 2 ^ 31 + n;
+        small = omega (arith, array-parted ts s (c .bytes) (c .short) .1 .table, c .short);
         left = sp .left;
         right = sp .right;
         parts = array-parts;
@@ -220,6 +223,7 @@ module _ (s : Bytes) (n : ℕ) (a : PartAt) (p : Step) (v : Value-at s n a p) (h
         table = record { readable = ap checked (v .reads); short = v .short; count = ap count-parts (v .contained .head) ∙ omega (arith, v .count) };
         inside = record { inside = omega (arith, v .index, v .below); is = ha };
         word = 2 ^ 30 + n;
+        small = omega (arith, v .table, v .short);
         left = name-parts (names ms) ++ sp .vals-left;
         right = sp .vals-right;
         parts = object-parts ∙ object-left;
@@ -258,3 +262,11 @@ rising-led s n a p o c l h up q =
       omega (arith, v .index),
       rising-gone-by s n a p v (v .stands) up,
     )
+
+pub runs-led : (s : Bytes) (n : ℕ) (a : PartAt) (p : Step) → Octets s → checked (nested 64 s) ≡ Readable → length s ≤ 65536 → InRuns s n
+    → spot (header s) s p ≡ At a → Led s n a p
+runs-led s n a p o c l r q =
+    ⊎-elim
+    (λ h. array-led s n a p o c l h q .0)
+    (λ h. rw (h .2) (rising-led s (h .0) a p o c l (h .1) (h .3) q .0))
+    r

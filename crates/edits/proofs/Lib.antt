@@ -18,6 +18,7 @@ pub mod Cuts
 pub mod Withouts
 pub mod Sorteds
 pub mod Leds
+pub mod Onwards
 pub mod Manners
 pub mod Measures
 pub mod Helds

@@ -2,10 +2,10 @@
 use Prim.Native.Nat.{ℕ, suc, _+_, _*_, _^_, _<_, _≤_}
 use native.Mathlib.Omega.{arith}
 use native.Mathlib.Numerals.{add-one}
-use mathlib.Core.Path.{_≡_, refl, ap, _∙_}
-use mathlib.Core.List.{List, [], _∷_, _++_}
+use mathlib.Core.Path.{_≡_, refl, ap}
+use mathlib.Core.List.{List, _∷_}
 use lib.Dec.{eqb}
-use lib.ListN.{length, drop, length-append, drop-of-length-le}
+use lib.ListN.{length, drop, drop-of-length-le}
 use Rattle.layout.specs.Bytes.{Bytes}
 use Rattle.builders.specs.Search.{name-in, value-in, bytes-at, bound, least, sorted}
 use Rattle.builders.specs.Weave.{column}
@@ -13,20 +13,12 @@ use Rattle.builders.specs.declared.search.MemberAt.{MemberAt}
 use Rattle.builders.specs.declared.search.Found.{Found}
 use Rattle.builders.specs.declared.search.Found.the-variants.{Nothing, At}
 use Rattle.builders.proofs.Searches.{bytes-short}
-use Rattle.builders.proofs.Storing.{Sought, sought-none, sought-all, sought-end, sought-cut, sought-more}
+use Rattle.builders.proofs.Storing.{column-cons, column-none, Sought, sought-none, sought-all, sought-end, sought-cut, sought-more}
 use Rattle.edits.specs.Cut.{sizes-of}
 use Rattle.edits.specs.declared.delete.Sizes.{Sizes}
 
 sizes-are : (z : Sizes) (a b c : ℕ) → z .count ≡ a → z .keys ≡ b → z .vals ≡ c → z ≡ record { count = a; keys = b; vals = c }
 sizes-are z a b c ea eb ec = rw (← ea, ← eb, ← ec)
-
-column-cons : (f : MemberAt → Bytes) (m : MemberAt) (ms : List MemberAt) → length (column f (m ∷ ms)) ≡ length (f m) + length (column f ms)
-unfolding column
-column-cons f m ms = length-append (f m) (column f ms)
-
-column-none : (f : MemberAt → Bytes) → length (column f []) ≡ 0
-unfolding column
-column-none f = refl
 
 module _ (s : Bytes) (searched : List MemberAt) where
   abbrev all : List MemberAt

@@ -1,6 +1,7 @@
 -- A container without an item, or with one written anew, as the code of delete stores it. proofs/Cuts.antt ties it to `left`.
 use Prim.Native.Nat.{ℕ, suc, _+_, _*_, _-_, _^_, _≤_, _<_}
 use mathlib.Core.Path.{_≡_}
+use mathlib.Core.Logic.{_⊎_}
 use mathlib.Core.Bool.{Bool, true, false, cond}
 use mathlib.Core.List.{List, [], _∷_, _++_}
 use mathlib.Core.Option.{Option, none as nothing, some}
@@ -73,6 +74,12 @@ pub record Cuts (s path : Bytes) (w : Way) (allowance : ℕ) : Type 0 where
 pub record Onward (s path : Bytes) (w : Way) (p : PartAt) : Type 0 where
   pub leads : spot (header s) s (step-at path (w .step)) ≡ At p
   pub more : w .step .index + 1 < w .count
+
+-- A container whose `n` parts can be copied in runs: an array, or an object whose names rise.
+abbrev pub InRuns : Bytes → ℕ → Type 0
+InRuns s n =
+    (header s ≡ Array n)
+    ⊎ ((m : ℕ) × (header s ≡ Object m) × (n ≡ m + m) × (rising-parts (parts-at s 0 (4 + 4 * (m + m)) m) ≡ true))
 
 -- What is stored of it, and its length.
 pub record Left (r : ℕ) (before after : Bytes) (at : ℕ) (b : Bytes) : Type 0 where
@@ -163,7 +170,7 @@ name-of s n k = part-at s k (4 + 4 * (n + n) + lengths s 0 k) .bytes
 
 -- The value of a member and its entry, where the values of a name are written anew.
 abbrev pub anew-value : Bytes → Bytes → List Step → MemberAt → Bytes
-anew-value s n p m = cond (same (name-in s m) n) (left-of (value-in s m) p) (value-in s m)
+anew-value s n p m = cond (same n (name-in s m)) (left-of (value-in s m) p) (value-in s m)
 
 abbrev pub anew-entry : Bytes → Bytes → List Step → MemberAt → ℕ
-anew-entry s n p m = cond (same (name-in s m) n) (entry-of 5 (length (left-of (value-in s m) p))) (m .val .jentry)
+anew-entry s n p m = cond (same n (name-in s m)) (entry-of 5 (length (left-of (value-in s m) p))) (m .val .jentry)

@@ -50,7 +50,7 @@ ghost use Rattle.builders.specs.Search.{«name-in» as nameIn, «value-in» as 
 ghost use Rattle.builders.specs.Weave.{behind, stored};
 ghost use Rattle.edits.specs.Steps.{«part-steps» as partSteps};
 ghost use Rattle.edits.specs.Held.{finding};
-ghost use Rattle.edits.specs.Cut.{Left, LedTo, LeftBy, Cuts, Onward, Table, PartOf, without, «without-member» as withoutMember};
+ghost use Rattle.edits.specs.Cut.{Left, LedTo, LeftBy, Cuts, Onward, InRuns, Table, PartOf, without, «without-member» as withoutMember};
 ghost use Rattle.edits.specs.Cut.{«left-of» as leftOf, «steps-from» as stepsFrom, «parts-of» as partsOf};
 ghost use Rattle.edits.specs.Cut.{«run-entries» as runEntries, «run-payloads» as runPayloads, «run-behind» as runBehind};
 ghost use Rattle.edits.specs.Cut.{«members-of» as membersOf, «places-for» as placesFor, «name-of» as nameOf};
@@ -285,8 +285,8 @@ fn way_behind(path: &[u8], way: Way) -> Way
 
 // Stores a container with one of its parts written anew, and gives its length.
 fn put_part_anew(s: &[u8], total: usize, part: PartAt, path: &[u8], way: Way, out: &mut [u8], at: usize, allowance: u32) -> usize
-    requires { ⌜ Cuts (now s) (now path) way allowance × Table (now s) total × PartOf (now s) total part
-        × Onward (now s) (now path) way part × (at ≤ 65536 * (64 - allowance)) ⌝ }
+    requires { ⌜ Cuts (now s) (now path) way allowance × Onward (now s) (now path) way part × InRuns (now s) total
+        × (at ≤ 65536 * (64 - allowance)) ⌝ }
     ensures { λ r. ⌜ Left r (now (out .entry)) (now (out .exit)) at (leftOf (now (s .entry)) (stepsFrom (now (path .entry)) way)) ⌝ }
 {
     let first = PartAt {
@@ -336,7 +336,7 @@ fn put_member_anew(
 ) -> Places
     requires { ⌜ (at .«key_jentry» < 2 ^ 60) × (at .key < 2 ^ 60) × (at .val < 2 ^ 60)
         × (at .«val_jentry» + 4 ≤ at .key) × (at .«val_jentry» + 4 ≤ at .val)
-        × (same (nameIn (now s) member) (now name) ≡ true
+        × (same (now name) (nameIn (now s) member) ≡ true
         → Cuts (valueIn (now s) member) (now path) next allowance × (at .val ≤ 65536 * (64 - allowance))) ⌝ }
     ensures is { λ r. ⌜ r ≡ behind (nameIn (now (s .entry)) member)
         (anewValue (now (s .entry)) (now (name .entry)) (stepsFrom (now (path .entry)) next) member) at ⌝ }
@@ -346,7 +346,7 @@ fn put_member_anew(
         (now (out .entry)) (at .«key_jentry») (at .«val_jentry») (at .key) (at .val) member ⌝ }
 {
     let key = payload_at(s, member.key);
-    if is_same(key, name) {
+    if is_same(name, key) {
         put_u32(out, at.key_jentry, member.key.jentry);
         copy(key, out, at.key);
         let len = put_deleted(payload_at(s, member.val), path, next, out, at.val, allowance);

@@ -105,1371 +105,296 @@ put-sorted-anew-below t =
     (falls 3 put-sorted-anew-kinds.ps _<_ μ-put-sorted-anew t)
     put-sorted-anew.Pre
 
+-- what the functions that `put-deleted` calls ask and give
+abbrev put-deleted-claims : ℕ → put-deleted-lts.Claims
+put-deleted-claims t = (read-jentry-reads.Asked, read-jentry-reads.Learnt, payload-len-reads.Asked, payload-len-reads.Learnt, slice-reads.Asked, slice-reads.Learnt, find-step-reads.Asked, find-step-reads.Learnt, put-without-reads.Asked, put-without-reads.Learnt, manner-of-reads.Asked, manner-of-reads.Learnt, put-part-anew-below t, put-part-anew.Post, put-sorted-anew-below t, put-sorted-anew.Post)
+
+-- what the functions that `put-member-anew` calls ask and give
+abbrev put-member-anew-claims : ℕ → put-member-anew-lts.Claims
+put-member-anew-claims t = (payload-at-reads.Asked, payload-at-reads.Learnt, is-same-reads.Asked, is-same-reads.Learnt, put-u32-reads.Asked, put-u32-reads.Learnt, copy-reads.Asked, copy-reads.Learnt, put-deleted-below t, put-deleted.Post, encoded-reads.Asked, encoded-reads.Learnt, put-member-reads.Asked, put-member-reads.Learnt)
+
+-- what the functions that `put-part-anew` calls ask and give
+abbrev put-part-anew-claims : ℕ → put-part-anew-lts.Claims
+put-part-anew-claims t = (part-behind-reads.Asked, part-behind-reads.Learnt, read-u32-reads.Asked, read-u32-reads.Learnt, put-u32-reads.Asked, put-u32-reads.Learnt, put-run-reads.Asked, put-run-reads.Learnt, way-behind-reads.Asked, way-behind-reads.Learnt, put-deleted-below t, put-deleted.Post, encoded-reads.Asked, encoded-reads.Learnt)
+
+-- what the functions that `put-sorted-anew` calls ask and give
+abbrev put-sorted-anew-claims : ℕ → put-sorted-anew-lts.Claims
+put-sorted-anew-claims t = (members-of-reads.Asked, members-of-reads.Learnt, name-of-reads.Asked, name-of-reads.Learnt, way-behind-reads.Asked, way-behind-reads.Learnt, measure-members-reads.Asked, measure-members-reads.Learnt, places-for-reads.Asked, places-for-reads.Learnt, put-u32-reads.Asked, put-u32-reads.Learnt, slice-reads.Asked, slice-reads.Learnt, next-member-reads.Asked, next-member-reads.Learnt, put-member-anew-below t, put-member-anew.Post, payload-at-reads.Asked, payload-at-reads.Learnt)
+
 -- src/delete.rt:394:9
-put-deleted-read-jentry-requires : (t : ℕ) → put-deleted-lts.Need-read-jentry-requires (
-  read-jentry-reads.Asked,
-  read-jentry-reads.Learnt,
-  payload-len-reads.Asked,
-  payload-len-reads.Learnt,
-  slice-reads.Asked,
-  slice-reads.Learnt,
-  find-step-reads.Asked,
-  find-step-reads.Learnt,
-  put-without-reads.Asked,
-  put-without-reads.Learnt,
-  manner-of-reads.Asked,
-  manner-of-reads.Learnt,
-  put-part-anew-below t,
-  put-part-anew.Post,
-  put-sorted-anew-below t,
-  put-sorted-anew.Post,
-) (put-deleted-at t) put-deleted.Post
+put-deleted-read-jentry-requires : (t : ℕ) → put-deleted-lts.Need-read-jentry-requires (put-deleted-claims t) (put-deleted-at t) put-deleted.Post
 put-deleted-read-jentry-requires t c κs = ?
 
 -- src/delete.rt:395:44
-put-deleted-payload-len-requires : (t : ℕ) → put-deleted-lts.Need-payload-len-requires (
-  read-jentry-reads.Asked,
-  read-jentry-reads.Learnt,
-  payload-len-reads.Asked,
-  payload-len-reads.Learnt,
-  slice-reads.Asked,
-  slice-reads.Learnt,
-  find-step-reads.Asked,
-  find-step-reads.Learnt,
-  put-without-reads.Asked,
-  put-without-reads.Learnt,
-  manner-of-reads.Asked,
-  manner-of-reads.Learnt,
-  put-part-anew-below t,
-  put-part-anew.Post,
-  put-sorted-anew-below t,
-  put-sorted-anew.Post,
-) (put-deleted-at t) put-deleted.Post
+put-deleted-payload-len-requires : (t : ℕ) → put-deleted-lts.Need-payload-len-requires (put-deleted-claims t) (put-deleted-at t) put-deleted.Post
 put-deleted-payload-len-requires t c κs = ?
 
 -- src/delete.rt:395:44
-put-deleted-cast-slice : (t : ℕ) → put-deleted-lts.Need-cast-slice (
-  read-jentry-reads.Asked,
-  read-jentry-reads.Learnt,
-  payload-len-reads.Asked,
-  payload-len-reads.Learnt,
-  slice-reads.Asked,
-  slice-reads.Learnt,
-  find-step-reads.Asked,
-  find-step-reads.Learnt,
-  put-without-reads.Asked,
-  put-without-reads.Learnt,
-  manner-of-reads.Asked,
-  manner-of-reads.Learnt,
-  put-part-anew-below t,
-  put-part-anew.Post,
-  put-sorted-anew-below t,
-  put-sorted-anew.Post,
-) (put-deleted-at t) put-deleted.Post
+put-deleted-cast-slice : (t : ℕ) → put-deleted-lts.Need-cast-slice (put-deleted-claims t) (put-deleted-at t) put-deleted.Post
 put-deleted-cast-slice t c = ?
 
 -- src/delete.rt:395:9
-put-deleted-slice-requires : (t : ℕ) → put-deleted-lts.Need-slice-requires (
-  read-jentry-reads.Asked,
-  read-jentry-reads.Learnt,
-  payload-len-reads.Asked,
-  payload-len-reads.Learnt,
-  slice-reads.Asked,
-  slice-reads.Learnt,
-  find-step-reads.Asked,
-  find-step-reads.Learnt,
-  put-without-reads.Asked,
-  put-without-reads.Learnt,
-  manner-of-reads.Asked,
-  manner-of-reads.Learnt,
-  put-part-anew-below t,
-  put-part-anew.Post,
-  put-sorted-anew-below t,
-  put-sorted-anew.Post,
-) (put-deleted-at t) put-deleted.Post
+put-deleted-slice-requires : (t : ℕ) → put-deleted-lts.Need-slice-requires (put-deleted-claims t) (put-deleted-at t) put-deleted.Post
 put-deleted-slice-requires t c κs = ?
 
 -- src/delete.rt:396:26
-put-deleted-find-step-requires : (t : ℕ) → put-deleted-lts.Need-find-step-requires (
-  read-jentry-reads.Asked,
-  read-jentry-reads.Learnt,
-  payload-len-reads.Asked,
-  payload-len-reads.Learnt,
-  slice-reads.Asked,
-  slice-reads.Learnt,
-  find-step-reads.Asked,
-  find-step-reads.Learnt,
-  put-without-reads.Asked,
-  put-without-reads.Learnt,
-  manner-of-reads.Asked,
-  manner-of-reads.Learnt,
-  put-part-anew-below t,
-  put-part-anew.Post,
-  put-sorted-anew-below t,
-  put-sorted-anew.Post,
-) (put-deleted-at t) put-deleted.Post
+put-deleted-find-step-requires : (t : ℕ) → put-deleted-lts.Need-find-step-requires (put-deleted-claims t) (put-deleted-at t) put-deleted.Post
 put-deleted-find-step-requires t c κs = ?
 
 -- src/delete.rt:396:18
-put-deleted-enum-known-part : (t : ℕ) → put-deleted-lts.Need-enum-known-part (
-  read-jentry-reads.Asked,
-  read-jentry-reads.Learnt,
-  payload-len-reads.Asked,
-  payload-len-reads.Learnt,
-  slice-reads.Asked,
-  slice-reads.Learnt,
-  find-step-reads.Asked,
-  find-step-reads.Learnt,
-  put-without-reads.Asked,
-  put-without-reads.Learnt,
-  manner-of-reads.Asked,
-  manner-of-reads.Learnt,
-  put-part-anew-below t,
-  put-part-anew.Post,
-  put-sorted-anew-below t,
-  put-sorted-anew.Post,
-) (put-deleted-at t) put-deleted.Post
+put-deleted-enum-known-part : (t : ℕ) → put-deleted-lts.Need-enum-known-part (put-deleted-claims t) (put-deleted-at t) put-deleted.Post
 put-deleted-enum-known-part t c = ?
 
 -- src/delete.rt:397:9
-put-deleted-enum-told : (t : ℕ) → put-deleted-lts.Need-enum-told (
-  read-jentry-reads.Asked,
-  read-jentry-reads.Learnt,
-  payload-len-reads.Asked,
-  payload-len-reads.Learnt,
-  slice-reads.Asked,
-  slice-reads.Learnt,
-  find-step-reads.Asked,
-  find-step-reads.Learnt,
-  put-without-reads.Asked,
-  put-without-reads.Learnt,
-  manner-of-reads.Asked,
-  manner-of-reads.Learnt,
-  put-part-anew-below t,
-  put-part-anew.Post,
-  put-sorted-anew-below t,
-  put-sorted-anew.Post,
-) (put-deleted-at t) put-deleted.Post
+put-deleted-enum-told : (t : ℕ) → put-deleted-lts.Need-enum-told (put-deleted-claims t) (put-deleted-at t) put-deleted.Post
 put-deleted-enum-told t c = ?
 
 -- src/delete.rt:397:9
-put-deleted-returns : (t : ℕ) → put-deleted-lts.Need-returns (
-  read-jentry-reads.Asked,
-  read-jentry-reads.Learnt,
-  payload-len-reads.Asked,
-  payload-len-reads.Learnt,
-  slice-reads.Asked,
-  slice-reads.Learnt,
-  find-step-reads.Asked,
-  find-step-reads.Learnt,
-  put-without-reads.Asked,
-  put-without-reads.Learnt,
-  manner-of-reads.Asked,
-  manner-of-reads.Learnt,
-  put-part-anew-below t,
-  put-part-anew.Post,
-  put-sorted-anew-below t,
-  put-sorted-anew.Post,
-) (put-deleted-at t) put-deleted.Post
+put-deleted-returns : (t : ℕ) → put-deleted-lts.Need-returns (put-deleted-claims t) (put-deleted-at t) put-deleted.Post
 put-deleted-returns t c = ?
 
 -- src/delete.rt:399:8
-put-deleted-add-if1 : (t : ℕ) → put-deleted-lts.Need-add-if1 (
-  read-jentry-reads.Asked,
-  read-jentry-reads.Learnt,
-  payload-len-reads.Asked,
-  payload-len-reads.Learnt,
-  slice-reads.Asked,
-  slice-reads.Learnt,
-  find-step-reads.Asked,
-  find-step-reads.Learnt,
-  put-without-reads.Asked,
-  put-without-reads.Learnt,
-  manner-of-reads.Asked,
-  manner-of-reads.Learnt,
-  put-part-anew-below t,
-  put-part-anew.Post,
-  put-sorted-anew-below t,
-  put-sorted-anew.Post,
-) (put-deleted-at t) put-deleted.Post
+put-deleted-add-if1 : (t : ℕ) → put-deleted-lts.Need-add-if1 (put-deleted-claims t) (put-deleted-at t) put-deleted.Post
 put-deleted-add-if1 t c = ?
 
 -- src/delete.rt:400:9
-put-deleted-put-without-requires : (t : ℕ) → put-deleted-lts.Need-put-without-requires (
-  read-jentry-reads.Asked,
-  read-jentry-reads.Learnt,
-  payload-len-reads.Asked,
-  payload-len-reads.Learnt,
-  slice-reads.Asked,
-  slice-reads.Learnt,
-  find-step-reads.Asked,
-  find-step-reads.Learnt,
-  put-without-reads.Asked,
-  put-without-reads.Learnt,
-  manner-of-reads.Asked,
-  manner-of-reads.Learnt,
-  put-part-anew-below t,
-  put-part-anew.Post,
-  put-sorted-anew-below t,
-  put-sorted-anew.Post,
-) (put-deleted-at t) put-deleted.Post
+put-deleted-put-without-requires : (t : ℕ) → put-deleted-lts.Need-put-without-requires (put-deleted-claims t) (put-deleted-at t) put-deleted.Post
 put-deleted-put-without-requires t c κs = ?
 
 -- src/delete.rt:400:9
-put-deleted-same-length : (t : ℕ) → put-deleted-lts.Need-same-length (
-  read-jentry-reads.Asked,
-  read-jentry-reads.Learnt,
-  payload-len-reads.Asked,
-  payload-len-reads.Learnt,
-  slice-reads.Asked,
-  slice-reads.Learnt,
-  find-step-reads.Asked,
-  find-step-reads.Learnt,
-  put-without-reads.Asked,
-  put-without-reads.Learnt,
-  manner-of-reads.Asked,
-  manner-of-reads.Learnt,
-  put-part-anew-below t,
-  put-part-anew.Post,
-  put-sorted-anew-below t,
-  put-sorted-anew.Post,
-) (put-deleted-at t) put-deleted.Post
+put-deleted-same-length : (t : ℕ) → put-deleted-lts.Need-same-length (put-deleted-claims t) (put-deleted-at t) put-deleted.Post
 put-deleted-same-length t c = ?
 
 -- src/delete.rt:400:9
-put-deleted-returns-2 : (t : ℕ) → put-deleted-lts.Need-returns-2 (
-  read-jentry-reads.Asked,
-  read-jentry-reads.Learnt,
-  payload-len-reads.Asked,
-  payload-len-reads.Learnt,
-  slice-reads.Asked,
-  slice-reads.Learnt,
-  find-step-reads.Asked,
-  find-step-reads.Learnt,
-  put-without-reads.Asked,
-  put-without-reads.Learnt,
-  manner-of-reads.Asked,
-  manner-of-reads.Learnt,
-  put-part-anew-below t,
-  put-part-anew.Post,
-  put-sorted-anew-below t,
-  put-sorted-anew.Post,
-) (put-deleted-at t) put-deleted.Post
+put-deleted-returns-2 : (t : ℕ) → put-deleted-lts.Need-returns-2 (put-deleted-claims t) (put-deleted-at t) put-deleted.Post
 put-deleted-returns-2 t c = ?
 
 -- src/delete.rt:402:11
-put-deleted-manner-of-requires : (t : ℕ) → put-deleted-lts.Need-manner-of-requires (
-  read-jentry-reads.Asked,
-  read-jentry-reads.Learnt,
-  payload-len-reads.Asked,
-  payload-len-reads.Learnt,
-  slice-reads.Asked,
-  slice-reads.Learnt,
-  find-step-reads.Asked,
-  find-step-reads.Learnt,
-  put-without-reads.Asked,
-  put-without-reads.Learnt,
-  manner-of-reads.Asked,
-  manner-of-reads.Learnt,
-  put-part-anew-below t,
-  put-part-anew.Post,
-  put-sorted-anew-below t,
-  put-sorted-anew.Post,
-) (put-deleted-at t) put-deleted.Post
+put-deleted-manner-of-requires : (t : ℕ) → put-deleted-lts.Need-manner-of-requires (put-deleted-claims t) (put-deleted-at t) put-deleted.Post
 put-deleted-manner-of-requires t c κs = ?
 
 -- src/delete.rt:403:23
-put-deleted-enum-known-n : (t : ℕ) → put-deleted-lts.Need-enum-known-n (
-  read-jentry-reads.Asked,
-  read-jentry-reads.Learnt,
-  payload-len-reads.Asked,
-  payload-len-reads.Learnt,
-  slice-reads.Asked,
-  slice-reads.Learnt,
-  find-step-reads.Asked,
-  find-step-reads.Learnt,
-  put-without-reads.Asked,
-  put-without-reads.Learnt,
-  manner-of-reads.Asked,
-  manner-of-reads.Learnt,
-  put-part-anew-below t,
-  put-part-anew.Post,
-  put-sorted-anew-below t,
-  put-sorted-anew.Post,
-) (put-deleted-at t) put-deleted.Post
+put-deleted-enum-known-n : (t : ℕ) → put-deleted-lts.Need-enum-known-n (put-deleted-claims t) (put-deleted-at t) put-deleted.Post
 put-deleted-enum-known-n t c = ?
 
 -- src/delete.rt:403:29
-put-deleted-put-part-anew-requires : (t : ℕ) → put-deleted-lts.Need-put-part-anew-requires (
-  read-jentry-reads.Asked,
-  read-jentry-reads.Learnt,
-  payload-len-reads.Asked,
-  payload-len-reads.Learnt,
-  slice-reads.Asked,
-  slice-reads.Learnt,
-  find-step-reads.Asked,
-  find-step-reads.Learnt,
-  put-without-reads.Asked,
-  put-without-reads.Learnt,
-  manner-of-reads.Asked,
-  manner-of-reads.Learnt,
-  put-part-anew-below t,
-  put-part-anew.Post,
-  put-sorted-anew-below t,
-  put-sorted-anew.Post,
-) (put-deleted-at t) put-deleted.Post
+put-deleted-put-part-anew-requires : (t : ℕ) → put-deleted-lts.Need-put-part-anew-requires (put-deleted-claims t) (put-deleted-at t) put-deleted.Post
 put-deleted-put-part-anew-requires t c κs = ?
 
 -- src/delete.rt:404:24
-put-deleted-enum-known-n-2 : (t : ℕ) → put-deleted-lts.Need-enum-known-n-2 (
-  read-jentry-reads.Asked,
-  read-jentry-reads.Learnt,
-  payload-len-reads.Asked,
-  payload-len-reads.Learnt,
-  slice-reads.Asked,
-  slice-reads.Learnt,
-  find-step-reads.Asked,
-  find-step-reads.Learnt,
-  put-without-reads.Asked,
-  put-without-reads.Learnt,
-  manner-of-reads.Asked,
-  manner-of-reads.Learnt,
-  put-part-anew-below t,
-  put-part-anew.Post,
-  put-sorted-anew-below t,
-  put-sorted-anew.Post,
-) (put-deleted-at t) put-deleted.Post
+put-deleted-enum-known-n-2 : (t : ℕ) → put-deleted-lts.Need-enum-known-n-2 (put-deleted-claims t) (put-deleted-at t) put-deleted.Post
 put-deleted-enum-known-n-2 t c = ?
 
 -- src/delete.rt:404:47
-put-deleted-add-put-part-anew : (t : ℕ) → put-deleted-lts.Need-add-put-part-anew (
-  read-jentry-reads.Asked,
-  read-jentry-reads.Learnt,
-  payload-len-reads.Asked,
-  payload-len-reads.Learnt,
-  slice-reads.Asked,
-  slice-reads.Learnt,
-  find-step-reads.Asked,
-  find-step-reads.Learnt,
-  put-without-reads.Asked,
-  put-without-reads.Learnt,
-  manner-of-reads.Asked,
-  manner-of-reads.Learnt,
-  put-part-anew-below t,
-  put-part-anew.Post,
-  put-sorted-anew-below t,
-  put-sorted-anew.Post,
-) (put-deleted-at t) put-deleted.Post
+put-deleted-add-put-part-anew : (t : ℕ) → put-deleted-lts.Need-add-put-part-anew (put-deleted-claims t) (put-deleted-at t) put-deleted.Post
 put-deleted-add-put-part-anew t c = ?
 
 -- src/delete.rt:404:30
-put-deleted-put-part-anew-requires-2 : (t : ℕ) → put-deleted-lts.Need-put-part-anew-requires-2 (
-  read-jentry-reads.Asked,
-  read-jentry-reads.Learnt,
-  payload-len-reads.Asked,
-  payload-len-reads.Learnt,
-  slice-reads.Asked,
-  slice-reads.Learnt,
-  find-step-reads.Asked,
-  find-step-reads.Learnt,
-  put-without-reads.Asked,
-  put-without-reads.Learnt,
-  manner-of-reads.Asked,
-  manner-of-reads.Learnt,
-  put-part-anew-below t,
-  put-part-anew.Post,
-  put-sorted-anew-below t,
-  put-sorted-anew.Post,
-) (put-deleted-at t) put-deleted.Post
+put-deleted-put-part-anew-requires-2 : (t : ℕ) → put-deleted-lts.Need-put-part-anew-requires-2 (put-deleted-claims t) (put-deleted-at t) put-deleted.Post
 put-deleted-put-part-anew-requires-2 t c κs = ?
 
 -- src/delete.rt:405:26
-put-deleted-enum-known-n-3 : (t : ℕ) → put-deleted-lts.Need-enum-known-n-3 (
-  read-jentry-reads.Asked,
-  read-jentry-reads.Learnt,
-  payload-len-reads.Asked,
-  payload-len-reads.Learnt,
-  slice-reads.Asked,
-  slice-reads.Learnt,
-  find-step-reads.Asked,
-  find-step-reads.Learnt,
-  put-without-reads.Asked,
-  put-without-reads.Learnt,
-  manner-of-reads.Asked,
-  manner-of-reads.Learnt,
-  put-part-anew-below t,
-  put-part-anew.Post,
-  put-sorted-anew-below t,
-  put-sorted-anew.Post,
-) (put-deleted-at t) put-deleted.Post
+put-deleted-enum-known-n-3 : (t : ℕ) → put-deleted-lts.Need-enum-known-n-3 (put-deleted-claims t) (put-deleted-at t) put-deleted.Post
 put-deleted-enum-known-n-3 t c = ?
 
 -- src/delete.rt:405:32
-put-deleted-put-sorted-anew-requires : (t : ℕ) → put-deleted-lts.Need-put-sorted-anew-requires (
-  read-jentry-reads.Asked,
-  read-jentry-reads.Learnt,
-  payload-len-reads.Asked,
-  payload-len-reads.Learnt,
-  slice-reads.Asked,
-  slice-reads.Learnt,
-  find-step-reads.Asked,
-  find-step-reads.Learnt,
-  put-without-reads.Asked,
-  put-without-reads.Learnt,
-  manner-of-reads.Asked,
-  manner-of-reads.Learnt,
-  put-part-anew-below t,
-  put-part-anew.Post,
-  put-sorted-anew-below t,
-  put-sorted-anew.Post,
-) (put-deleted-at t) put-deleted.Post
+put-deleted-put-sorted-anew-requires : (t : ℕ) → put-deleted-lts.Need-put-sorted-anew-requires (put-deleted-claims t) (put-deleted-at t) put-deleted.Post
 put-deleted-put-sorted-anew-requires t c κs = ?
 
 -- src/delete.rt:406:28
-put-deleted-enum-told-2 : (t : ℕ) → put-deleted-lts.Need-enum-told-2 (
-  read-jentry-reads.Asked,
-  read-jentry-reads.Learnt,
-  payload-len-reads.Asked,
-  payload-len-reads.Learnt,
-  slice-reads.Asked,
-  slice-reads.Learnt,
-  find-step-reads.Asked,
-  find-step-reads.Learnt,
-  put-without-reads.Asked,
-  put-without-reads.Learnt,
-  manner-of-reads.Asked,
-  manner-of-reads.Learnt,
-  put-part-anew-below t,
-  put-part-anew.Post,
-  put-sorted-anew-below t,
-  put-sorted-anew.Post,
-) (put-deleted-at t) put-deleted.Post
+put-deleted-enum-told-2 : (t : ℕ) → put-deleted-lts.Need-enum-told-2 (put-deleted-claims t) (put-deleted-at t) put-deleted.Post
 put-deleted-enum-told-2 t c = ?
 
 -- src/delete.rt:390:1
-put-deleted-same-length-2 : (t : ℕ) → put-deleted-lts.Need-same-length-2 (
-  read-jentry-reads.Asked,
-  read-jentry-reads.Learnt,
-  payload-len-reads.Asked,
-  payload-len-reads.Learnt,
-  slice-reads.Asked,
-  slice-reads.Learnt,
-  find-step-reads.Asked,
-  find-step-reads.Learnt,
-  put-without-reads.Asked,
-  put-without-reads.Learnt,
-  manner-of-reads.Asked,
-  manner-of-reads.Learnt,
-  put-part-anew-below t,
-  put-part-anew.Post,
-  put-sorted-anew-below t,
-  put-sorted-anew.Post,
-) (put-deleted-at t) put-deleted.Post
+put-deleted-same-length-2 : (t : ℕ) → put-deleted-lts.Need-same-length-2 (put-deleted-claims t) (put-deleted-at t) put-deleted.Post
 put-deleted-same-length-2 t c = ?
 
 -- src/delete.rt:390:1
-put-deleted-returns-3 : (t : ℕ) → put-deleted-lts.Need-returns-3 (
-  read-jentry-reads.Asked,
-  read-jentry-reads.Learnt,
-  payload-len-reads.Asked,
-  payload-len-reads.Learnt,
-  slice-reads.Asked,
-  slice-reads.Learnt,
-  find-step-reads.Asked,
-  find-step-reads.Learnt,
-  put-without-reads.Asked,
-  put-without-reads.Learnt,
-  manner-of-reads.Asked,
-  manner-of-reads.Learnt,
-  put-part-anew-below t,
-  put-part-anew.Post,
-  put-sorted-anew-below t,
-  put-sorted-anew.Post,
-) (put-deleted-at t) put-deleted.Post
+put-deleted-returns-3 : (t : ℕ) → put-deleted-lts.Need-returns-3 (put-deleted-claims t) (put-deleted-at t) put-deleted.Post
 put-deleted-returns-3 t c = ?
 
 -- src/delete.rt:390:1
-put-deleted-same-length-3 : (t : ℕ) → put-deleted-lts.Need-same-length-3 (
-  read-jentry-reads.Asked,
-  read-jentry-reads.Learnt,
-  payload-len-reads.Asked,
-  payload-len-reads.Learnt,
-  slice-reads.Asked,
-  slice-reads.Learnt,
-  find-step-reads.Asked,
-  find-step-reads.Learnt,
-  put-without-reads.Asked,
-  put-without-reads.Learnt,
-  manner-of-reads.Asked,
-  manner-of-reads.Learnt,
-  put-part-anew-below t,
-  put-part-anew.Post,
-  put-sorted-anew-below t,
-  put-sorted-anew.Post,
-) (put-deleted-at t) put-deleted.Post
+put-deleted-same-length-3 : (t : ℕ) → put-deleted-lts.Need-same-length-3 (put-deleted-claims t) (put-deleted-at t) put-deleted.Post
 put-deleted-same-length-3 t c = ?
 
 -- src/delete.rt:390:1
-put-deleted-returns-4 : (t : ℕ) → put-deleted-lts.Need-returns-4 (
-  read-jentry-reads.Asked,
-  read-jentry-reads.Learnt,
-  payload-len-reads.Asked,
-  payload-len-reads.Learnt,
-  slice-reads.Asked,
-  slice-reads.Learnt,
-  find-step-reads.Asked,
-  find-step-reads.Learnt,
-  put-without-reads.Asked,
-  put-without-reads.Learnt,
-  manner-of-reads.Asked,
-  manner-of-reads.Learnt,
-  put-part-anew-below t,
-  put-part-anew.Post,
-  put-sorted-anew-below t,
-  put-sorted-anew.Post,
-) (put-deleted-at t) put-deleted.Post
+put-deleted-returns-4 : (t : ℕ) → put-deleted-lts.Need-returns-4 (put-deleted-claims t) (put-deleted-at t) put-deleted.Post
 put-deleted-returns-4 t c = ?
 
 -- src/delete.rt:390:1
-put-deleted-same-length-4 : (t : ℕ) → put-deleted-lts.Need-same-length-4 (
-  read-jentry-reads.Asked,
-  read-jentry-reads.Learnt,
-  payload-len-reads.Asked,
-  payload-len-reads.Learnt,
-  slice-reads.Asked,
-  slice-reads.Learnt,
-  find-step-reads.Asked,
-  find-step-reads.Learnt,
-  put-without-reads.Asked,
-  put-without-reads.Learnt,
-  manner-of-reads.Asked,
-  manner-of-reads.Learnt,
-  put-part-anew-below t,
-  put-part-anew.Post,
-  put-sorted-anew-below t,
-  put-sorted-anew.Post,
-) (put-deleted-at t) put-deleted.Post
+put-deleted-same-length-4 : (t : ℕ) → put-deleted-lts.Need-same-length-4 (put-deleted-claims t) (put-deleted-at t) put-deleted.Post
 put-deleted-same-length-4 t c = ?
 
 -- src/delete.rt:390:1
-put-deleted-returns-5 : (t : ℕ) → put-deleted-lts.Need-returns-5 (
-  read-jentry-reads.Asked,
-  read-jentry-reads.Learnt,
-  payload-len-reads.Asked,
-  payload-len-reads.Learnt,
-  slice-reads.Asked,
-  slice-reads.Learnt,
-  find-step-reads.Asked,
-  find-step-reads.Learnt,
-  put-without-reads.Asked,
-  put-without-reads.Learnt,
-  manner-of-reads.Asked,
-  manner-of-reads.Learnt,
-  put-part-anew-below t,
-  put-part-anew.Post,
-  put-sorted-anew-below t,
-  put-sorted-anew.Post,
-) (put-deleted-at t) put-deleted.Post
+put-deleted-returns-5 : (t : ℕ) → put-deleted-lts.Need-returns-5 (put-deleted-claims t) (put-deleted-at t) put-deleted.Post
 put-deleted-returns-5 t c = ?
 
 -- src/delete.rt:390:1
-put-deleted-returns-6 : (t : ℕ) → put-deleted-lts.Need-returns-6 (
-  read-jentry-reads.Asked,
-  read-jentry-reads.Learnt,
-  payload-len-reads.Asked,
-  payload-len-reads.Learnt,
-  slice-reads.Asked,
-  slice-reads.Learnt,
-  find-step-reads.Asked,
-  find-step-reads.Learnt,
-  put-without-reads.Asked,
-  put-without-reads.Learnt,
-  manner-of-reads.Asked,
-  manner-of-reads.Learnt,
-  put-part-anew-below t,
-  put-part-anew.Post,
-  put-sorted-anew-below t,
-  put-sorted-anew.Post,
-) (put-deleted-at t) put-deleted.Post
+put-deleted-returns-6 : (t : ℕ) → put-deleted-lts.Need-returns-6 (put-deleted-claims t) (put-deleted-at t) put-deleted.Post
 put-deleted-returns-6 t c = ?
 
 -- src/delete.rt:348:9
-put-member-anew-payload-at-requires : (t : ℕ) → put-member-anew-lts.Need-payload-at-requires (
-  payload-at-reads.Asked,
-  payload-at-reads.Learnt,
-  is-same-reads.Asked,
-  is-same-reads.Learnt,
-  put-u32-reads.Asked,
-  put-u32-reads.Learnt,
-  copy-reads.Asked,
-  copy-reads.Learnt,
-  put-deleted-below t,
-  put-deleted.Post,
-  encoded-reads.Asked,
-  encoded-reads.Learnt,
-  put-member-reads.Asked,
-  put-member-reads.Learnt,
-) (put-member-anew-at t) put-member-anew.Post
+put-member-anew-payload-at-requires : (t : ℕ) → put-member-anew-lts.Need-payload-at-requires (put-member-anew-claims t) (put-member-anew-at t) put-member-anew.Post
 put-member-anew-payload-at-requires t c κs = ?
 
 -- src/delete.rt:349:8
-put-member-anew-is-same-requires : (t : ℕ) → put-member-anew-lts.Need-is-same-requires (
-  payload-at-reads.Asked,
-  payload-at-reads.Learnt,
-  is-same-reads.Asked,
-  is-same-reads.Learnt,
-  put-u32-reads.Asked,
-  put-u32-reads.Learnt,
-  copy-reads.Asked,
-  copy-reads.Learnt,
-  put-deleted-below t,
-  put-deleted.Post,
-  encoded-reads.Asked,
-  encoded-reads.Learnt,
-  put-member-reads.Asked,
-  put-member-reads.Learnt,
-) (put-member-anew-at t) put-member-anew.Post
+put-member-anew-is-same-requires : (t : ℕ) → put-member-anew-lts.Need-is-same-requires (put-member-anew-claims t) (put-member-anew-at t) put-member-anew.Post
 put-member-anew-is-same-requires t c κs = ?
 
 -- src/delete.rt:350:9
-put-member-anew-put-u32-requires : (t : ℕ) → put-member-anew-lts.Need-put-u32-requires (
-  payload-at-reads.Asked,
-  payload-at-reads.Learnt,
-  is-same-reads.Asked,
-  is-same-reads.Learnt,
-  put-u32-reads.Asked,
-  put-u32-reads.Learnt,
-  copy-reads.Asked,
-  copy-reads.Learnt,
-  put-deleted-below t,
-  put-deleted.Post,
-  encoded-reads.Asked,
-  encoded-reads.Learnt,
-  put-member-reads.Asked,
-  put-member-reads.Learnt,
-) (put-member-anew-at t) put-member-anew.Post
+put-member-anew-put-u32-requires : (t : ℕ) → put-member-anew-lts.Need-put-u32-requires (put-member-anew-claims t) (put-member-anew-at t) put-member-anew.Post
 put-member-anew-put-u32-requires t c κs = ?
 
 -- src/delete.rt:351:9
-put-member-anew-copy-requires : (t : ℕ) → put-member-anew-lts.Need-copy-requires (
-  payload-at-reads.Asked,
-  payload-at-reads.Learnt,
-  is-same-reads.Asked,
-  is-same-reads.Learnt,
-  put-u32-reads.Asked,
-  put-u32-reads.Learnt,
-  copy-reads.Asked,
-  copy-reads.Learnt,
-  put-deleted-below t,
-  put-deleted.Post,
-  encoded-reads.Asked,
-  encoded-reads.Learnt,
-  put-member-reads.Asked,
-  put-member-reads.Learnt,
-) (put-member-anew-at t) put-member-anew.Post
+put-member-anew-copy-requires : (t : ℕ) → put-member-anew-lts.Need-copy-requires (put-member-anew-claims t) (put-member-anew-at t) put-member-anew.Post
 put-member-anew-copy-requires t c κs = ?
 
 -- src/delete.rt:352:31
-put-member-anew-payload-at-requires-2 : (t : ℕ) → put-member-anew-lts.Need-payload-at-requires-2 (
-  payload-at-reads.Asked,
-  payload-at-reads.Learnt,
-  is-same-reads.Asked,
-  is-same-reads.Learnt,
-  put-u32-reads.Asked,
-  put-u32-reads.Learnt,
-  copy-reads.Asked,
-  copy-reads.Learnt,
-  put-deleted-below t,
-  put-deleted.Post,
-  encoded-reads.Asked,
-  encoded-reads.Learnt,
-  put-member-reads.Asked,
-  put-member-reads.Learnt,
-) (put-member-anew-at t) put-member-anew.Post
+put-member-anew-payload-at-requires-2 : (t : ℕ) → put-member-anew-lts.Need-payload-at-requires-2 (put-member-anew-claims t) (put-member-anew-at t) put-member-anew.Post
 put-member-anew-payload-at-requires-2 t c κs = ?
 
 -- src/delete.rt:352:13
-put-member-anew-put-deleted-requires : (t : ℕ) → put-member-anew-lts.Need-put-deleted-requires (
-  payload-at-reads.Asked,
-  payload-at-reads.Learnt,
-  is-same-reads.Asked,
-  is-same-reads.Learnt,
-  put-u32-reads.Asked,
-  put-u32-reads.Learnt,
-  copy-reads.Asked,
-  copy-reads.Learnt,
-  put-deleted-below t,
-  put-deleted.Post,
-  encoded-reads.Asked,
-  encoded-reads.Learnt,
-  put-member-reads.Asked,
-  put-member-reads.Learnt,
-) (put-member-anew-at t) put-member-anew.Post
+put-member-anew-put-deleted-requires : (t : ℕ) → put-member-anew-lts.Need-put-deleted-requires (put-member-anew-claims t) (put-member-anew-at t) put-member-anew.Post
 put-member-anew-put-deleted-requires t c κs = ?
 
 -- src/delete.rt:353:61
-put-member-anew-cast-encoded : (t : ℕ) → put-member-anew-lts.Need-cast-encoded (
-  payload-at-reads.Asked,
-  payload-at-reads.Learnt,
-  is-same-reads.Asked,
-  is-same-reads.Learnt,
-  put-u32-reads.Asked,
-  put-u32-reads.Learnt,
-  copy-reads.Asked,
-  copy-reads.Learnt,
-  put-deleted-below t,
-  put-deleted.Post,
-  encoded-reads.Asked,
-  encoded-reads.Learnt,
-  put-member-reads.Asked,
-  put-member-reads.Learnt,
-) (put-member-anew-at t) put-member-anew.Post
+put-member-anew-cast-encoded : (t : ℕ) → put-member-anew-lts.Need-cast-encoded (put-member-anew-claims t) (put-member-anew-at t) put-member-anew.Post
 put-member-anew-cast-encoded t c = ?
 
 -- src/delete.rt:353:37
-put-member-anew-encoded-requires : (t : ℕ) → put-member-anew-lts.Need-encoded-requires (
-  payload-at-reads.Asked,
-  payload-at-reads.Learnt,
-  is-same-reads.Asked,
-  is-same-reads.Learnt,
-  put-u32-reads.Asked,
-  put-u32-reads.Learnt,
-  copy-reads.Asked,
-  copy-reads.Learnt,
-  put-deleted-below t,
-  put-deleted.Post,
-  encoded-reads.Asked,
-  encoded-reads.Learnt,
-  put-member-reads.Asked,
-  put-member-reads.Learnt,
-) (put-member-anew-at t) put-member-anew.Post
+put-member-anew-encoded-requires : (t : ℕ) → put-member-anew-lts.Need-encoded-requires (put-member-anew-claims t) (put-member-anew-at t) put-member-anew.Post
 put-member-anew-encoded-requires t c κs = ?
 
 -- src/delete.rt:353:9
-put-member-anew-put-u32-requires-2 : (t : ℕ) → put-member-anew-lts.Need-put-u32-requires-2 (
-  payload-at-reads.Asked,
-  payload-at-reads.Learnt,
-  is-same-reads.Asked,
-  is-same-reads.Learnt,
-  put-u32-reads.Asked,
-  put-u32-reads.Learnt,
-  copy-reads.Asked,
-  copy-reads.Learnt,
-  put-deleted-below t,
-  put-deleted.Post,
-  encoded-reads.Asked,
-  encoded-reads.Learnt,
-  put-member-reads.Asked,
-  put-member-reads.Learnt,
-) (put-member-anew-at t) put-member-anew.Post
+put-member-anew-put-u32-requires-2 : (t : ℕ) → put-member-anew-lts.Need-put-u32-requires-2 (put-member-anew-claims t) (put-member-anew-at t) put-member-anew.Post
 put-member-anew-put-u32-requires-2 t c κs = ?
 
 -- src/delete.rt:355:25
-put-member-anew-add-t24 : (t : ℕ) → put-member-anew-lts.Need-add-t24 (
-  payload-at-reads.Asked,
-  payload-at-reads.Learnt,
-  is-same-reads.Asked,
-  is-same-reads.Learnt,
-  put-u32-reads.Asked,
-  put-u32-reads.Learnt,
-  copy-reads.Asked,
-  copy-reads.Learnt,
-  put-deleted-below t,
-  put-deleted.Post,
-  encoded-reads.Asked,
-  encoded-reads.Learnt,
-  put-member-reads.Asked,
-  put-member-reads.Learnt,
-) (put-member-anew-at t) put-member-anew.Post
+put-member-anew-add-t24 : (t : ℕ) → put-member-anew-lts.Need-add-t24 (put-member-anew-claims t) (put-member-anew-at t) put-member-anew.Post
 put-member-anew-add-t24 t c = ?
 
 -- src/delete.rt:356:25
-put-member-anew-add-t25 : (t : ℕ) → put-member-anew-lts.Need-add-t25 (
-  payload-at-reads.Asked,
-  payload-at-reads.Learnt,
-  is-same-reads.Asked,
-  is-same-reads.Learnt,
-  put-u32-reads.Asked,
-  put-u32-reads.Learnt,
-  copy-reads.Asked,
-  copy-reads.Learnt,
-  put-deleted-below t,
-  put-deleted.Post,
-  encoded-reads.Asked,
-  encoded-reads.Learnt,
-  put-member-reads.Asked,
-  put-member-reads.Learnt,
-) (put-member-anew-at t) put-member-anew.Post
+put-member-anew-add-t25 : (t : ℕ) → put-member-anew-lts.Need-add-t25 (put-member-anew-claims t) (put-member-anew-at t) put-member-anew.Post
 put-member-anew-add-t25 t c = ?
 
 -- src/delete.rt:357:18
-put-member-anew-add-t27 : (t : ℕ) → put-member-anew-lts.Need-add-t27 (
-  payload-at-reads.Asked,
-  payload-at-reads.Learnt,
-  is-same-reads.Asked,
-  is-same-reads.Learnt,
-  put-u32-reads.Asked,
-  put-u32-reads.Learnt,
-  copy-reads.Asked,
-  copy-reads.Learnt,
-  put-deleted-below t,
-  put-deleted.Post,
-  encoded-reads.Asked,
-  encoded-reads.Learnt,
-  put-member-reads.Asked,
-  put-member-reads.Learnt,
-) (put-member-anew-at t) put-member-anew.Post
+put-member-anew-add-t27 : (t : ℕ) → put-member-anew-lts.Need-add-t27 (put-member-anew-claims t) (put-member-anew-at t) put-member-anew.Post
 put-member-anew-add-t27 t c = ?
 
 -- src/delete.rt:358:18
-put-member-anew-add-t28 : (t : ℕ) → put-member-anew-lts.Need-add-t28 (
-  payload-at-reads.Asked,
-  payload-at-reads.Learnt,
-  is-same-reads.Asked,
-  is-same-reads.Learnt,
-  put-u32-reads.Asked,
-  put-u32-reads.Learnt,
-  copy-reads.Asked,
-  copy-reads.Learnt,
-  put-deleted-below t,
-  put-deleted.Post,
-  encoded-reads.Asked,
-  encoded-reads.Learnt,
-  put-member-reads.Asked,
-  put-member-reads.Learnt,
-) (put-member-anew-at t) put-member-anew.Post
+put-member-anew-add-t28 : (t : ℕ) → put-member-anew-lts.Need-add-t28 (put-member-anew-claims t) (put-member-anew-at t) put-member-anew.Post
 put-member-anew-add-t28 t c = ?
 
 -- src/delete.rt:354:9
-put-member-anew-same-length : (t : ℕ) → put-member-anew-lts.Need-same-length (
-  payload-at-reads.Asked,
-  payload-at-reads.Learnt,
-  is-same-reads.Asked,
-  is-same-reads.Learnt,
-  put-u32-reads.Asked,
-  put-u32-reads.Learnt,
-  copy-reads.Asked,
-  copy-reads.Learnt,
-  put-deleted-below t,
-  put-deleted.Post,
-  encoded-reads.Asked,
-  encoded-reads.Learnt,
-  put-member-reads.Asked,
-  put-member-reads.Learnt,
-) (put-member-anew-at t) put-member-anew.Post
+put-member-anew-same-length : (t : ℕ) → put-member-anew-lts.Need-same-length (put-member-anew-claims t) (put-member-anew-at t) put-member-anew.Post
 put-member-anew-same-length t c = ?
 
 -- src/delete.rt:354:9
-put-member-anew-returns : (t : ℕ) → put-member-anew-lts.Need-returns (
-  payload-at-reads.Asked,
-  payload-at-reads.Learnt,
-  is-same-reads.Asked,
-  is-same-reads.Learnt,
-  put-u32-reads.Asked,
-  put-u32-reads.Learnt,
-  copy-reads.Asked,
-  copy-reads.Learnt,
-  put-deleted-below t,
-  put-deleted.Post,
-  encoded-reads.Asked,
-  encoded-reads.Learnt,
-  put-member-reads.Asked,
-  put-member-reads.Learnt,
-) (put-member-anew-at t) put-member-anew.Post
+put-member-anew-returns : (t : ℕ) → put-member-anew-lts.Need-returns (put-member-anew-claims t) (put-member-anew-at t) put-member-anew.Post
 put-member-anew-returns t c = ?
 
 -- src/delete.rt:361:5
-put-member-anew-put-member-requires : (t : ℕ) → put-member-anew-lts.Need-put-member-requires (
-  payload-at-reads.Asked,
-  payload-at-reads.Learnt,
-  is-same-reads.Asked,
-  is-same-reads.Learnt,
-  put-u32-reads.Asked,
-  put-u32-reads.Learnt,
-  copy-reads.Asked,
-  copy-reads.Learnt,
-  put-deleted-below t,
-  put-deleted.Post,
-  encoded-reads.Asked,
-  encoded-reads.Learnt,
-  put-member-reads.Asked,
-  put-member-reads.Learnt,
-) (put-member-anew-at t) put-member-anew.Post
+put-member-anew-put-member-requires : (t : ℕ) → put-member-anew-lts.Need-put-member-requires (put-member-anew-claims t) (put-member-anew-at t) put-member-anew.Post
 put-member-anew-put-member-requires t c κs = ?
 
 -- src/delete.rt:327:1
-put-member-anew-same-length-2 : (t : ℕ) → put-member-anew-lts.Need-same-length-2 (
-  payload-at-reads.Asked,
-  payload-at-reads.Learnt,
-  is-same-reads.Asked,
-  is-same-reads.Learnt,
-  put-u32-reads.Asked,
-  put-u32-reads.Learnt,
-  copy-reads.Asked,
-  copy-reads.Learnt,
-  put-deleted-below t,
-  put-deleted.Post,
-  encoded-reads.Asked,
-  encoded-reads.Learnt,
-  put-member-reads.Asked,
-  put-member-reads.Learnt,
-) (put-member-anew-at t) put-member-anew.Post
+put-member-anew-same-length-2 : (t : ℕ) → put-member-anew-lts.Need-same-length-2 (put-member-anew-claims t) (put-member-anew-at t) put-member-anew.Post
 put-member-anew-same-length-2 t c = ?
 
 -- src/delete.rt:327:1
-put-member-anew-returns-2 : (t : ℕ) → put-member-anew-lts.Need-returns-2 (
-  payload-at-reads.Asked,
-  payload-at-reads.Learnt,
-  is-same-reads.Asked,
-  is-same-reads.Learnt,
-  put-u32-reads.Asked,
-  put-u32-reads.Learnt,
-  copy-reads.Asked,
-  copy-reads.Learnt,
-  put-deleted-below t,
-  put-deleted.Post,
-  encoded-reads.Asked,
-  encoded-reads.Learnt,
-  put-member-reads.Asked,
-  put-member-reads.Learnt,
-) (put-member-anew-at t) put-member-anew.Post
+put-member-anew-returns-2 : (t : ℕ) → put-member-anew-lts.Need-returns-2 (put-member-anew-claims t) (put-member-anew-at t) put-member-anew.Post
 put-member-anew-returns-2 t c = ?
 
 -- src/delete.rt:294:30
-put-part-anew-mul-put-deleted : (t : ℕ) → put-part-anew-lts.Need-mul-put-deleted (
-  part-behind-reads.Asked,
-  part-behind-reads.Learnt,
-  read-u32-reads.Asked,
-  read-u32-reads.Learnt,
-  put-u32-reads.Asked,
-  put-u32-reads.Learnt,
-  put-run-reads.Asked,
-  put-run-reads.Learnt,
-  way-behind-reads.Asked,
-  way-behind-reads.Learnt,
-  put-deleted-below t,
-  put-deleted.Post,
-  encoded-reads.Asked,
-  encoded-reads.Learnt,
-) (put-part-anew-at t) put-part-anew.Post
+put-part-anew-mul-put-deleted : (t : ℕ) → put-part-anew-lts.Need-mul-put-deleted (put-part-anew-claims t) (put-part-anew-at t) put-part-anew.Post
 put-part-anew-mul-put-deleted t c = ?
 
 -- src/delete.rt:294:16
-put-part-anew-add-put-deleted : (t : ℕ) → put-part-anew-lts.Need-add-put-deleted (
-  part-behind-reads.Asked,
-  part-behind-reads.Learnt,
-  read-u32-reads.Asked,
-  read-u32-reads.Learnt,
-  put-u32-reads.Asked,
-  put-u32-reads.Learnt,
-  put-run-reads.Asked,
-  put-run-reads.Learnt,
-  way-behind-reads.Asked,
-  way-behind-reads.Learnt,
-  put-deleted-below t,
-  put-deleted.Post,
-  encoded-reads.Asked,
-  encoded-reads.Learnt,
-) (put-part-anew-at t) put-part-anew.Post
+put-part-anew-add-put-deleted : (t : ℕ) → put-part-anew-lts.Need-add-put-deleted (put-part-anew-claims t) (put-part-anew-at t) put-part-anew.Post
 put-part-anew-add-put-deleted t c = ?
 
 -- src/delete.rt:300:9
-put-part-anew-part-behind-requires : (t : ℕ) → put-part-anew-lts.Need-part-behind-requires (
-  part-behind-reads.Asked,
-  part-behind-reads.Learnt,
-  read-u32-reads.Asked,
-  read-u32-reads.Learnt,
-  put-u32-reads.Asked,
-  put-u32-reads.Learnt,
-  put-run-reads.Asked,
-  put-run-reads.Learnt,
-  way-behind-reads.Asked,
-  way-behind-reads.Learnt,
-  put-deleted-below t,
-  put-deleted.Post,
-  encoded-reads.Asked,
-  encoded-reads.Learnt,
-) (put-part-anew-at t) put-part-anew.Post
+put-part-anew-part-behind-requires : (t : ℕ) → put-part-anew-lts.Need-part-behind-requires (put-part-anew-claims t) (put-part-anew-at t) put-part-anew.Post
 put-part-anew-part-behind-requires t c κs = ?
 
 -- src/delete.rt:302:17
-put-part-anew-add-put-deleted-2 : (t : ℕ) → put-part-anew-lts.Need-add-put-deleted-2 (
-  part-behind-reads.Asked,
-  part-behind-reads.Learnt,
-  read-u32-reads.Asked,
-  read-u32-reads.Learnt,
-  put-u32-reads.Asked,
-  put-u32-reads.Learnt,
-  put-run-reads.Asked,
-  put-run-reads.Learnt,
-  way-behind-reads.Asked,
-  way-behind-reads.Learnt,
-  put-deleted-below t,
-  put-deleted.Post,
-  encoded-reads.Asked,
-  encoded-reads.Learnt,
-) (put-part-anew-at t) put-part-anew.Post
+put-part-anew-add-put-deleted-2 : (t : ℕ) → put-part-anew-lts.Need-add-put-deleted-2 (put-part-anew-claims t) (put-part-anew-at t) put-part-anew.Post
 put-part-anew-add-put-deleted-2 t c = ?
 
 -- src/delete.rt:303:16
-put-part-anew-add-t19 : (t : ℕ) → put-part-anew-lts.Need-add-t19 (
-  part-behind-reads.Asked,
-  part-behind-reads.Learnt,
-  read-u32-reads.Asked,
-  read-u32-reads.Learnt,
-  put-u32-reads.Asked,
-  put-u32-reads.Learnt,
-  put-run-reads.Asked,
-  put-run-reads.Learnt,
-  way-behind-reads.Asked,
-  way-behind-reads.Learnt,
-  put-deleted-below t,
-  put-deleted.Post,
-  encoded-reads.Asked,
-  encoded-reads.Learnt,
-) (put-part-anew-at t) put-part-anew.Post
+put-part-anew-add-t19 : (t : ℕ) → put-part-anew-lts.Need-add-t19 (put-part-anew-claims t) (put-part-anew-at t) put-part-anew.Post
 put-part-anew-add-t19 t c = ?
 
 -- src/delete.rt:305:22
-put-part-anew-read-u32-requires : (t : ℕ) → put-part-anew-lts.Need-read-u32-requires (
-  part-behind-reads.Asked,
-  part-behind-reads.Learnt,
-  read-u32-reads.Asked,
-  read-u32-reads.Learnt,
-  put-u32-reads.Asked,
-  put-u32-reads.Learnt,
-  put-run-reads.Asked,
-  put-run-reads.Learnt,
-  way-behind-reads.Asked,
-  way-behind-reads.Learnt,
-  put-deleted-below t,
-  put-deleted.Post,
-  encoded-reads.Asked,
-  encoded-reads.Learnt,
-) (put-part-anew-at t) put-part-anew.Post
+put-part-anew-read-u32-requires : (t : ℕ) → put-part-anew-lts.Need-read-u32-requires (put-part-anew-claims t) (put-part-anew-at t) put-part-anew.Post
 put-part-anew-read-u32-requires t c κs = ?
 
 -- src/delete.rt:305:5
-put-part-anew-put-u32-requires : (t : ℕ) → put-part-anew-lts.Need-put-u32-requires (
-  part-behind-reads.Asked,
-  part-behind-reads.Learnt,
-  read-u32-reads.Asked,
-  read-u32-reads.Learnt,
-  put-u32-reads.Asked,
-  put-u32-reads.Learnt,
-  put-run-reads.Asked,
-  put-run-reads.Learnt,
-  way-behind-reads.Asked,
-  way-behind-reads.Learnt,
-  put-deleted-below t,
-  put-deleted.Post,
-  encoded-reads.Asked,
-  encoded-reads.Learnt,
-) (put-part-anew-at t) put-part-anew.Post
+put-part-anew-put-u32-requires : (t : ℕ) → put-part-anew-lts.Need-put-u32-requires (put-part-anew-claims t) (put-part-anew-at t) put-part-anew.Post
 put-part-anew-put-u32-requires t c κs = ?
 
 -- src/delete.rt:306:9
-put-part-anew-put-run-requires : (t : ℕ) → put-part-anew-lts.Need-put-run-requires (
-  part-behind-reads.Asked,
-  part-behind-reads.Learnt,
-  read-u32-reads.Asked,
-  read-u32-reads.Learnt,
-  put-u32-reads.Asked,
-  put-u32-reads.Learnt,
-  put-run-reads.Asked,
-  put-run-reads.Learnt,
-  way-behind-reads.Asked,
-  way-behind-reads.Learnt,
-  put-deleted-below t,
-  put-deleted.Post,
-  encoded-reads.Asked,
-  encoded-reads.Learnt,
-) (put-part-anew-at t) put-part-anew.Post
+put-part-anew-put-run-requires : (t : ℕ) → put-part-anew-lts.Need-put-run-requires (put-part-anew-claims t) (put-part-anew-at t) put-part-anew.Post
 put-part-anew-put-run-requires t c κs = ?
 
 -- src/delete.rt:310:9
-put-part-anew-sub-put-deleted : (t : ℕ) → put-part-anew-lts.Need-sub-put-deleted (
-  part-behind-reads.Asked,
-  part-behind-reads.Learnt,
-  read-u32-reads.Asked,
-  read-u32-reads.Learnt,
-  put-u32-reads.Asked,
-  put-u32-reads.Learnt,
-  put-run-reads.Asked,
-  put-run-reads.Learnt,
-  way-behind-reads.Asked,
-  way-behind-reads.Learnt,
-  put-deleted-below t,
-  put-deleted.Post,
-  encoded-reads.Asked,
-  encoded-reads.Learnt,
-) (put-part-anew-at t) put-part-anew.Post
+put-part-anew-sub-put-deleted : (t : ℕ) → put-part-anew-lts.Need-sub-put-deleted (put-part-anew-claims t) (put-part-anew-at t) put-part-anew.Post
 put-part-anew-sub-put-deleted t c = ?
 
 -- src/delete.rt:310:9
-put-part-anew-part-put-deleted-start : (t : ℕ) → put-part-anew-lts.Need-part-put-deleted-start (
-  part-behind-reads.Asked,
-  part-behind-reads.Learnt,
-  read-u32-reads.Asked,
-  read-u32-reads.Learnt,
-  put-u32-reads.Asked,
-  put-u32-reads.Learnt,
-  put-run-reads.Asked,
-  put-run-reads.Learnt,
-  way-behind-reads.Asked,
-  way-behind-reads.Learnt,
-  put-deleted-below t,
-  put-deleted.Post,
-  encoded-reads.Asked,
-  encoded-reads.Learnt,
-) (put-part-anew-at t) put-part-anew.Post
+put-part-anew-part-put-deleted-start : (t : ℕ) → put-part-anew-lts.Need-part-put-deleted-start (put-part-anew-claims t) (put-part-anew-at t) put-part-anew.Post
 put-part-anew-part-put-deleted-start t c = ?
 
 -- src/delete.rt:310:9
-put-part-anew-part-put-deleted-end : (t : ℕ) → put-part-anew-lts.Need-part-put-deleted-end (
-  part-behind-reads.Asked,
-  part-behind-reads.Learnt,
-  read-u32-reads.Asked,
-  read-u32-reads.Learnt,
-  put-u32-reads.Asked,
-  put-u32-reads.Learnt,
-  put-run-reads.Asked,
-  put-run-reads.Learnt,
-  way-behind-reads.Asked,
-  way-behind-reads.Learnt,
-  put-deleted-below t,
-  put-deleted.Post,
-  encoded-reads.Asked,
-  encoded-reads.Learnt,
-) (put-part-anew-at t) put-part-anew.Post
+put-part-anew-part-put-deleted-end : (t : ℕ) → put-part-anew-lts.Need-part-put-deleted-end (put-part-anew-claims t) (put-part-anew-at t) put-part-anew.Post
 put-part-anew-part-put-deleted-end t c = ?
 
 -- src/delete.rt:312:9
-put-part-anew-way-behind-requires : (t : ℕ) → put-part-anew-lts.Need-way-behind-requires (
-  part-behind-reads.Asked,
-  part-behind-reads.Learnt,
-  read-u32-reads.Asked,
-  read-u32-reads.Learnt,
-  put-u32-reads.Asked,
-  put-u32-reads.Learnt,
-  put-run-reads.Asked,
-  put-run-reads.Learnt,
-  way-behind-reads.Asked,
-  way-behind-reads.Learnt,
-  put-deleted-below t,
-  put-deleted.Post,
-  encoded-reads.Asked,
-  encoded-reads.Learnt,
-) (put-part-anew-at t) put-part-anew.Post
+put-part-anew-way-behind-requires : (t : ℕ) → put-part-anew-lts.Need-way-behind-requires (put-part-anew-claims t) (put-part-anew-at t) put-part-anew.Post
 put-part-anew-way-behind-requires t c κs = ?
 
 -- src/delete.rt:315:9
-put-part-anew-sub-put-deleted-2 : (t : ℕ) → put-part-anew-lts.Need-sub-put-deleted-2 (
-  part-behind-reads.Asked,
-  part-behind-reads.Learnt,
-  read-u32-reads.Asked,
-  read-u32-reads.Learnt,
-  put-u32-reads.Asked,
-  put-u32-reads.Learnt,
-  put-run-reads.Asked,
-  put-run-reads.Learnt,
-  way-behind-reads.Asked,
-  way-behind-reads.Learnt,
-  put-deleted-below t,
-  put-deleted.Post,
-  encoded-reads.Asked,
-  encoded-reads.Learnt,
-) (put-part-anew-at t) put-part-anew.Post
+put-part-anew-sub-put-deleted-2 : (t : ℕ) → put-part-anew-lts.Need-sub-put-deleted-2 (put-part-anew-claims t) (put-part-anew-at t) put-part-anew.Post
 put-part-anew-sub-put-deleted-2 t c = ?
 
 -- src/delete.rt:309:9
-put-part-anew-put-deleted-requires : (t : ℕ) → put-part-anew-lts.Need-put-deleted-requires (
-  part-behind-reads.Asked,
-  part-behind-reads.Learnt,
-  read-u32-reads.Asked,
-  read-u32-reads.Learnt,
-  put-u32-reads.Asked,
-  put-u32-reads.Learnt,
-  put-run-reads.Asked,
-  put-run-reads.Learnt,
-  way-behind-reads.Asked,
-  way-behind-reads.Learnt,
-  put-deleted-below t,
-  put-deleted.Post,
-  encoded-reads.Asked,
-  encoded-reads.Learnt,
-) (put-part-anew-at t) put-part-anew.Post
+put-part-anew-put-deleted-requires : (t : ℕ) → put-part-anew-lts.Need-put-deleted-requires (put-part-anew-claims t) (put-part-anew-at t) put-part-anew.Post
 put-part-anew-put-deleted-requires t c κs = ?
 
 -- src/delete.rt:317:55
-put-part-anew-cast-encoded : (t : ℕ) → put-part-anew-lts.Need-cast-encoded (
-  part-behind-reads.Asked,
-  part-behind-reads.Learnt,
-  read-u32-reads.Asked,
-  read-u32-reads.Learnt,
-  put-u32-reads.Asked,
-  put-u32-reads.Learnt,
-  put-run-reads.Asked,
-  put-run-reads.Learnt,
-  way-behind-reads.Asked,
-  way-behind-reads.Learnt,
-  put-deleted-below t,
-  put-deleted.Post,
-  encoded-reads.Asked,
-  encoded-reads.Learnt,
-) (put-part-anew-at t) put-part-anew.Post
+put-part-anew-cast-encoded : (t : ℕ) → put-part-anew-lts.Need-cast-encoded (put-part-anew-claims t) (put-part-anew-at t) put-part-anew.Post
 put-part-anew-cast-encoded t c = ?
 
 -- src/delete.rt:317:31
-put-part-anew-encoded-requires : (t : ℕ) → put-part-anew-lts.Need-encoded-requires (
-  part-behind-reads.Asked,
-  part-behind-reads.Learnt,
-  read-u32-reads.Asked,
-  read-u32-reads.Learnt,
-  put-u32-reads.Asked,
-  put-u32-reads.Learnt,
-  put-run-reads.Asked,
-  put-run-reads.Learnt,
-  way-behind-reads.Asked,
-  way-behind-reads.Learnt,
-  put-deleted-below t,
-  put-deleted.Post,
-  encoded-reads.Asked,
-  encoded-reads.Learnt,
-) (put-part-anew-at t) put-part-anew.Post
+put-part-anew-encoded-requires : (t : ℕ) → put-part-anew-lts.Need-encoded-requires (put-part-anew-claims t) (put-part-anew-at t) put-part-anew.Post
 put-part-anew-encoded-requires t c κs = ?
 
 -- src/delete.rt:317:5
-put-part-anew-put-u32-requires-2 : (t : ℕ) → put-part-anew-lts.Need-put-u32-requires-2 (
-  part-behind-reads.Asked,
-  part-behind-reads.Learnt,
-  read-u32-reads.Asked,
-  read-u32-reads.Learnt,
-  put-u32-reads.Asked,
-  put-u32-reads.Learnt,
-  put-run-reads.Asked,
-  put-run-reads.Learnt,
-  way-behind-reads.Asked,
-  way-behind-reads.Learnt,
-  put-deleted-below t,
-  put-deleted.Post,
-  encoded-reads.Asked,
-  encoded-reads.Learnt,
-) (put-part-anew-at t) put-part-anew.Post
+put-part-anew-put-u32-requires-2 : (t : ℕ) → put-part-anew-lts.Need-put-u32-requires-2 (put-part-anew-claims t) (put-part-anew-at t) put-part-anew.Post
 put-part-anew-put-u32-requires-2 t c κs = ?
 
 -- src/delete.rt:319:17
-put-part-anew-add-t19-2 : (t : ℕ) → put-part-anew-lts.Need-add-t19-2 (
-  part-behind-reads.Asked,
-  part-behind-reads.Learnt,
-  read-u32-reads.Asked,
-  read-u32-reads.Learnt,
-  put-u32-reads.Asked,
-  put-u32-reads.Learnt,
-  put-run-reads.Asked,
-  put-run-reads.Learnt,
-  way-behind-reads.Asked,
-  way-behind-reads.Learnt,
-  put-deleted-below t,
-  put-deleted.Post,
-  encoded-reads.Asked,
-  encoded-reads.Learnt,
-) (put-part-anew-at t) put-part-anew.Post
+put-part-anew-add-t19-2 : (t : ℕ) → put-part-anew-lts.Need-add-t19-2 (put-part-anew-claims t) (put-part-anew-at t) put-part-anew.Post
 put-part-anew-add-t19-2 t c = ?
 
 -- src/delete.rt:320:16
-put-part-anew-add-t20 : (t : ℕ) → put-part-anew-lts.Need-add-t20 (
-  part-behind-reads.Asked,
-  part-behind-reads.Learnt,
-  read-u32-reads.Asked,
-  read-u32-reads.Learnt,
-  put-u32-reads.Asked,
-  put-u32-reads.Learnt,
-  put-run-reads.Asked,
-  put-run-reads.Learnt,
-  way-behind-reads.Asked,
-  way-behind-reads.Learnt,
-  put-deleted-below t,
-  put-deleted.Post,
-  encoded-reads.Asked,
-  encoded-reads.Learnt,
-) (put-part-anew-at t) put-part-anew.Post
+put-part-anew-add-t20 : (t : ℕ) → put-part-anew-lts.Need-add-t20 (put-part-anew-claims t) (put-part-anew-at t) put-part-anew.Post
 put-part-anew-add-t20 t c = ?
 
 -- src/delete.rt:322:9
-put-part-anew-put-run-requires-2 : (t : ℕ) → put-part-anew-lts.Need-put-run-requires-2 (
-  part-behind-reads.Asked,
-  part-behind-reads.Learnt,
-  read-u32-reads.Asked,
-  read-u32-reads.Learnt,
-  put-u32-reads.Asked,
-  put-u32-reads.Learnt,
-  put-run-reads.Asked,
-  put-run-reads.Learnt,
-  way-behind-reads.Asked,
-  way-behind-reads.Learnt,
-  put-deleted-below t,
-  put-deleted.Post,
-  encoded-reads.Asked,
-  encoded-reads.Learnt,
-) (put-part-anew-at t) put-part-anew.Post
+put-part-anew-put-run-requires-2 : (t : ℕ) → put-part-anew-lts.Need-put-run-requires-2 (put-part-anew-claims t) (put-part-anew-at t) put-part-anew.Post
 put-part-anew-put-run-requires-2 t c κs = ?
 
 -- src/delete.rt:323:5
-put-part-anew-sub-result : (t : ℕ) → put-part-anew-lts.Need-sub-result (
-  part-behind-reads.Asked,
-  part-behind-reads.Learnt,
-  read-u32-reads.Asked,
-  read-u32-reads.Learnt,
-  put-u32-reads.Asked,
-  put-u32-reads.Learnt,
-  put-run-reads.Asked,
-  put-run-reads.Learnt,
-  way-behind-reads.Asked,
-  way-behind-reads.Learnt,
-  put-deleted-below t,
-  put-deleted.Post,
-  encoded-reads.Asked,
-  encoded-reads.Learnt,
-) (put-part-anew-at t) put-part-anew.Post
+put-part-anew-sub-result : (t : ℕ) → put-part-anew-lts.Need-sub-result (put-part-anew-claims t) (put-part-anew-at t) put-part-anew.Post
 put-part-anew-sub-result t c = ?
 
 -- src/delete.rt:287:1
-put-part-anew-same-length : (t : ℕ) → put-part-anew-lts.Need-same-length (
-  part-behind-reads.Asked,
-  part-behind-reads.Learnt,
-  read-u32-reads.Asked,
-  read-u32-reads.Learnt,
-  put-u32-reads.Asked,
-  put-u32-reads.Learnt,
-  put-run-reads.Asked,
-  put-run-reads.Learnt,
-  way-behind-reads.Asked,
-  way-behind-reads.Learnt,
-  put-deleted-below t,
-  put-deleted.Post,
-  encoded-reads.Asked,
-  encoded-reads.Learnt,
-) (put-part-anew-at t) put-part-anew.Post
+put-part-anew-same-length : (t : ℕ) → put-part-anew-lts.Need-same-length (put-part-anew-claims t) (put-part-anew-at t) put-part-anew.Post
 put-part-anew-same-length t c = ?
 
 -- src/delete.rt:287:1
-put-part-anew-returns : (t : ℕ) → put-part-anew-lts.Need-returns (
-  part-behind-reads.Asked,
-  part-behind-reads.Learnt,
-  read-u32-reads.Asked,
-  read-u32-reads.Learnt,
-  put-u32-reads.Asked,
-  put-u32-reads.Learnt,
-  put-run-reads.Asked,
-  put-run-reads.Learnt,
-  way-behind-reads.Asked,
-  way-behind-reads.Learnt,
-  put-deleted-below t,
-  put-deleted.Post,
-  encoded-reads.Asked,
-  encoded-reads.Learnt,
-) (put-part-anew-at t) put-part-anew.Post
+put-part-anew-returns : (t : ℕ) → put-part-anew-lts.Need-returns (put-part-anew-claims t) (put-part-anew-at t) put-part-anew.Post
 put-part-anew-returns t c = ?
 
 abbrev put-sorted-anew-Inv-loop : put-sorted-anew-lts.InvT-loop
@@ -1479,103 +404,19 @@ abbrev put-sorted-anew-μ-loop : put-sorted-anew-lts.MeasureT-loop
 put-sorted-anew-μ-loop s n path out₀ at allowance from name next to₀ last₀ i₀ out to last i = ?
 
 -- src/delete.rt:370:9
-put-sorted-anew-members-of-requires : (t : ℕ) → put-sorted-anew-lts.Need-members-of-requires (
-  members-of-reads.Asked,
-  members-of-reads.Learnt,
-  name-of-reads.Asked,
-  name-of-reads.Learnt,
-  way-behind-reads.Asked,
-  way-behind-reads.Learnt,
-  measure-members-reads.Asked,
-  measure-members-reads.Learnt,
-  places-for-reads.Asked,
-  places-for-reads.Learnt,
-  put-u32-reads.Asked,
-  put-u32-reads.Learnt,
-  slice-reads.Asked,
-  slice-reads.Learnt,
-  next-member-reads.Asked,
-  next-member-reads.Learnt,
-  put-member-anew-below t,
-  put-member-anew.Post,
-  payload-at-reads.Asked,
-  payload-at-reads.Learnt,
-) (put-sorted-anew-at t) put-sorted-anew.Post put-sorted-anew-Inv-loop put-sorted-anew-μ-loop
+put-sorted-anew-members-of-requires : (t : ℕ) → put-sorted-anew-lts.Need-members-of-requires (put-sorted-anew-claims t) (put-sorted-anew-at t) put-sorted-anew.Post put-sorted-anew-Inv-loop put-sorted-anew-μ-loop
 put-sorted-anew-members-of-requires t c κs = ?
 
 -- src/delete.rt:371:30
-put-sorted-anew-sub-name-of : (t : ℕ) → put-sorted-anew-lts.Need-sub-name-of (
-  members-of-reads.Asked,
-  members-of-reads.Learnt,
-  name-of-reads.Asked,
-  name-of-reads.Learnt,
-  way-behind-reads.Asked,
-  way-behind-reads.Learnt,
-  measure-members-reads.Asked,
-  measure-members-reads.Learnt,
-  places-for-reads.Asked,
-  places-for-reads.Learnt,
-  put-u32-reads.Asked,
-  put-u32-reads.Learnt,
-  slice-reads.Asked,
-  slice-reads.Learnt,
-  next-member-reads.Asked,
-  next-member-reads.Learnt,
-  put-member-anew-below t,
-  put-member-anew.Post,
-  payload-at-reads.Asked,
-  payload-at-reads.Learnt,
-) (put-sorted-anew-at t) put-sorted-anew.Post put-sorted-anew-Inv-loop put-sorted-anew-μ-loop
+put-sorted-anew-sub-name-of : (t : ℕ) → put-sorted-anew-lts.Need-sub-name-of (put-sorted-anew-claims t) (put-sorted-anew-at t) put-sorted-anew.Post put-sorted-anew-Inv-loop put-sorted-anew-μ-loop
 put-sorted-anew-sub-name-of t c = ?
 
 -- src/delete.rt:371:9
-put-sorted-anew-name-of-requires : (t : ℕ) → put-sorted-anew-lts.Need-name-of-requires (
-  members-of-reads.Asked,
-  members-of-reads.Learnt,
-  name-of-reads.Asked,
-  name-of-reads.Learnt,
-  way-behind-reads.Asked,
-  way-behind-reads.Learnt,
-  measure-members-reads.Asked,
-  measure-members-reads.Learnt,
-  places-for-reads.Asked,
-  places-for-reads.Learnt,
-  put-u32-reads.Asked,
-  put-u32-reads.Learnt,
-  slice-reads.Asked,
-  slice-reads.Learnt,
-  next-member-reads.Asked,
-  next-member-reads.Learnt,
-  put-member-anew-below t,
-  put-member-anew.Post,
-  payload-at-reads.Asked,
-  payload-at-reads.Learnt,
-) (put-sorted-anew-at t) put-sorted-anew.Post put-sorted-anew-Inv-loop put-sorted-anew-μ-loop
+put-sorted-anew-name-of-requires : (t : ℕ) → put-sorted-anew-lts.Need-name-of-requires (put-sorted-anew-claims t) (put-sorted-anew-at t) put-sorted-anew.Post put-sorted-anew-Inv-loop put-sorted-anew-μ-loop
 put-sorted-anew-name-of-requires t c κs = ?
 
 -- src/delete.rt:372:9
-put-sorted-anew-way-behind-requires : (t : ℕ) → put-sorted-anew-lts.Need-way-behind-requires (
-  members-of-reads.Asked,
-  members-of-reads.Learnt,
-  name-of-reads.Asked,
-  name-of-reads.Learnt,
-  way-behind-reads.Asked,
-  way-behind-reads.Learnt,
-  measure-members-reads.Asked,
-  measure-members-reads.Learnt,
-  places-for-reads.Asked,
-  places-for-reads.Learnt,
-  put-u32-reads.Asked,
-  put-u32-reads.Learnt,
-  slice-reads.Asked,
-  slice-reads.Learnt,
-  next-member-reads.Asked,
-  next-member-reads.Learnt,
-  put-member-anew-below t,
-  put-member-anew.Post,
-  payload-at-reads.Asked,
-  payload-at-reads.Learnt,
-) (put-sorted-anew-at t) put-sorted-anew.Post put-sorted-anew-Inv-loop put-sorted-anew-μ-loop
+put-sorted-anew-way-behind-requires : (t : ℕ) → put-sorted-anew-lts.Need-way-behind-requires (put-sorted-anew-claims t) (put-sorted-anew-at t) put-sorted-anew.Post put-sorted-anew-Inv-loop put-sorted-anew-μ-loop
 put-sorted-anew-way-behind-requires t c κs = ?
 
 -- src/delete.rt:373:9
@@ -1605,303 +446,51 @@ put-sorted-anew-measure-members-requires :
 put-sorted-anew-measure-members-requires t c κs = ?
 
 -- src/delete.rt:374:9
-put-sorted-anew-places-for-requires : (t : ℕ) → put-sorted-anew-lts.Need-places-for-requires (
-  members-of-reads.Asked,
-  members-of-reads.Learnt,
-  name-of-reads.Asked,
-  name-of-reads.Learnt,
-  way-behind-reads.Asked,
-  way-behind-reads.Learnt,
-  measure-members-reads.Asked,
-  measure-members-reads.Learnt,
-  places-for-reads.Asked,
-  places-for-reads.Learnt,
-  put-u32-reads.Asked,
-  put-u32-reads.Learnt,
-  slice-reads.Asked,
-  slice-reads.Learnt,
-  next-member-reads.Asked,
-  next-member-reads.Learnt,
-  put-member-anew-below t,
-  put-member-anew.Post,
-  payload-at-reads.Asked,
-  payload-at-reads.Learnt,
-) (put-sorted-anew-at t) put-sorted-anew.Post put-sorted-anew-Inv-loop put-sorted-anew-μ-loop
+put-sorted-anew-places-for-requires : (t : ℕ) → put-sorted-anew-lts.Need-places-for-requires (put-sorted-anew-claims t) (put-sorted-anew-at t) put-sorted-anew.Post put-sorted-anew-Inv-loop put-sorted-anew-μ-loop
 put-sorted-anew-places-for-requires t c κs = ?
 
 -- src/delete.rt:375:45
-put-sorted-anew-cast-put-u32 : (t : ℕ) → put-sorted-anew-lts.Need-cast-put-u32 (
-  members-of-reads.Asked,
-  members-of-reads.Learnt,
-  name-of-reads.Asked,
-  name-of-reads.Learnt,
-  way-behind-reads.Asked,
-  way-behind-reads.Learnt,
-  measure-members-reads.Asked,
-  measure-members-reads.Learnt,
-  places-for-reads.Asked,
-  places-for-reads.Learnt,
-  put-u32-reads.Asked,
-  put-u32-reads.Learnt,
-  slice-reads.Asked,
-  slice-reads.Learnt,
-  next-member-reads.Asked,
-  next-member-reads.Learnt,
-  put-member-anew-below t,
-  put-member-anew.Post,
-  payload-at-reads.Asked,
-  payload-at-reads.Learnt,
-) (put-sorted-anew-at t) put-sorted-anew.Post put-sorted-anew-Inv-loop put-sorted-anew-μ-loop
+put-sorted-anew-cast-put-u32 : (t : ℕ) → put-sorted-anew-lts.Need-cast-put-u32 (put-sorted-anew-claims t) (put-sorted-anew-at t) put-sorted-anew.Post put-sorted-anew-Inv-loop put-sorted-anew-μ-loop
 put-sorted-anew-cast-put-u32 t c = ?
 
 -- src/delete.rt:375:5
-put-sorted-anew-put-u32-requires : (t : ℕ) → put-sorted-anew-lts.Need-put-u32-requires (
-  members-of-reads.Asked,
-  members-of-reads.Learnt,
-  name-of-reads.Asked,
-  name-of-reads.Learnt,
-  way-behind-reads.Asked,
-  way-behind-reads.Learnt,
-  measure-members-reads.Asked,
-  measure-members-reads.Learnt,
-  places-for-reads.Asked,
-  places-for-reads.Learnt,
-  put-u32-reads.Asked,
-  put-u32-reads.Learnt,
-  slice-reads.Asked,
-  slice-reads.Learnt,
-  next-member-reads.Asked,
-  next-member-reads.Learnt,
-  put-member-anew-below t,
-  put-member-anew.Post,
-  payload-at-reads.Asked,
-  payload-at-reads.Learnt,
-) (put-sorted-anew-at t) put-sorted-anew.Post put-sorted-anew-Inv-loop put-sorted-anew-μ-loop
+put-sorted-anew-put-u32-requires : (t : ℕ) → put-sorted-anew-lts.Need-put-u32-requires (put-sorted-anew-claims t) (put-sorted-anew-at t) put-sorted-anew.Post put-sorted-anew-Inv-loop put-sorted-anew-μ-loop
 put-sorted-anew-put-u32-requires t c κs = ?
 
 -- src/delete.rt:376:9
-put-sorted-anew-slice-requires : (t : ℕ) → put-sorted-anew-lts.Need-slice-requires (
-  members-of-reads.Asked,
-  members-of-reads.Learnt,
-  name-of-reads.Asked,
-  name-of-reads.Learnt,
-  way-behind-reads.Asked,
-  way-behind-reads.Learnt,
-  measure-members-reads.Asked,
-  measure-members-reads.Learnt,
-  places-for-reads.Asked,
-  places-for-reads.Learnt,
-  put-u32-reads.Asked,
-  put-u32-reads.Learnt,
-  slice-reads.Asked,
-  slice-reads.Learnt,
-  next-member-reads.Asked,
-  next-member-reads.Learnt,
-  put-member-anew-below t,
-  put-member-anew.Post,
-  payload-at-reads.Asked,
-  payload-at-reads.Learnt,
-) (put-sorted-anew-at t) put-sorted-anew.Post put-sorted-anew-Inv-loop put-sorted-anew-μ-loop
+put-sorted-anew-slice-requires : (t : ℕ) → put-sorted-anew-lts.Need-slice-requires (put-sorted-anew-claims t) (put-sorted-anew-at t) put-sorted-anew.Post put-sorted-anew-Inv-loop put-sorted-anew-μ-loop
 put-sorted-anew-slice-requires t c κs = ?
 
 -- src/delete.rt:378:5
-put-sorted-anew-loop-holds : (t : ℕ) → put-sorted-anew-lts.Need-loop-holds (
-  members-of-reads.Asked,
-  members-of-reads.Learnt,
-  name-of-reads.Asked,
-  name-of-reads.Learnt,
-  way-behind-reads.Asked,
-  way-behind-reads.Learnt,
-  measure-members-reads.Asked,
-  measure-members-reads.Learnt,
-  places-for-reads.Asked,
-  places-for-reads.Learnt,
-  put-u32-reads.Asked,
-  put-u32-reads.Learnt,
-  slice-reads.Asked,
-  slice-reads.Learnt,
-  next-member-reads.Asked,
-  next-member-reads.Learnt,
-  put-member-anew-below t,
-  put-member-anew.Post,
-  payload-at-reads.Asked,
-  payload-at-reads.Learnt,
-) (put-sorted-anew-at t) put-sorted-anew.Post put-sorted-anew-Inv-loop put-sorted-anew-μ-loop
+put-sorted-anew-loop-holds : (t : ℕ) → put-sorted-anew-lts.Need-loop-holds (put-sorted-anew-claims t) (put-sorted-anew-at t) put-sorted-anew.Post put-sorted-anew-Inv-loop put-sorted-anew-μ-loop
 put-sorted-anew-loop-holds t c = ?
 
 -- src/delete.rt:379:33
-put-sorted-anew-next-member-requires : (t : ℕ) → put-sorted-anew-lts.Need-next-member-requires (
-  members-of-reads.Asked,
-  members-of-reads.Learnt,
-  name-of-reads.Asked,
-  name-of-reads.Learnt,
-  way-behind-reads.Asked,
-  way-behind-reads.Learnt,
-  measure-members-reads.Asked,
-  measure-members-reads.Learnt,
-  places-for-reads.Asked,
-  places-for-reads.Learnt,
-  put-u32-reads.Asked,
-  put-u32-reads.Learnt,
-  slice-reads.Asked,
-  slice-reads.Learnt,
-  next-member-reads.Asked,
-  next-member-reads.Learnt,
-  put-member-anew-below t,
-  put-member-anew.Post,
-  payload-at-reads.Asked,
-  payload-at-reads.Learnt,
-) (put-sorted-anew-at t) put-sorted-anew.Post put-sorted-anew-Inv-loop put-sorted-anew-μ-loop
+put-sorted-anew-next-member-requires : (t : ℕ) → put-sorted-anew-lts.Need-next-member-requires (put-sorted-anew-claims t) (put-sorted-anew-at t) put-sorted-anew.Post put-sorted-anew-Inv-loop put-sorted-anew-μ-loop
 put-sorted-anew-next-member-requires t c κs = ?
 
 -- src/delete.rt:379:23
-put-sorted-anew-enum-known-member : (t : ℕ) → put-sorted-anew-lts.Need-enum-known-member (
-  members-of-reads.Asked,
-  members-of-reads.Learnt,
-  name-of-reads.Asked,
-  name-of-reads.Learnt,
-  way-behind-reads.Asked,
-  way-behind-reads.Learnt,
-  measure-members-reads.Asked,
-  measure-members-reads.Learnt,
-  places-for-reads.Asked,
-  places-for-reads.Learnt,
-  put-u32-reads.Asked,
-  put-u32-reads.Learnt,
-  slice-reads.Asked,
-  slice-reads.Learnt,
-  next-member-reads.Asked,
-  next-member-reads.Learnt,
-  put-member-anew-below t,
-  put-member-anew.Post,
-  payload-at-reads.Asked,
-  payload-at-reads.Learnt,
-) (put-sorted-anew-at t) put-sorted-anew.Post put-sorted-anew-Inv-loop put-sorted-anew-μ-loop
+put-sorted-anew-enum-known-member : (t : ℕ) → put-sorted-anew-lts.Need-enum-known-member (put-sorted-anew-claims t) (put-sorted-anew-at t) put-sorted-anew.Post put-sorted-anew-Inv-loop put-sorted-anew-μ-loop
 put-sorted-anew-enum-known-member t c = ?
 
 -- src/delete.rt:380:20
-put-sorted-anew-enum-told : (t : ℕ) → put-sorted-anew-lts.Need-enum-told (
-  members-of-reads.Asked,
-  members-of-reads.Learnt,
-  name-of-reads.Asked,
-  name-of-reads.Learnt,
-  way-behind-reads.Asked,
-  way-behind-reads.Learnt,
-  measure-members-reads.Asked,
-  measure-members-reads.Learnt,
-  places-for-reads.Asked,
-  places-for-reads.Learnt,
-  put-u32-reads.Asked,
-  put-u32-reads.Learnt,
-  slice-reads.Asked,
-  slice-reads.Learnt,
-  next-member-reads.Asked,
-  next-member-reads.Learnt,
-  put-member-anew-below t,
-  put-member-anew.Post,
-  payload-at-reads.Asked,
-  payload-at-reads.Learnt,
-) (put-sorted-anew-at t) put-sorted-anew.Post put-sorted-anew-Inv-loop put-sorted-anew-μ-loop
+put-sorted-anew-enum-told : (t : ℕ) → put-sorted-anew-lts.Need-enum-told (put-sorted-anew-claims t) (put-sorted-anew-at t) put-sorted-anew.Post put-sorted-anew-Inv-loop put-sorted-anew-μ-loop
 put-sorted-anew-enum-told t c = ?
 
 -- src/delete.rt:380:20
-put-sorted-anew-sub-result : (t : ℕ) → put-sorted-anew-lts.Need-sub-result (
-  members-of-reads.Asked,
-  members-of-reads.Learnt,
-  name-of-reads.Asked,
-  name-of-reads.Learnt,
-  way-behind-reads.Asked,
-  way-behind-reads.Learnt,
-  measure-members-reads.Asked,
-  measure-members-reads.Learnt,
-  places-for-reads.Asked,
-  places-for-reads.Learnt,
-  put-u32-reads.Asked,
-  put-u32-reads.Learnt,
-  slice-reads.Asked,
-  slice-reads.Learnt,
-  next-member-reads.Asked,
-  next-member-reads.Learnt,
-  put-member-anew-below t,
-  put-member-anew.Post,
-  payload-at-reads.Asked,
-  payload-at-reads.Learnt,
-) (put-sorted-anew-at t) put-sorted-anew.Post put-sorted-anew-Inv-loop put-sorted-anew-μ-loop
+put-sorted-anew-sub-result : (t : ℕ) → put-sorted-anew-lts.Need-sub-result (put-sorted-anew-claims t) (put-sorted-anew-at t) put-sorted-anew.Post put-sorted-anew-Inv-loop put-sorted-anew-μ-loop
 put-sorted-anew-sub-result t c = ?
 
 -- src/delete.rt:380:13
-put-sorted-anew-same-length : (t : ℕ) → put-sorted-anew-lts.Need-same-length (
-  members-of-reads.Asked,
-  members-of-reads.Learnt,
-  name-of-reads.Asked,
-  name-of-reads.Learnt,
-  way-behind-reads.Asked,
-  way-behind-reads.Learnt,
-  measure-members-reads.Asked,
-  measure-members-reads.Learnt,
-  places-for-reads.Asked,
-  places-for-reads.Learnt,
-  put-u32-reads.Asked,
-  put-u32-reads.Learnt,
-  slice-reads.Asked,
-  slice-reads.Learnt,
-  next-member-reads.Asked,
-  next-member-reads.Learnt,
-  put-member-anew-below t,
-  put-member-anew.Post,
-  payload-at-reads.Asked,
-  payload-at-reads.Learnt,
-) (put-sorted-anew-at t) put-sorted-anew.Post put-sorted-anew-Inv-loop put-sorted-anew-μ-loop
+put-sorted-anew-same-length : (t : ℕ) → put-sorted-anew-lts.Need-same-length (put-sorted-anew-claims t) (put-sorted-anew-at t) put-sorted-anew.Post put-sorted-anew-Inv-loop put-sorted-anew-μ-loop
 put-sorted-anew-same-length t c = ?
 
 -- src/delete.rt:380:13
-put-sorted-anew-returns : (t : ℕ) → put-sorted-anew-lts.Need-returns (
-  members-of-reads.Asked,
-  members-of-reads.Learnt,
-  name-of-reads.Asked,
-  name-of-reads.Learnt,
-  way-behind-reads.Asked,
-  way-behind-reads.Learnt,
-  measure-members-reads.Asked,
-  measure-members-reads.Learnt,
-  places-for-reads.Asked,
-  places-for-reads.Learnt,
-  put-u32-reads.Asked,
-  put-u32-reads.Learnt,
-  slice-reads.Asked,
-  slice-reads.Learnt,
-  next-member-reads.Asked,
-  next-member-reads.Learnt,
-  put-member-anew-below t,
-  put-member-anew.Post,
-  payload-at-reads.Asked,
-  payload-at-reads.Learnt,
-) (put-sorted-anew-at t) put-sorted-anew.Post put-sorted-anew-Inv-loop put-sorted-anew-μ-loop
+put-sorted-anew-returns : (t : ℕ) → put-sorted-anew-lts.Need-returns (put-sorted-anew-claims t) (put-sorted-anew-at t) put-sorted-anew.Post put-sorted-anew-Inv-loop put-sorted-anew-μ-loop
 put-sorted-anew-returns t c = ?
 
 -- src/delete.rt:382:68
-put-sorted-anew-sub-put-member-anew : (t : ℕ) → put-sorted-anew-lts.Need-sub-put-member-anew (
-  members-of-reads.Asked,
-  members-of-reads.Learnt,
-  name-of-reads.Asked,
-  name-of-reads.Learnt,
-  way-behind-reads.Asked,
-  way-behind-reads.Learnt,
-  measure-members-reads.Asked,
-  measure-members-reads.Learnt,
-  places-for-reads.Asked,
-  places-for-reads.Learnt,
-  put-u32-reads.Asked,
-  put-u32-reads.Learnt,
-  slice-reads.Asked,
-  slice-reads.Learnt,
-  next-member-reads.Asked,
-  next-member-reads.Learnt,
-  put-member-anew-below t,
-  put-member-anew.Post,
-  payload-at-reads.Asked,
-  payload-at-reads.Learnt,
-) (put-sorted-anew-at t) put-sorted-anew.Post put-sorted-anew-Inv-loop put-sorted-anew-μ-loop
+put-sorted-anew-sub-put-member-anew : (t : ℕ) → put-sorted-anew-lts.Need-sub-put-member-anew (put-sorted-anew-claims t) (put-sorted-anew-at t) put-sorted-anew.Post put-sorted-anew-Inv-loop put-sorted-anew-μ-loop
 put-sorted-anew-sub-put-member-anew t c = ?
 
 -- src/delete.rt:382:9
@@ -1931,178 +520,31 @@ put-sorted-anew-put-member-anew-requires :
 put-sorted-anew-put-member-anew-requires t c κs = ?
 
 -- src/delete.rt:383:9
-put-sorted-anew-payload-at-requires : (t : ℕ) → put-sorted-anew-lts.Need-payload-at-requires (
-  members-of-reads.Asked,
-  members-of-reads.Learnt,
-  name-of-reads.Asked,
-  name-of-reads.Learnt,
-  way-behind-reads.Asked,
-  way-behind-reads.Learnt,
-  measure-members-reads.Asked,
-  measure-members-reads.Learnt,
-  places-for-reads.Asked,
-  places-for-reads.Learnt,
-  put-u32-reads.Asked,
-  put-u32-reads.Learnt,
-  slice-reads.Asked,
-  slice-reads.Learnt,
-  next-member-reads.Asked,
-  next-member-reads.Learnt,
-  put-member-anew-below t,
-  put-member-anew.Post,
-  payload-at-reads.Asked,
-  payload-at-reads.Learnt,
-) (put-sorted-anew-at t) put-sorted-anew.Post put-sorted-anew-Inv-loop put-sorted-anew-μ-loop
+put-sorted-anew-payload-at-requires : (t : ℕ) → put-sorted-anew-lts.Need-payload-at-requires (put-sorted-anew-claims t) (put-sorted-anew-at t) put-sorted-anew.Post put-sorted-anew-Inv-loop put-sorted-anew-μ-loop
 put-sorted-anew-payload-at-requires t c κs = ?
 
 -- src/delete.rt:384:9
-put-sorted-anew-add-i : (t : ℕ) → put-sorted-anew-lts.Need-add-i (
-  members-of-reads.Asked,
-  members-of-reads.Learnt,
-  name-of-reads.Asked,
-  name-of-reads.Learnt,
-  way-behind-reads.Asked,
-  way-behind-reads.Learnt,
-  measure-members-reads.Asked,
-  measure-members-reads.Learnt,
-  places-for-reads.Asked,
-  places-for-reads.Learnt,
-  put-u32-reads.Asked,
-  put-u32-reads.Learnt,
-  slice-reads.Asked,
-  slice-reads.Learnt,
-  next-member-reads.Asked,
-  next-member-reads.Learnt,
-  put-member-anew-below t,
-  put-member-anew.Post,
-  payload-at-reads.Asked,
-  payload-at-reads.Learnt,
-) (put-sorted-anew-at t) put-sorted-anew.Post put-sorted-anew-Inv-loop put-sorted-anew-μ-loop
+put-sorted-anew-add-i : (t : ℕ) → put-sorted-anew-lts.Need-add-i (put-sorted-anew-claims t) (put-sorted-anew-at t) put-sorted-anew.Post put-sorted-anew-Inv-loop put-sorted-anew-μ-loop
 put-sorted-anew-add-i t c = ?
 
 -- src/delete.rt:378:5
-put-sorted-anew-loop-less : (t : ℕ) → put-sorted-anew-lts.Need-loop-less (
-  members-of-reads.Asked,
-  members-of-reads.Learnt,
-  name-of-reads.Asked,
-  name-of-reads.Learnt,
-  way-behind-reads.Asked,
-  way-behind-reads.Learnt,
-  measure-members-reads.Asked,
-  measure-members-reads.Learnt,
-  places-for-reads.Asked,
-  places-for-reads.Learnt,
-  put-u32-reads.Asked,
-  put-u32-reads.Learnt,
-  slice-reads.Asked,
-  slice-reads.Learnt,
-  next-member-reads.Asked,
-  next-member-reads.Learnt,
-  put-member-anew-below t,
-  put-member-anew.Post,
-  payload-at-reads.Asked,
-  payload-at-reads.Learnt,
-) (put-sorted-anew-at t) put-sorted-anew.Post put-sorted-anew-Inv-loop put-sorted-anew-μ-loop
+put-sorted-anew-loop-less : (t : ℕ) → put-sorted-anew-lts.Need-loop-less (put-sorted-anew-claims t) (put-sorted-anew-at t) put-sorted-anew.Post put-sorted-anew-Inv-loop put-sorted-anew-μ-loop
 put-sorted-anew-loop-less t c = ?
 
 -- src/delete.rt:378:5
-put-sorted-anew-loop-again : (t : ℕ) → put-sorted-anew-lts.Need-loop-again (
-  members-of-reads.Asked,
-  members-of-reads.Learnt,
-  name-of-reads.Asked,
-  name-of-reads.Learnt,
-  way-behind-reads.Asked,
-  way-behind-reads.Learnt,
-  measure-members-reads.Asked,
-  measure-members-reads.Learnt,
-  places-for-reads.Asked,
-  places-for-reads.Learnt,
-  put-u32-reads.Asked,
-  put-u32-reads.Learnt,
-  slice-reads.Asked,
-  slice-reads.Learnt,
-  next-member-reads.Asked,
-  next-member-reads.Learnt,
-  put-member-anew-below t,
-  put-member-anew.Post,
-  payload-at-reads.Asked,
-  payload-at-reads.Learnt,
-) (put-sorted-anew-at t) put-sorted-anew.Post put-sorted-anew-Inv-loop put-sorted-anew-μ-loop
+put-sorted-anew-loop-again : (t : ℕ) → put-sorted-anew-lts.Need-loop-again (put-sorted-anew-claims t) (put-sorted-anew-at t) put-sorted-anew.Post put-sorted-anew-Inv-loop put-sorted-anew-μ-loop
 put-sorted-anew-loop-again t c = ?
 
 -- src/delete.rt:386:5
-put-sorted-anew-sub-result-2 : (t : ℕ) → put-sorted-anew-lts.Need-sub-result-2 (
-  members-of-reads.Asked,
-  members-of-reads.Learnt,
-  name-of-reads.Asked,
-  name-of-reads.Learnt,
-  way-behind-reads.Asked,
-  way-behind-reads.Learnt,
-  measure-members-reads.Asked,
-  measure-members-reads.Learnt,
-  places-for-reads.Asked,
-  places-for-reads.Learnt,
-  put-u32-reads.Asked,
-  put-u32-reads.Learnt,
-  slice-reads.Asked,
-  slice-reads.Learnt,
-  next-member-reads.Asked,
-  next-member-reads.Learnt,
-  put-member-anew-below t,
-  put-member-anew.Post,
-  payload-at-reads.Asked,
-  payload-at-reads.Learnt,
-) (put-sorted-anew-at t) put-sorted-anew.Post put-sorted-anew-Inv-loop put-sorted-anew-μ-loop
+put-sorted-anew-sub-result-2 : (t : ℕ) → put-sorted-anew-lts.Need-sub-result-2 (put-sorted-anew-claims t) (put-sorted-anew-at t) put-sorted-anew.Post put-sorted-anew-Inv-loop put-sorted-anew-μ-loop
 put-sorted-anew-sub-result-2 t c = ?
 
 -- src/delete.rt:365:1
-put-sorted-anew-same-length-2 : (t : ℕ) → put-sorted-anew-lts.Need-same-length-2 (
-  members-of-reads.Asked,
-  members-of-reads.Learnt,
-  name-of-reads.Asked,
-  name-of-reads.Learnt,
-  way-behind-reads.Asked,
-  way-behind-reads.Learnt,
-  measure-members-reads.Asked,
-  measure-members-reads.Learnt,
-  places-for-reads.Asked,
-  places-for-reads.Learnt,
-  put-u32-reads.Asked,
-  put-u32-reads.Learnt,
-  slice-reads.Asked,
-  slice-reads.Learnt,
-  next-member-reads.Asked,
-  next-member-reads.Learnt,
-  put-member-anew-below t,
-  put-member-anew.Post,
-  payload-at-reads.Asked,
-  payload-at-reads.Learnt,
-) (put-sorted-anew-at t) put-sorted-anew.Post put-sorted-anew-Inv-loop put-sorted-anew-μ-loop
+put-sorted-anew-same-length-2 : (t : ℕ) → put-sorted-anew-lts.Need-same-length-2 (put-sorted-anew-claims t) (put-sorted-anew-at t) put-sorted-anew.Post put-sorted-anew-Inv-loop put-sorted-anew-μ-loop
 put-sorted-anew-same-length-2 t c = ?
 
 -- src/delete.rt:365:1
-put-sorted-anew-returns-2 : (t : ℕ) → put-sorted-anew-lts.Need-returns-2 (
-  members-of-reads.Asked,
-  members-of-reads.Learnt,
-  name-of-reads.Asked,
-  name-of-reads.Learnt,
-  way-behind-reads.Asked,
-  way-behind-reads.Learnt,
-  measure-members-reads.Asked,
-  measure-members-reads.Learnt,
-  places-for-reads.Asked,
-  places-for-reads.Learnt,
-  put-u32-reads.Asked,
-  put-u32-reads.Learnt,
-  slice-reads.Asked,
-  slice-reads.Learnt,
-  next-member-reads.Asked,
-  next-member-reads.Learnt,
-  put-member-anew-below t,
-  put-member-anew.Post,
-  payload-at-reads.Asked,
-  payload-at-reads.Learnt,
-) (put-sorted-anew-at t) put-sorted-anew.Post put-sorted-anew-Inv-loop put-sorted-anew-μ-loop
+put-sorted-anew-returns-2 : (t : ℕ) → put-sorted-anew-lts.Need-returns-2 (put-sorted-anew-claims t) (put-sorted-anew-at t) put-sorted-anew.Post put-sorted-anew-Inv-loop put-sorted-anew-μ-loop
 put-sorted-anew-returns-2 t c = ?
 
 pub +put-deleted+put-member-anew+put-part-anew+put-sorted-anew-spec : {M : Type 1} → statement M
@@ -2112,24 +554,7 @@ pub +put-deleted+put-member-anew+put-part-anew+put-sorted-anew-spec : {M : Type 
     μ-put-member-anew
     μ-put-part-anew
     μ-put-sorted-anew
-    (λ t. put-deleted-lts.spec (
-      read-jentry-reads.Asked,
-      read-jentry-reads.Learnt,
-      payload-len-reads.Asked,
-      payload-len-reads.Learnt,
-      slice-reads.Asked,
-      slice-reads.Learnt,
-      find-step-reads.Asked,
-      find-step-reads.Learnt,
-      put-without-reads.Asked,
-      put-without-reads.Learnt,
-      manner-of-reads.Asked,
-      manner-of-reads.Learnt,
-      put-part-anew-below t,
-      put-part-anew.Post,
-      put-sorted-anew-below t,
-      put-sorted-anew.Post,
-    )
+    (λ t. put-deleted-lts.spec (put-deleted-claims t)
     (put-deleted-at t)
     put-deleted.Post
     (put-deleted-read-jentry-requires t)
@@ -2160,22 +585,7 @@ pub +put-deleted+put-member-anew+put-part-anew+put-sorted-anew-spec : {M : Type 
     (put-deleted-same-length-4 t)
     (put-deleted-returns-5 t)
     (put-deleted-returns-6 t))
-    (λ t. put-member-anew-lts.spec (
-      payload-at-reads.Asked,
-      payload-at-reads.Learnt,
-      is-same-reads.Asked,
-      is-same-reads.Learnt,
-      put-u32-reads.Asked,
-      put-u32-reads.Learnt,
-      copy-reads.Asked,
-      copy-reads.Learnt,
-      put-deleted-below t,
-      put-deleted.Post,
-      encoded-reads.Asked,
-      encoded-reads.Learnt,
-      put-member-reads.Asked,
-      put-member-reads.Learnt,
-    )
+    (λ t. put-member-anew-lts.spec (put-member-anew-claims t)
     (put-member-anew-at t)
     put-member-anew.Post
     (put-member-anew-payload-at-requires t)
@@ -2196,22 +606,7 @@ pub +put-deleted+put-member-anew+put-part-anew+put-sorted-anew-spec : {M : Type 
     (put-member-anew-put-member-requires t)
     (put-member-anew-same-length-2 t)
     (put-member-anew-returns-2 t))
-    (λ t. put-part-anew-lts.spec (
-      part-behind-reads.Asked,
-      part-behind-reads.Learnt,
-      read-u32-reads.Asked,
-      read-u32-reads.Learnt,
-      put-u32-reads.Asked,
-      put-u32-reads.Learnt,
-      put-run-reads.Asked,
-      put-run-reads.Learnt,
-      way-behind-reads.Asked,
-      way-behind-reads.Learnt,
-      put-deleted-below t,
-      put-deleted.Post,
-      encoded-reads.Asked,
-      encoded-reads.Learnt,
-    )
+    (λ t. put-part-anew-lts.spec (put-part-anew-claims t)
     (put-part-anew-at t)
     put-part-anew.Post
     (put-part-anew-mul-put-deleted t)
@@ -2237,28 +632,7 @@ pub +put-deleted+put-member-anew+put-part-anew+put-sorted-anew-spec : {M : Type 
     (put-part-anew-sub-result t)
     (put-part-anew-same-length t)
     (put-part-anew-returns t))
-    λ t. put-sorted-anew-lts.spec (
-      members-of-reads.Asked,
-      members-of-reads.Learnt,
-      name-of-reads.Asked,
-      name-of-reads.Learnt,
-      way-behind-reads.Asked,
-      way-behind-reads.Learnt,
-      measure-members-reads.Asked,
-      measure-members-reads.Learnt,
-      places-for-reads.Asked,
-      places-for-reads.Learnt,
-      put-u32-reads.Asked,
-      put-u32-reads.Learnt,
-      slice-reads.Asked,
-      slice-reads.Learnt,
-      next-member-reads.Asked,
-      next-member-reads.Learnt,
-      put-member-anew-below t,
-      put-member-anew.Post,
-      payload-at-reads.Asked,
-      payload-at-reads.Learnt,
-    )
+    λ t. put-sorted-anew-lts.spec (put-sorted-anew-claims t)
     (put-sorted-anew-at t)
     put-sorted-anew.Post
     put-sorted-anew-Inv-loop
