@@ -97,6 +97,7 @@ module _ (name value : MemberAt → Bytes) (entry : MemberAt → ℕ) (searched 
     pub near-key : at .key ≤ to .key + 2 ^ 28 * i
     pub near-val : at .val ≤ to .val + 2 ^ 28 * i
     pub key-on : to .key ≤ at .key
+    pub val-on : to .val ≤ at .val
     pub val-rest : at .val + length (column value (drop i all)) ≡ to .val + length (column value all)
     pub run : weave o to all ≡ weave out at (drop i all)
     pub as-long : length out ≡ length o
@@ -110,6 +111,7 @@ module _ (name value : MemberAt → Bytes) (entry : MemberAt → ℕ) (searched 
         near-key = omega arith;
         near-val = omega arith;
         key-on = omega arith;
+        val-on = omega arith;
         val-rest = refl;
         run = refl;
         as-long = refl;
@@ -119,6 +121,11 @@ module _ (name value : MemberAt → Bytes) (entry : MemberAt → ℕ) (searched 
     ended : length all ≤ i → out ≡ weave o to all
     unfolding woven
     ended h = sym (rw (drop-of-length-le all h) at (now .run))
+
+    pub ends-val : length all ≤ i → at .val ≡ to .val + length (column value all)
+    ends-val h =
+        let z : length (column value (drop i all)) ≡ 0 = rw (drop-of-length-le all h) (column-none value) in
+        omega (arith, now .val-rest)
 
     pub ends-full : (n : ℕ) → length searched ≤ n → n ≤ i → out ≡ weave o to all
     ends-full n l h = ended (sought-all name searched n i l h)
@@ -141,6 +148,7 @@ module _ (name value : MemberAt → Bytes) (entry : MemberAt → ℕ) (searched 
             near-key = rw (h .0) (omega (arith, now .near-key, ln));
             near-val = rw (h .0) (omega (arith, now .near-val, lv));
             key-on = rw (h .0) (omega (arith, now .key-on));
+            val-on = rw (h .0) (omega (arith, now .val-on));
             val-rest = rw (h .0, add-one i) (omega (arith, now .val-rest, ap (λ (l : List MemberAt). length (column value l)) cut, column-cons value m (drop (suc i) all)));
             run = now .run ∙ rw (cut, add-one i, h .0, h .1);
             as-long = ap length (h .1) ∙ length-stored ∙ now .as-long;

@@ -22,6 +22,7 @@ use Rattle.layout.specs.declared.check.Check.the-variants.{Readable}
 use Rattle.layout.specs.declared.util.Header.{Header}
 use Rattle.layout.specs.declared.util.Header.the-variants.{Array, Object, Scalar, Refused}
 use Rattle.layout.proofs.Encoding.{names-count}
+use Rattle.layout.proofs.Patches.{length-patch}
 use Rattle.layout.proofs.Places.{take-parts}
 use Rattle.layout.proofs.Sounds.{rising-test, rising-names}
 use Rattle.builders.specs.Order.{find, in-order}
@@ -91,6 +92,9 @@ no-manner s (Refused r) e a p q = let z : _≡_ {A = ℕ} 0 1 = cc in let w : �
 -- The same bytes, written in another way.
 pub left-as : (r : ℕ) (before after : Bytes) (at : ℕ) (b c : Bytes) → c ≡ b → Left r before after at b → Left r before after at c
 left-as r before after at b c e h = rw e h
+
+pub left-length : {r : ℕ} {before after : Bytes} {at : ℕ} {b : Bytes} → Left r before after at b → length after ≡ length before
+left-length h = ap length (h .stored) ∙ length-patch _ _ _
 
 -- A list without one of its places.
 without-split : (l : List Part) (q : Part) (r : List Part) (k : ℕ) → length l ≡ k → without k (l ++ (q ∷ r)) ≡ l ++ r

@@ -19,6 +19,8 @@ pub mod Withouts
 pub mod Sorteds
 pub mod Leds
 pub mod Onwards
+pub mod Anews
+pub mod Reweaves
 pub mod Manners
 pub mod Measures
 pub mod Helds

@@ -146,3 +146,22 @@ below s path w a allowance o c h =
     let e₂ = steps-cons path (way-behind path w) (h .more) in
     let k = contains allowance s o (c .short) (c .readable) in
     below-by s path w a allowance _ _ o c h e₂ (k .0) (k .1)
+
+-- What is left of a container in which the rest of a path finds an item is no longer than it.
+pub cuts-shorter : (s path : Bytes) (w : Way) (allowance : ℕ) → Octets s → Cuts s path w allowance → length (left-of s (steps-from path w)) ≤ length s
+unfolding left-of finding
+cuts-shorter s path w allowance o c =
+    let k = contains allowance s o (c .short) (c .readable) in
+    let k₆ : Contains 64 s (k .0) = contains-more allowance 64 s (k .0) o (c .allowed) (k .1) in
+    let all = steps-cons path w (c .more) in
+    let p : Step = step-at path (w .step) in
+    let q : List Step = steps-from path (way-behind path w) in
+    let found : look-up (step-at path (w .step) ∷ steps-from path (way-behind path w)) (k .0) ≡ some (c .finds .0) = rw (all, k₆ .reads) at (c .finds .1) in
+    let u : Tree = anew (step-into (step-at path (w .step)) (k .0) then left (steps-from path (way-behind path w))) (step-at path (w .step)) (k .0) in
+    rw (all, k₆ .reads)
+    (omega (
+      arith,
+      left-no-longer (step-at path (w .step)) (steps-from path (way-behind path w)) (k .0) (c .finds .0)
+          (anew (step-into (step-at path (w .step)) (k .0) then left (steps-from path (way-behind path w))) (step-at path (w .step)) (k .0)) found refl,
+      ap length (k₆ .bytes),
+    ))

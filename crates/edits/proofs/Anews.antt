@@ -1,0 +1,111 @@
+-- A container with one of its parts written anew, as the code stores it.
+use Prim.Native.Nat.{ℕ, suc, _+_, _*_, _-_, _%_, _^_, _≤_, _<_}
+use native.Mathlib.Omega.{arith}
+use mathlib.Core.Path.{_≡_, refl, ap, ap₂, sym, _∙_}
+use mathlib.Core.List.{List, [], _∷_, _++_}
+use mathlib.Core.Option.{some}
+use lib.ListN.{length, take, drop}
+use lib.Seq.{take-at}
+use Rattle.layout.specs.Bytes.{Bytes, Octets, be32, word-at, word}
+use Rattle.layout.specs.Entry.{entry-of, length-of, entry-at}
+use Rattle.layout.specs.Tree.{Tree, kind}
+use Rattle.layout.specs.Encode.{Part, entry-word, entries, payloads, payload, part, record-of}
+use Rattle.layout.specs.Check.{checked}
+use Rattle.layout.specs.Patch.{patch}
+use Rattle.layout.specs.declared.item.Kind.the-variants.{Container}
+use Rattle.layout.proofs.Answers.{gives-inj}
+use Rattle.layout.proofs.Words.{word-be32}
+use Rattle.edits.specs.Path.{Step}
+use Rattle.edits.specs.Find.{step-into}
+use Rattle.edits.specs.Delete.{anew}
+use Rattle.edits.specs.Spot.{behind}
+use Rattle.edits.specs.Cut.{Left, Cuts, Onward, InRuns, left-of, step-at, steps-from, way-behind, parts-of, run-entries, run-payloads, run-behind}
+use Rattle.edits.specs.declared.find.PartAt.{PartAt}
+use Rattle.edits.specs.declared.delete.Cursor.{Cursor}
+use Rattle.edits.specs.declared.delete.Way.{Way}
+use Rattle.edits.proofs.Deletes.{some-inj}
+use Rattle.edits.proofs.Tables.{parted}
+use Rattle.edits.proofs.Cuts.{Part-at, at-part, anew-stored}
+use Rattle.edits.proofs.Leds.{Led, runs-led, left-as}
+use Rattle.edits.proofs.Onwards.{Below, below}
+
+drop-one : (l : List Part) (q : Part) (r : List Part) (k : ℕ) → length l ≡ k → drop (suc k) (l ++ (q ∷ r)) ≡ r
+drop-one [] q r k e = rw (← e)
+drop-one (x ∷ l) q r k e = rw (← e) (drop-one l q r (length l) refl)
+
+module _ (s path : Bytes) (n : ℕ) (a : PartAt) (w : Way) (allowance : ℕ) (o : Octets s) (c : Cuts s path w allowance) (h : Onward s path w a)
+    (r : InRuns s n) where
+  pub down : Below s path w a allowance
+  down = below s path w a allowance o c h
+
+  led : Led s n a (step-at path (w .step))
+  led = runs-led s n a (step-at path (w .step)) o (ap checked (down .contained .reads)) (c .short) r (h .leads)
+
+  pub here : Part-at s n a
+  here = at-part s n a (parted s n o (led .table)) (led .inside)
+
+  -- The part that is put in its stead.
+  abbrev pub new-part : Part
+  new-part = record { kind = Container; bytes = payload (down .after) }
+
+  same-tree : led .tree ≡ down .tree
+  same-tree = gives-inj (sym (led .contained .reads) ∙ down .contained .reads)
+
+  lefts : here .nth .left ≡ led .left
+  lefts = sym (here .nth .taken) ∙ ap (take (a .index)) (led .parts) ∙ take-at (led .left) (part (led .value) ∷ led .right) (a .index) (led .before)
+
+  rights : here .nth .right ≡ led .right
+  rights = sym (here .nth .dropped) ∙ ap (drop (suc (a .index))) (led .parts) ∙ drop-one (led .left) (part (led .value)) (led .right) (a .index) (led .before)
+
+  head-word : word-at s 0 ≡ led .word
+  unfolding word-at
+  head-word = ap word (sym (led .bytes)) ∙ word-be32 (led .word) _ (led .small)
+
+  new-is : part (down .after) ≡ new-part
+  new-is = rw (down .made)
+
+  pub left-anew : left-of s (steps-from path w) ≡ record-of (word-at s 0) (here .nth .left ++ (new-part ∷ here .nth .right))
+  left-anew =
+      down .left-is
+      ∙ ap (λ (t : Tree). payload (anew (some (down .after)) (step-at path (w .step)) t)) (sym same-tree)
+      ∙ led .changed (down .after)
+      ∙ rw (head-word, lefts, rights, new-is)
+
+  -- The bytes that the nested call is given.
+  pub child-bytes : (next : PartAt) → next ≡ behind s a → take (next .place - a .place) (drop (a .place) s) ≡ payload (down .value)
+  child-bytes next e =
+      let z : next .place - a .place ≡ length-of (entry-at s (a .index)) = rw e (omega arith) in
+      rw z (down .child)
+
+  pub child-end : (next : PartAt) → next ≡ behind s a → (a .place ≤ next .place) × (next .place ≤ length s)
+  child-end next e = rw e (omega arith, omega (arith, here .size, here .end))
+
+  pub child-cuts : (next : PartAt) (w′ : Way) → next ≡ behind s a → w′ ≡ way-behind path w
+      → Cuts (take (next .place - a .place) (drop (a .place) s)) path w′ (allowance - 1)
+  child-cuts next w′ e ew = rw (child-bytes next e, ew) (down .cuts)
+
+  module _ (next : PartAt) (w′ : Way) (en : next ≡ behind s a) (ew : w′ ≡ way-behind path w) where
+    pub child-left : left-of (take (next .place - a .place) (drop (a .place) s)) (steps-from path w′) ≡ payload (down .after)
+    child-left = rw (child-bytes next en, ew) (down .inner)
+
+    pub child-short : (len : ℕ) (b b′ : Bytes) (p : ℕ) → Left len b b′ p (left-of (take (next .place - a .place) (drop (a .place) s)) (steps-from path w′))
+        → a .place + len ≤ length s
+    child-short len b b′ p l = omega (arith, l .length-is, ap length child-left, down .shorter, down .child-within)
+
+    module _ (b b₁ b₂ b₃ b₄ b₅ : Bytes) (at v len e : ℕ) (start at₁ rest end : Cursor) where
+      pub part-anew-stored : v ≡ word-at s 0 → b₁ ≡ patch b at (be32 v) → start .jentry ≡ at + 4 → start .place ≡ at + (4 + 4 * n)
+          → (at₁ ≡ run-behind (record { index = 0; place = 4 + 4 * n }) a start)
+          × (b₂ ≡ patch (patch b₁ (start .jentry) (run-entries s (record { index = 0; place = 4 + 4 * n }) a)) (start .place) (run-payloads s (record { index = 0; place = 4 + 4 * n }) a))
+          → Left len b₂ b₃ (at₁ .place) (left-of (take (next .place - a .place) (drop (a .place) s)) (steps-from path w′))
+          → e ≡ entry-of (5 % 2 ^ 3) (len % 2 ^ 28) → b₄ ≡ patch b₃ (at₁ .jentry) (be32 e)
+          → rest .jentry ≡ at₁ .jentry + 4 → rest .place ≡ at₁ .place + len
+          → (end ≡ run-behind next (record { index = n; place = length s }) rest)
+          × (b₅ ≡ patch (patch b₄ (rest .jentry) (run-entries s next (record { index = n; place = length s }))) (rest .place) (run-payloads s next (record { index = n; place = length s })))
+          → Left (end .place - at) b b₅ at (left-of s (steps-from path w))
+      part-anew-stored ev e₁ sj sp h₁ l ee e₄ rj rp h₂ =
+          let ln : len ≡ length (payload (down .after)) = l .length-is ∙ ap length child-left in
+          let small = child-short len b₂ b₃ (at₁ .place) l in
+          let ez : e ≡ entry-word new-part = ee ∙ omega (arith, ln, small, c .short) in
+          left-as _ b b₅ at _ _ (left-anew ∙ ap (λ (x : ℕ). record-of x (here .nth .left ++ (new-part ∷ here .nth .right))) (sym ev))
+          (anew-stored s n a here b b₁ b₂ b₃ b₄ b₅ at v len e start at₁ rest end next new-part e₁ sj sp h₁
+          (left-as len b₂ b₃ (at₁ .place) _ _ (sym child-left) l) ez e₄ rj rp en h₂)
