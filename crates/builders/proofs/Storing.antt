@@ -68,18 +68,18 @@ module _ (name : MemberAt → Bytes) (searched : List MemberAt) where
     sought-end q = nth-none in-turn i (sym next-is ∙ q)
 
     module _ (m : MemberAt) (q : found ≡ At m) where
-      here : nth in-turn i ≡ At m
-      here = sym next-is ∙ q
+      pub sought-nth : nth in-turn i ≡ At m
+      sought-nth = sym next-is ∙ q
 
       pub sought-cut : drop i in-turn ≡ m ∷ drop (suc i) in-turn
-      sought-cut = nth-drop in-turn i m here
+      sought-cut = nth-drop in-turn i m sought-nth
 
       pub sought-more : (next : Bytes) → next ≡ name m → Sought next (i + 1)
       sought-more next e =
           let later : eqb (i + 1) 0 ≡ false = ne-eqb (i + 1) 0 (λ z. omega arith) in
           record {
-            count = omega (arith, nth-inside in-turn i m here);
-            known = rw (later, add-one i, e) (sym (bound-next name in-turn i m here));
+            count = omega (arith, nth-inside in-turn i m sought-nth);
+            known = rw (later, add-one i, e) (sym (bound-next name in-turn i m sought-nth));
           }
 
 -- The loop: `i` members of those in byte order are stored, and the rest is to come.

@@ -21,6 +21,7 @@ pub mod Leds
 pub mod Onwards
 pub mod Anews
 pub mod Reweaves
+pub mod SortedAnews
 pub mod Manners
 pub mod Measures
 pub mod Helds

@@ -1,20 +1,20 @@
 -- One level down: from a container in which the rest of a path finds an item to the part that the next step leads to.
 use Prim.Native.Nat.{ℕ, zero, suc, _+_, _*_, _-_, _^_, _≤_, _<_}
 use native.Mathlib.Omega.{arith}
-use mathlib.Core.Path.{_≡_, refl, ap, sym, _∙_}
+use mathlib.Core.Path.{_≡_, refl, ap, ap₂, sym, _∙_}
 use mathlib.Core.Bool.{true, false}
 use mathlib.Core.List.{List, [], _∷_}
 use mathlib.Core.Option.{Option, none as nothing, some}
 use lib.ListN.{length, take, drop}
 use Rattle.layout.specs.Bytes.{Bytes, Octets}
 use Rattle.layout.specs.Answer.{gives}
-use Rattle.layout.specs.Entry.{length-of, entry-at}
+use Rattle.layout.specs.Entry.{code-of, length-of, entry-at}
 use Rattle.layout.specs.Tree.{Tree, null, boolean, number, string, extension, array, object, Items, none, item, Members, empty, member, kind}
 use Rattle.layout.specs.Encode.{Part, payload, part}
 use Rattle.layout.specs.Read.{header, nested}
 use Rattle.layout.specs.Check.{checked}
 use Rattle.layout.specs.Limits.{Valid, depth, depth-items, depth-members, size}
-use Rattle.layout.specs.Place.{parts-at}
+use Rattle.layout.specs.Place.{part-at, parts-at}
 use Rattle.layout.specs.declared.item.Kind.the-variants.{Container}
 use Rattle.layout.specs.declared.check.Check.the-variants.{Readable}
 use Rattle.layout.proofs.Fields.{length-lt}
@@ -24,17 +24,19 @@ use Rattle.builders.specs.Order.{find, by}
 use Rattle.edits.specs.Path.{Step}
 use Rattle.edits.specs.Find.{_then_, step-into, look-up, item-at, step-place, step-name}
 use Rattle.edits.specs.Delete.{left, anew, delete}
-use Rattle.edits.specs.Steps.{part-steps}
+use Rattle.edits.specs.Steps.{code-key, step}
 use Rattle.edits.specs.Spot.{spot, behind}
 use Rattle.edits.specs.Held.{finding}
 use Rattle.edits.specs.Cut.{left-of, step-at, steps-from, way-behind, Cuts, Onward}
 use Rattle.edits.specs.declared.find.PartAt.{PartAt}
-use Rattle.edits.specs.declared.find.Spot.the-variants.{At}
+use Rattle.edits.specs.declared.find.Spot.{Spot}
+use Rattle.edits.specs.declared.find.Spot.the-variants.{Nothing, At}
 use Rattle.edits.specs.declared.delete.Way.{Way}
 use Rattle.edits.proofs.Deletes.{then-some, some-inj, nothing-some}
 use Rattle.edits.proofs.Kept.{delete-kept, step-inside}
 use Rattle.edits.proofs.Tables.{Contains, contains, contains-more}
-use Rattle.edits.proofs.Spots.{Spotted, spot-part}
+use Rattle.edits.proofs.Keys.{part-key-at}
+use Rattle.edits.proofs.Spots.{Spotted, spot-part, spot-none}
 
 -- The next step, and those behind it.
 pub steps-cons : (path : Bytes) (w : Way) → w .step .index < w .count → steps-from path w ≡ step-at path (w .step) ∷ steps-from path (way-behind path w)
@@ -165,3 +167,36 @@ cuts-shorter s path w allowance o c =
           (anew (step-into (step-at path (w .step)) (k .0) then left (steps-from path (way-behind path w))) (step-at path (w .step)) (k .0)) found refl,
       ap length (k₆ .bytes),
     ))
+
+-- The next step, as the code reads it, and where it leads.
+module _ (s path : Bytes) (w : Way) (e l : ℕ) (piece : Bytes) (he : e ≡ entry-at path (w .step .index)) (hl : l ≡ length-of e)
+    (hp : piece ≡ take l (drop (w .step .place) path)) (r : Spot)
+    (hr : r ≡ spot (header s) s (step (code-key (code-of e) piece) piece)) where
+  leads-is : r ≡ spot (header s) s (step-at path (w .step))
+  leads-is =
+      let q = part-key-at path (w .step .index) (w .step .place) e l piece he hl hp in
+      let b : part-at path (w .step .index) (w .step .place) .bytes ≡ piece = sym (hp ∙ rw (hl, he)) in
+      hr ∙ ap (spot (header s) s) (sym (ap₂ step q b))
+
+  pub leads-on : (a : PartAt) → r ≡ At a → spot (header s) s (step-at path (w .step)) ≡ At a
+  leads-on a q = sym leads-is ∙ q
+
+  pub leads-nowhere : {C : Type 0} (allowance : ℕ) → Octets s → Cuts s path w allowance → r ≡ Nothing → C
+  unfolding finding
+  leads-nowhere allowance o c q =
+      let k = contains allowance s o (c .short) (c .readable) in
+      let k₆ : Contains 64 s (k .0) = contains-more allowance 64 s (k .0) o (c .allowed) (k .1) in
+      let none = spot-none (k .0) s (step-at path (w .step)) (k₆ .bytes) (k₆ .container) (k₆ .short) (sym leads-is ∙ q) in
+      let found : look-up (step-at path (w .step) ∷ steps-from path (way-behind path w)) (k .0) ≡ some (c .finds .0) = rw (steps-cons path w (c .more), k₆ .reads) at (c .finds .1) in
+      nothing-some (rw none at found)
+
+-- The last step.
+pub last-step : (path : Bytes) (w : Way) → w .step .index + 1 ≡ w .count → steps-from path w ≡ step-at path (w .step) ∷ []
+unfolding parts-at
+last-step path w h = let z : w .count - w .step .index ≡ suc 0 = omega arith in rw z
+
+-- Readable with as many levels as a record has.
+pub whole-levels : (s path : Bytes) (w : Way) (allowance : ℕ) → Octets s → Cuts s path w allowance → checked (nested 64 s) ≡ Readable
+whole-levels s path w allowance o c =
+    let k = contains allowance s o (c .short) (c .readable) in
+    ap checked (contains-more allowance 64 s (k .0) o (c .allowed) (k .1) .reads)

@@ -1,3 +1,18 @@
+-- `edits::delete::put_deleted` and what it calls in a cycle meet their contracts: the allowance falls with each level.
+use Rattle.edits.proofs.Onwards.{leads-on, leads-nowhere, last-step, whole-levels}
+use Rattle.edits.proofs.Leds.{manner-array, manner-object, manner-search, no-manner, left-as}
+use Rattle.edits.specs.Cut.{left-of}
+use Rattle.layout.proofs.Checks.{told-object}
+use mathlib.Core.Logic.{inl, inr}
+use mathlib.Core.Path.{sym, _∙_}
+use Rattle.edits.proofs.SortedAnews.{at-value, allows, anew-room, anew-count, anew-cuts, value-anew-short, anew-left}
+use Rattle.edits.specs.Cut.{steps-from, anew-value, anew-entry}
+use Rattle.builders.proofs.Storing.{sought-nth, sought-end, sought-all, Stored, begins, goes, ends-early, ends-full, ends-val, few-searched}
+use Rattle.builders.proofs.Searches.{bytes-short}
+use Rattle.builders.specs.declared.search.Places.{Places}
+use Rattle.builders.specs.declared.search.Kept.the-variants.{All}
+use Rattle.builders.specs.Search.{name-in, members-at, kept-of}
+use Prim.Native.Nat.{_-_}
 use Rattle.edits.proofs.Reweaves.{value-cuts, value-short, named-stored, other-stored, stored-length}
 use Rattle.builders.proofs.Storing.{payload-short}
 use Rattle.edits.proofs.Leds.{left-length}
@@ -134,115 +149,115 @@ put-sorted-anew-claims t = (members-of-reads.Asked, members-of-reads.Learnt, nam
 
 -- src/delete.rt:394:9
 put-deleted-read-jentry-requires : (t : ℕ) → put-deleted-lts.Need-read-jentry-requires (put-deleted-claims t) (put-deleted-at t) put-deleted.Post
-put-deleted-read-jentry-requires t c κs = ?
+put-deleted-read-jentry-requires t c κs = omega (arith, c .before .before .before .pre .1 .0 .more, c .before .before .before .pre .1 .0 .few)
 
 -- src/delete.rt:395:44
 put-deleted-payload-len-requires : (t : ℕ) → put-deleted-lts.Need-payload-len-requires (put-deleted-claims t) (put-deleted-at t) put-deleted.Post
-put-deleted-payload-len-requires t c κs = ?
+put-deleted-payload-len-requires t c κs = search needs
 
 -- src/delete.rt:395:44
 put-deleted-cast-slice : (t : ℕ) → put-deleted-lts.Need-cast-slice (put-deleted-claims t) (put-deleted-at t) put-deleted.Post
-put-deleted-cast-slice t c = ?
+put-deleted-cast-slice t c = search needs
 
 -- src/delete.rt:395:9
 put-deleted-slice-requires : (t : ℕ) → put-deleted-lts.Need-slice-requires (put-deleted-claims t) (put-deleted-at t) put-deleted.Post
-put-deleted-slice-requires t c κs = ?
+put-deleted-slice-requires t c κs = search needs
 
 -- src/delete.rt:396:26
 put-deleted-find-step-requires : (t : ℕ) → put-deleted-lts.Need-find-step-requires (put-deleted-claims t) (put-deleted-at t) put-deleted.Post
-put-deleted-find-step-requires t c κs = ?
+put-deleted-find-step-requires t c κs = search needs
 
 -- src/delete.rt:396:18
 put-deleted-enum-known-part : (t : ℕ) → put-deleted-lts.Need-enum-known-part (put-deleted-claims t) (put-deleted-at t) put-deleted.Post
-put-deleted-enum-known-part t c = ?
+put-deleted-enum-known-part t c = search needs
 
 -- src/delete.rt:397:9
 put-deleted-enum-told : (t : ℕ) → put-deleted-lts.Need-enum-told (put-deleted-claims t) (put-deleted-at t) put-deleted.Post
-put-deleted-enum-told t c = ?
+put-deleted-enum-told t c = search needs
 
 -- src/delete.rt:397:9
 put-deleted-returns : (t : ℕ) → put-deleted-lts.Need-returns (put-deleted-claims t) (put-deleted-at t) put-deleted.Post
-put-deleted-returns t c = ?
+put-deleted-returns t c = leads-nowhere (c .before .before .before .before .before .before .before .before .before .args .s .now) (c .before .before .before .before .before .before .before .before .before .args .path .now) (c .before .before .before .before .before .before .before .before .before .args .way) _ _ _ (c .before .before .before .before .before .read-jentry .ensures) (c .before .before .before .before .payload-len .ensures) (c .before .before .before .slice .ensures) _ (c .before .before .find-step .ensures) (c .before .before .before .before .before .before .before .before .before .args .allowance) (octets-of (c .before .before .before .before .before .before .before .before .before .args .s .now) (λ i. omega (arith, c .before .before .before .before .before .before .before .before .shared-slice-known .given i))) (c .before .before .before .before .before .before .before .before .before .pre .1 .0) (c .enum-told .given .1)
 
 -- src/delete.rt:399:8
 put-deleted-add-if1 : (t : ℕ) → put-deleted-lts.Need-add-if1 (put-deleted-claims t) (put-deleted-at t) put-deleted.Post
-put-deleted-add-if1 t c = ?
+put-deleted-add-if1 t c = omega (arith, c .before .before .before .before .before .before .before .before .before .before .before .pre .1 .0 .more, c .before .before .before .before .before .before .before .before .before .before .before .pre .1 .0 .few)
 
 -- src/delete.rt:400:9
 put-deleted-put-without-requires : (t : ℕ) → put-deleted-lts.Need-put-without-requires (put-deleted-claims t) (put-deleted-at t) put-deleted.Post
-put-deleted-put-without-requires t c κs = ?
+put-deleted-put-without-requires t c κs = ((whole-levels (c .before .before .before .before .before .before .before .before .before .before .before .before .before .before .args .s .now) (c .before .before .before .before .before .before .before .before .before .before .before .before .before .before .args .path .now) (c .before .before .before .before .before .before .before .before .before .before .before .before .before .before .args .way) (c .before .before .before .before .before .before .before .before .before .before .before .before .before .before .args .allowance) (octets-of (c .before .before .before .before .before .before .before .before .before .before .before .before .before .before .args .s .now) (λ i. omega (arith, c .before .before .before .before .before .before .before .before .before .before .before .before .before .shared-slice-known .given i))) (c .before .before .before .before .before .before .before .before .before .before .before .before .before .before .pre .1 .0)), c .before .before .before .before .before .before .before .before .before .before .before .before .before .before .pre .1 .0 .short, (_, (leads-on (c .before .before .before .before .before .before .before .before .before .before .before .before .before .before .args .s .now) (c .before .before .before .before .before .before .before .before .before .before .before .before .before .before .args .path .now) (c .before .before .before .before .before .before .before .before .before .before .before .before .before .before .args .way) _ _ _ (c .before .before .before .before .before .before .before .before .before .before .read-jentry .ensures) (c .before .before .before .before .before .before .before .before .before .payload-len .ensures) (c .before .before .before .before .before .before .before .before .slice .ensures) _ (c .before .before .before .before .before .before .before .find-step .ensures) _ (c .before .before .before .before .before .part .given .1))), omega (arith, c .before .before .before .before .before .before .before .before .before .before .before .before .before .before .pre .1 .1, c .before .before .before .before .before .before .before .before .before .before .before .before .before .before .pre .1 .0 .allowed))
 
 -- src/delete.rt:400:9
 put-deleted-same-length : (t : ℕ) → put-deleted-lts.Need-same-length (put-deleted-claims t) (put-deleted-at t) put-deleted.Post
-put-deleted-same-length t c = ?
+put-deleted-same-length t c = left-length (left-as _ _ _ _ _ _ (ap (left-of (c .before .before .before .before .before .before .before .before .before .before .before .before .before .before .before .before .before .args .s .now)) (last-step (c .before .before .before .before .before .before .before .before .before .before .before .before .before .before .before .before .before .args .path .now) (c .before .before .before .before .before .before .before .before .before .before .before .before .before .before .before .before .before .args .way) (c .before .before .before .before .if1 .taken))) (c .before .before .put-without .ensures _ (leads-on (c .before .before .before .before .before .before .before .before .before .before .before .before .before .before .before .before .before .args .s .now) (c .before .before .before .before .before .before .before .before .before .before .before .before .before .before .before .before .before .args .path .now) (c .before .before .before .before .before .before .before .before .before .before .before .before .before .before .before .before .before .args .way) _ _ _ (c .before .before .before .before .before .before .before .before .before .before .before .before .before .read-jentry .ensures) (c .before .before .before .before .before .before .before .before .before .before .before .before .payload-len .ensures) (c .before .before .before .before .before .before .before .before .before .before .before .slice .ensures) _ (c .before .before .before .before .before .before .before .before .before .before .find-step .ensures) _ (c .before .before .before .before .before .before .before .before .part .given .1))))
 
 -- src/delete.rt:400:9
 put-deleted-returns-2 : (t : ℕ) → put-deleted-lts.Need-returns-2 (put-deleted-claims t) (put-deleted-at t) put-deleted.Post
-put-deleted-returns-2 t c = ?
+put-deleted-returns-2 t c = left-as _ _ _ _ _ _ (ap (left-of (c .before .before .before .before .before .before .before .before .before .before .before .before .before .before .before .before .before .args .s .now)) (last-step (c .before .before .before .before .before .before .before .before .before .before .before .before .before .before .before .before .before .args .path .now) (c .before .before .before .before .before .before .before .before .before .before .before .before .before .before .before .before .before .args .way) (c .before .before .before .before .if1 .taken))) (c .before .before .put-without .ensures _ (leads-on (c .before .before .before .before .before .before .before .before .before .before .before .before .before .before .before .before .before .args .s .now) (c .before .before .before .before .before .before .before .before .before .before .before .before .before .before .before .before .before .args .path .now) (c .before .before .before .before .before .before .before .before .before .before .before .before .before .before .before .before .before .args .way) _ _ _ (c .before .before .before .before .before .before .before .before .before .before .before .before .before .read-jentry .ensures) (c .before .before .before .before .before .before .before .before .before .before .before .before .payload-len .ensures) (c .before .before .before .before .before .before .before .before .before .before .before .slice .ensures) _ (c .before .before .before .before .before .before .before .before .before .before .find-step .ensures) _ (c .before .before .before .before .before .before .before .before .part .given .1)))
 
 -- src/delete.rt:402:11
 put-deleted-manner-of-requires : (t : ℕ) → put-deleted-lts.Need-manner-of-requires (put-deleted-claims t) (put-deleted-at t) put-deleted.Post
-put-deleted-manner-of-requires t c κs = ?
+put-deleted-manner-of-requires t c κs = search needs
 
 -- src/delete.rt:403:23
 put-deleted-enum-known-n : (t : ℕ) → put-deleted-lts.Need-enum-known-n (put-deleted-claims t) (put-deleted-at t) put-deleted.Post
-put-deleted-enum-known-n t c = ?
+put-deleted-enum-known-n t c = search needs
 
 -- src/delete.rt:403:29
 put-deleted-put-part-anew-requires : (t : ℕ) → put-deleted-lts.Need-put-part-anew-requires (put-deleted-claims t) (put-deleted-at t) put-deleted.Post
-put-deleted-put-part-anew-requires t c κs = ?
+put-deleted-put-part-anew-requires t c κs = (omega (arith, c .before .before .before .before .before .before .before .before .before .before .before .before .before .before .before .before .before .before .pre .0), (c .before .before .before .before .before .before .before .before .before .before .before .before .before .before .before .before .before .before .pre .1 .0, (record { leads = leads-on (c .before .before .before .before .before .before .before .before .before .before .before .before .before .before .before .before .before .before .args .s .now) (c .before .before .before .before .before .before .before .before .before .before .before .before .before .before .before .before .before .before .args .path .now) (c .before .before .before .before .before .before .before .before .before .before .before .before .before .before .before .before .before .before .args .way) _ _ _ (c .before .before .before .before .before .before .before .before .before .before .before .before .before .before .read-jentry .ensures) (c .before .before .before .before .before .before .before .before .before .before .before .before .before .payload-len .ensures) (c .before .before .before .before .before .before .before .before .before .before .before .before .slice .ensures) _ (c .before .before .before .before .before .before .before .before .before .before .before .find-step .ensures) _ (c .before .before .before .before .before .before .before .before .before .part .given .1); more = omega (arith, c .before .before .before .before .before .if1 .left, c .before .before .before .before .before .before .before .before .before .before .before .before .before .before .before .before .before .before .pre .1 .0 .more) }), inl (manner-array (c .before .before .before .before .before .before .before .before .before .before .before .before .before .before .before .before .before .before .args .s .now) _ _ (sym (c .before .before .n .given .1) ∙ c .before .before .before .before .manner-of .ensures)), c .before .before .before .before .before .before .before .before .before .before .before .before .before .before .before .before .before .before .pre .1 .1))
 
 -- src/delete.rt:404:24
 put-deleted-enum-known-n-2 : (t : ℕ) → put-deleted-lts.Need-enum-known-n-2 (put-deleted-claims t) (put-deleted-at t) put-deleted.Post
-put-deleted-enum-known-n-2 t c = ?
+put-deleted-enum-known-n-2 t c = search needs
 
 -- src/delete.rt:404:47
 put-deleted-add-put-part-anew : (t : ℕ) → put-deleted-lts.Need-add-put-part-anew (put-deleted-claims t) (put-deleted-at t) put-deleted.Post
-put-deleted-add-put-part-anew t c = ?
+put-deleted-add-put-part-anew t c = let h = (manner-object (c .before .before .before .before .before .before .before .before .before .before .before .before .before .before .before .before .before .args .s .now) _ _ (sym (c .before .n2 .given .1) ∙ c .before .before .before .manner-of .ensures)) in let b = told-object (c .before .before .before .before .before .before .before .before .before .before .before .before .before .before .before .before .before .args .s .now) _ refl _ (h .0) in omega (arith, b .1)
 
 -- src/delete.rt:404:30
 put-deleted-put-part-anew-requires-2 : (t : ℕ) → put-deleted-lts.Need-put-part-anew-requires-2 (put-deleted-claims t) (put-deleted-at t) put-deleted.Post
-put-deleted-put-part-anew-requires-2 t c κs = ?
+put-deleted-put-part-anew-requires-2 t c κs = let h = (manner-object (c .before .before .before .before .before .before .before .before .before .before .before .before .before .before .before .before .before .before .args .s .now) _ _ (sym (c .before .before .n2 .given .1) ∙ c .before .before .before .before .manner-of .ensures)) in (omega (arith, c .before .before .before .before .before .before .before .before .before .before .before .before .before .before .before .before .before .before .pre .0), (c .before .before .before .before .before .before .before .before .before .before .before .before .before .before .before .before .before .before .pre .1 .0, (record { leads = leads-on (c .before .before .before .before .before .before .before .before .before .before .before .before .before .before .before .before .before .before .args .s .now) (c .before .before .before .before .before .before .before .before .before .before .before .before .before .before .before .before .before .before .args .path .now) (c .before .before .before .before .before .before .before .before .before .before .before .before .before .before .before .before .before .before .args .way) _ _ _ (c .before .before .before .before .before .before .before .before .before .before .before .before .before .before .read-jentry .ensures) (c .before .before .before .before .before .before .before .before .before .before .before .before .before .payload-len .ensures) (c .before .before .before .before .before .before .before .before .before .before .before .before .slice .ensures) _ (c .before .before .before .before .before .before .before .before .before .before .before .find-step .ensures) _ (c .before .before .before .before .before .before .before .before .before .part .given .1); more = omega (arith, c .before .before .before .before .before .if1 .left, c .before .before .before .before .before .before .before .before .before .before .before .before .before .before .before .before .before .before .pre .1 .0 .more) }), inr (_, h .0, refl, h .1), c .before .before .before .before .before .before .before .before .before .before .before .before .before .before .before .before .before .before .pre .1 .1))
 
 -- src/delete.rt:405:26
 put-deleted-enum-known-n-3 : (t : ℕ) → put-deleted-lts.Need-enum-known-n-3 (put-deleted-claims t) (put-deleted-at t) put-deleted.Post
-put-deleted-enum-known-n-3 t c = ?
+put-deleted-enum-known-n-3 t c = search needs
 
 -- src/delete.rt:405:32
 put-deleted-put-sorted-anew-requires : (t : ℕ) → put-deleted-lts.Need-put-sorted-anew-requires (put-deleted-claims t) (put-deleted-at t) put-deleted.Post
-put-deleted-put-sorted-anew-requires t c κs = ?
+put-deleted-put-sorted-anew-requires t c κs = (omega (arith, c .before .before .before .before .before .before .before .before .before .before .before .before .before .before .before .before .before .before .pre .0), (c .before .before .before .before .before .before .before .before .before .before .before .before .before .before .before .before .before .before .pre .1 .0, (record { leads = leads-on (c .before .before .before .before .before .before .before .before .before .before .before .before .before .before .before .before .before .before .args .s .now) (c .before .before .before .before .before .before .before .before .before .before .before .before .before .before .before .before .before .before .args .path .now) (c .before .before .before .before .before .before .before .before .before .before .before .before .before .before .before .before .before .before .args .way) _ _ _ (c .before .before .before .before .before .before .before .before .before .before .before .before .before .before .read-jentry .ensures) (c .before .before .before .before .before .before .before .before .before .before .before .before .before .payload-len .ensures) (c .before .before .before .before .before .before .before .before .before .before .before .before .slice .ensures) _ (c .before .before .before .before .before .before .before .before .before .before .before .find-step .ensures) _ (c .before .before .before .before .before .before .before .before .before .part .given .1); more = omega (arith, c .before .before .before .before .before .if1 .left, c .before .before .before .before .before .before .before .before .before .before .before .before .before .before .before .before .before .before .pre .1 .0 .more) }), (manner-search (c .before .before .before .before .before .before .before .before .before .before .before .before .before .before .before .before .before .before .args .s .now) _ _ (sym (c .before .before .n3 .given .1) ∙ c .before .before .before .before .manner-of .ensures)), c .before .before .before .before .before .before .before .before .before .before .before .before .before .before .before .before .before .before .pre .1 .1))
 
 -- src/delete.rt:406:28
 put-deleted-enum-told-2 : (t : ℕ) → put-deleted-lts.Need-enum-told-2 (put-deleted-claims t) (put-deleted-at t) put-deleted.Post
-put-deleted-enum-told-2 t c = ?
+put-deleted-enum-told-2 t c = search needs
 
 -- src/delete.rt:390:1
 put-deleted-same-length-2 : (t : ℕ) → put-deleted-lts.Need-same-length-2 (put-deleted-claims t) (put-deleted-at t) put-deleted.Post
-put-deleted-same-length-2 t c = ?
+put-deleted-same-length-2 t c = left-length (c .before .before .put-part-anew .ensures)
 
 -- src/delete.rt:390:1
 put-deleted-returns-3 : (t : ℕ) → put-deleted-lts.Need-returns-3 (put-deleted-claims t) (put-deleted-at t) put-deleted.Post
-put-deleted-returns-3 t c = ?
+put-deleted-returns-3 t c = c .before .before .put-part-anew .ensures
 
 -- src/delete.rt:390:1
 put-deleted-same-length-3 : (t : ℕ) → put-deleted-lts.Need-same-length-3 (put-deleted-claims t) (put-deleted-at t) put-deleted.Post
-put-deleted-same-length-3 t c = ?
+put-deleted-same-length-3 t c = left-length (c .before .before .put-part-anew2 .ensures)
 
 -- src/delete.rt:390:1
 put-deleted-returns-4 : (t : ℕ) → put-deleted-lts.Need-returns-4 (put-deleted-claims t) (put-deleted-at t) put-deleted.Post
-put-deleted-returns-4 t c = ?
+put-deleted-returns-4 t c = c .before .before .put-part-anew2 .ensures
 
 -- src/delete.rt:390:1
 put-deleted-same-length-4 : (t : ℕ) → put-deleted-lts.Need-same-length-4 (put-deleted-claims t) (put-deleted-at t) put-deleted.Post
-put-deleted-same-length-4 t c = ?
+put-deleted-same-length-4 t c = left-length (c .before .before .put-sorted-anew .ensures)
 
 -- src/delete.rt:390:1
 put-deleted-returns-5 : (t : ℕ) → put-deleted-lts.Need-returns-5 (put-deleted-claims t) (put-deleted-at t) put-deleted.Post
-put-deleted-returns-5 t c = ?
+put-deleted-returns-5 t c = c .before .before .put-sorted-anew .ensures
 
 -- src/delete.rt:390:1
 put-deleted-returns-6 : (t : ℕ) → put-deleted-lts.Need-returns-6 (put-deleted-claims t) (put-deleted-at t) put-deleted.Post
-put-deleted-returns-6 t c = ?
+put-deleted-returns-6 t c = no-manner (c .before .before .before .before .before .before .before .before .before .before .before .before .before .before .before .before .args .s .now) _ (sym (c .enum-told2 .given .1) ∙ c .before .before .manner-of .ensures) _ _ (leads-on (c .before .before .before .before .before .before .before .before .before .before .before .before .before .before .before .before .args .s .now) (c .before .before .before .before .before .before .before .before .before .before .before .before .before .before .before .before .args .path .now) (c .before .before .before .before .before .before .before .before .before .before .before .before .before .before .before .before .args .way) _ _ _ (c .before .before .before .before .before .before .before .before .before .before .before .before .read-jentry .ensures) (c .before .before .before .before .before .before .before .before .before .before .before .payload-len .ensures) (c .before .before .before .before .before .before .before .before .before .before .slice .ensures) _ (c .before .before .before .before .before .before .before .before .before .find-step .ensures) _ (c .before .before .before .before .before .before .before .part .given .1))
 
 -- src/delete.rt:348:9
 put-member-anew-payload-at-requires : (t : ℕ) → put-member-anew-lts.Need-payload-at-requires (put-member-anew-claims t) (put-member-anew-at t) put-member-anew.Post
@@ -409,26 +424,27 @@ put-part-anew-returns : (t : ℕ) → put-part-anew-lts.Need-returns (put-part-a
 put-part-anew-returns t c = part-anew-stored (c .before .before .before .before .before .before .before .before .before .before .before .before .before .before .before .before .before .before .before .before .before .before .before .before .before .before .before .before .before .before .before .before .args .s .now) (c .before .before .before .before .before .before .before .before .before .before .before .before .before .before .before .before .before .before .before .before .before .before .before .before .before .before .before .before .before .before .before .before .args .path .now) (c .before .before .before .before .before .before .before .before .before .before .before .before .before .before .before .before .before .before .before .before .before .before .before .before .before .before .before .before .before .before .before .before .args .total) (c .before .before .before .before .before .before .before .before .before .before .before .before .before .before .before .before .before .before .before .before .before .before .before .before .before .before .before .before .before .before .before .before .args .part) (c .before .before .before .before .before .before .before .before .before .before .before .before .before .before .before .before .before .before .before .before .before .before .before .before .before .before .before .before .before .before .before .before .args .way) (c .before .before .before .before .before .before .before .before .before .before .before .before .before .before .before .before .before .before .before .before .before .before .before .before .before .before .before .before .before .before .before .before .args .allowance) (octets-of (c .before .before .before .before .before .before .before .before .before .before .before .before .before .before .before .before .before .before .before .before .before .before .before .before .before .before .before .before .before .before .before .before .args .s .now) (λ i. omega (arith, c .before .before .before .before .before .before .before .before .before .before .before .before .before .before .before .before .before .before .before .before .before .before .before .before .before .before .before .before .before .before .before .shared-slice-known .given i))) (c .before .before .before .before .before .before .before .before .before .before .before .before .before .before .before .before .before .before .before .before .before .before .before .before .before .before .before .before .before .before .before .before .pre .1 .0) (c .before .before .before .before .before .before .before .before .before .before .before .before .before .before .before .before .before .before .before .before .before .before .before .before .before .before .before .before .before .before .before .before .pre .1 .1) (c .before .before .before .before .before .before .before .before .before .before .before .before .before .before .before .before .before .before .before .before .before .before .before .before .before .before .before .before .before .before .before .before .pre .1 .2) _ _ (c .before .before .before .before .before .before .before .before .before .before .before .before .before .before .before .before .before .before .before .before .before .before .before .before .before .before .before .before .part-behind .ensures) (c .before .before .before .before .before .before .before .before .before .before .before .before .before .before .before .before .way-behind .ensures) _ _ _ _ _ _ _ _ _ _ _ _ _ _ (c .before .before .before .before .before .before .before .before .before .before .before .before .before .before .before .before .before .before .before .before .before .before .before .before .before .read-u32 .ensures) (c .before .before .before .before .before .before .before .before .before .before .before .before .before .before .before .before .before .before .before .before .before .before .before .before .put-u32 .ensures) refl refl (c .before .before .before .before .before .before .before .before .before .before .before .before .before .before .before .before .before .before .before .before .put-run .ensures) (c .before .before .before .before .before .before .before .before .before .before .before .before .before .before .put-deleted .ensures) (c .before .before .before .before .before .before .before .before .before .before .encoded .ensures) (c .before .before .before .before .before .before .before .before .before .put-u322 .ensures) refl refl (c .before .before .before .put-run2 .ensures)
 
 abbrev put-sorted-anew-Inv-loop : put-sorted-anew-lts.InvT-loop
-put-sorted-anew-Inv-loop s n path out₀ at allowance from name next to₀ last₀ i₀ out to last i = ?
+put-sorted-anew-Inv-loop s n path out₀ at allowance from name next to₀ last₀ i₀ out to last i =
+    Stored (name-in s) (anew-value s name (steps-from path next)) (anew-entry s name (steps-from path next)) (kept-of All 0 (members-at s s from n)) out₀ to₀ out last to i
 
 abbrev put-sorted-anew-μ-loop : put-sorted-anew-lts.MeasureT-loop
-put-sorted-anew-μ-loop s n path out₀ at allowance from name next to₀ last₀ i₀ out to last i = ?
+put-sorted-anew-μ-loop s n path out₀ at allowance from name next to₀ last₀ i₀ out to last i = n - i
 
 -- src/delete.rt:370:9
 put-sorted-anew-members-of-requires : (t : ℕ) → put-sorted-anew-lts.Need-members-of-requires (put-sorted-anew-claims t) (put-sorted-anew-at t) put-sorted-anew.Post put-sorted-anew-Inv-loop put-sorted-anew-μ-loop
-put-sorted-anew-members-of-requires t c κs = ?
+put-sorted-anew-members-of-requires t c κs = let v = at-value (c .before .before .before .args .s .now) (c .before .before .before .args .path .now) (c .before .before .before .args .n) (c .before .before .before .args .val) (c .before .before .before .args .way) (c .before .before .before .args .allowance) (octets-of (c .before .before .before .args .s .now) (λ i. omega (arith, c .before .before .shared-slice-known .given i))) (c .before .before .before .pre .1 .0) (c .before .before .before .pre .1 .1) (c .before .before .before .pre .1 .2) in omega (arith, v .table, v .short)
 
 -- src/delete.rt:371:30
 put-sorted-anew-sub-name-of : (t : ℕ) → put-sorted-anew-lts.Need-sub-name-of (put-sorted-anew-claims t) (put-sorted-anew-at t) put-sorted-anew.Post put-sorted-anew-Inv-loop put-sorted-anew-μ-loop
-put-sorted-anew-sub-name-of t c = ?
+put-sorted-anew-sub-name-of t c = let v = at-value (c .before .before .before .before .before .args .s .now) (c .before .before .before .before .before .args .path .now) (c .before .before .before .before .before .args .n) (c .before .before .before .before .before .args .val) (c .before .before .before .before .before .args .way) (c .before .before .before .before .before .args .allowance) (octets-of (c .before .before .before .before .before .args .s .now) (λ i. omega (arith, c .before .before .before .before .shared-slice-known .given i))) (c .before .before .before .before .before .pre .1 .0) (c .before .before .before .before .before .pre .1 .1) (c .before .before .before .before .before .pre .1 .2) in omega (arith, v .index)
 
 -- src/delete.rt:371:9
 put-sorted-anew-name-of-requires : (t : ℕ) → put-sorted-anew-lts.Need-name-of-requires (put-sorted-anew-claims t) (put-sorted-anew-at t) put-sorted-anew.Post put-sorted-anew-Inv-loop put-sorted-anew-μ-loop
-put-sorted-anew-name-of-requires t c κs = ?
+put-sorted-anew-name-of-requires t c κs = let v = at-value (c .before .before .before .before .before .args .s .now) (c .before .before .before .before .before .args .path .now) (c .before .before .before .before .before .args .n) (c .before .before .before .before .before .args .val) (c .before .before .before .before .before .args .way) (c .before .before .before .before .before .args .allowance) (octets-of (c .before .before .before .before .before .args .s .now) (λ i. omega (arith, c .before .before .before .before .shared-slice-known .given i))) (c .before .before .before .before .before .pre .1 .0) (c .before .before .before .before .before .pre .1 .1) (c .before .before .before .before .before .pre .1 .2) in (omega (arith, v .table, v .short), omega (arith, v .index, v .below))
 
 -- src/delete.rt:372:9
 put-sorted-anew-way-behind-requires : (t : ℕ) → put-sorted-anew-lts.Need-way-behind-requires (put-sorted-anew-claims t) (put-sorted-anew-at t) put-sorted-anew.Post put-sorted-anew-Inv-loop put-sorted-anew-μ-loop
-put-sorted-anew-way-behind-requires t c κs = ?
+put-sorted-anew-way-behind-requires t c κs = (omega (arith, c .before .before .before .before .before .before .pre .1 .0 .more, c .before .before .before .before .before .before .pre .1 .0 .few), omega (arith, c .before .before .before .before .before .before .pre .1 .0 .near, c .before .before .before .before .before .before .pre .1 .0 .more, c .before .before .before .before .before .before .pre .1 .0 .few))
 
 -- src/delete.rt:373:9
 put-sorted-anew-measure-members-requires :
@@ -454,55 +470,55 @@ put-sorted-anew-measure-members-requires :
       payload-at-reads.Asked,
       payload-at-reads.Learnt,
     ) (put-sorted-anew-at t) put-sorted-anew.Post put-sorted-anew-Inv-loop put-sorted-anew-μ-loop
-put-sorted-anew-measure-members-requires t c κs = ?
+put-sorted-anew-measure-members-requires t c κs = let v = at-value (c .before .before .before .before .before .before .before .args .s .now) (c .before .before .before .before .before .before .before .args .path .now) (c .before .before .before .before .before .before .before .args .n) (c .before .before .before .before .before .before .before .args .val) (c .before .before .before .before .before .before .before .args .way) (c .before .before .before .before .before .before .before .args .allowance) (octets-of (c .before .before .before .before .before .before .before .args .s .now) (λ i. omega (arith, c .before .before .before .before .before .before .shared-slice-known .given i))) (c .before .before .before .before .before .before .before .pre .1 .0) (c .before .before .before .before .before .before .before .pre .1 .1) (c .before .before .before .before .before .before .before .pre .1 .2) in let f0 = ap (λ (x : Places). x .«key_jentry») (c .before .before .before .members-of .ensures) in let f1 = ap (λ (x : Places). x .«val_jentry») (c .before .before .before .members-of .ensures) in let f2 = ap (λ (x : Places). x .key) (c .before .before .before .members-of .ensures) in let f3 = ap (λ (x : Places). x .val) (c .before .before .before .members-of .ensures) in (omega (arith, v .table, v .short), omega (arith, f0), omega (arith, f1, v .table, v .short), omega (arith, f2, v .table, v .short), omega (arith, f3, v .values, v .short))
 
 -- src/delete.rt:374:9
 put-sorted-anew-places-for-requires : (t : ℕ) → put-sorted-anew-lts.Need-places-for-requires (put-sorted-anew-claims t) (put-sorted-anew-at t) put-sorted-anew.Post put-sorted-anew-Inv-loop put-sorted-anew-μ-loop
-put-sorted-anew-places-for-requires t c κs = ?
+put-sorted-anew-places-for-requires t c κs = let g = anew-room (c .before .before .before .before .before .before .before .before .args .s .now) (c .before .before .before .before .before .before .before .before .args .path .now) (c .before .before .before .before .before .before .before .before .args .n) (c .before .before .before .before .before .before .before .before .args .val) (c .before .before .before .before .before .before .before .before .args .way) (c .before .before .before .before .before .before .before .before .args .allowance) (octets-of (c .before .before .before .before .before .before .before .before .args .s .now) (λ i. omega (arith, c .before .before .before .before .before .before .before .shared-slice-known .given i))) (c .before .before .before .before .before .before .before .before .pre .1 .0) (c .before .before .before .before .before .before .before .before .pre .1 .1) (c .before .before .before .before .before .before .before .before .pre .1 .2) _ _ _ _ (c .before .before .before .before .members-of .ensures) (c .measure-members .ensures) (c .before .way-behind .ensures) (c .before .before .name-of .ensures) in (omega (arith, g), omega (arith, g), omega (arith, c .before .before .before .before .before .before .before .before .pre .1 .3, c .before .before .before .before .before .before .before .before .pre .1 .0 .allowed))
 
 -- src/delete.rt:375:45
 put-sorted-anew-cast-put-u32 : (t : ℕ) → put-sorted-anew-lts.Need-cast-put-u32 (put-sorted-anew-claims t) (put-sorted-anew-at t) put-sorted-anew.Post put-sorted-anew-Inv-loop put-sorted-anew-μ-loop
-put-sorted-anew-cast-put-u32 t c = ?
+put-sorted-anew-cast-put-u32 t c = let g = anew-room (c .before .before .before .before .before .before .before .before .before .before .before .args .s .now) (c .before .before .before .before .before .before .before .before .before .before .before .args .path .now) (c .before .before .before .before .before .before .before .before .before .before .before .args .n) (c .before .before .before .before .before .before .before .before .before .before .before .args .val) (c .before .before .before .before .before .before .before .before .before .before .before .args .way) (c .before .before .before .before .before .before .before .before .before .before .before .args .allowance) (octets-of (c .before .before .before .before .before .before .before .before .before .before .before .args .s .now) (λ i. omega (arith, c .before .before .before .before .before .before .before .before .before .before .shared-slice-known .given i))) (c .before .before .before .before .before .before .before .before .before .before .before .pre .1 .0) (c .before .before .before .before .before .before .before .before .before .before .before .pre .1 .1) (c .before .before .before .before .before .before .before .before .before .before .before .pre .1 .2) _ _ _ _ (c .before .before .before .before .before .before .before .members-of .ensures) (c .before .before .before .measure-members .ensures) (c .before .before .before .before .way-behind .ensures) (c .before .before .before .before .before .name-of .ensures) in omega (arith, g)
 
 -- src/delete.rt:375:5
 put-sorted-anew-put-u32-requires : (t : ℕ) → put-sorted-anew-lts.Need-put-u32-requires (put-sorted-anew-claims t) (put-sorted-anew-at t) put-sorted-anew.Post put-sorted-anew-Inv-loop put-sorted-anew-μ-loop
-put-sorted-anew-put-u32-requires t c κs = ?
+put-sorted-anew-put-u32-requires t c κs = search needs
 
 -- src/delete.rt:376:9
 put-sorted-anew-slice-requires : (t : ℕ) → put-sorted-anew-lts.Need-slice-requires (put-sorted-anew-claims t) (put-sorted-anew-at t) put-sorted-anew.Post put-sorted-anew-Inv-loop put-sorted-anew-μ-loop
-put-sorted-anew-slice-requires t c κs = ?
+put-sorted-anew-slice-requires t c κs = search needs
 
 -- src/delete.rt:378:5
 put-sorted-anew-loop-holds : (t : ℕ) → put-sorted-anew-lts.Need-loop-holds (put-sorted-anew-claims t) (put-sorted-anew-at t) put-sorted-anew.Post put-sorted-anew-Inv-loop put-sorted-anew-μ-loop
-put-sorted-anew-loop-holds t c = ?
+put-sorted-anew-loop-holds t c = begins _ _ _ _ _ _ _
 
 -- src/delete.rt:379:33
 put-sorted-anew-next-member-requires : (t : ℕ) → put-sorted-anew-lts.Need-next-member-requires (put-sorted-anew-claims t) (put-sorted-anew-at t) put-sorted-anew.Post put-sorted-anew-Inv-loop put-sorted-anew-μ-loop
-put-sorted-anew-next-member-requires t c κs = ?
+put-sorted-anew-next-member-requires t c κs = let v = at-value (c .before .before .before .before .before .before .before .before .before .before .before .before .before .before .before .before .before .args .s .now) (c .before .before .before .before .before .before .before .before .before .before .before .before .before .before .before .before .before .args .path .now) (c .before .before .before .before .before .before .before .before .before .before .before .before .before .before .before .before .before .args .n) (c .before .before .before .before .before .before .before .before .before .before .before .before .before .before .before .before .before .args .val) (c .before .before .before .before .before .before .before .before .before .before .before .before .before .before .before .before .before .args .way) (c .before .before .before .before .before .before .before .before .before .before .before .before .before .before .before .before .before .args .allowance) (octets-of (c .before .before .before .before .before .before .before .before .before .before .before .before .before .before .before .before .before .args .s .now) (λ i. omega (arith, c .before .before .before .before .before .before .before .before .before .before .before .before .before .before .before .before .shared-slice-known .given i))) (c .before .before .before .before .before .before .before .before .before .before .before .before .before .before .before .before .before .pre .1 .0) (c .before .before .before .before .before .before .before .before .before .before .before .before .before .before .before .before .before .pre .1 .1) (c .before .before .before .before .before .before .before .before .before .before .before .before .before .before .before .before .before .pre .1 .2) in let f0 = ap (λ (x : Places). x .«key_jentry») (c .before .before .before .before .before .before .before .before .before .before .before .before .before .members-of .ensures) in let f1 = ap (λ (x : Places). x .«val_jentry») (c .before .before .before .before .before .before .before .before .before .before .before .before .before .members-of .ensures) in let f2 = ap (λ (x : Places). x .key) (c .before .before .before .before .before .before .before .before .before .before .before .before .before .members-of .ensures) in let f3 = ap (λ (x : Places). x .val) (c .before .before .before .before .before .before .before .before .before .before .before .before .before .members-of .ensures) in (omega (arith, v .table, v .short), omega (arith, f0), omega (arith, f1, v .table, v .short), omega (arith, f2, v .table, v .short), omega (arith, f3, v .values, v .short))
 
 -- src/delete.rt:379:23
 put-sorted-anew-enum-known-member : (t : ℕ) → put-sorted-anew-lts.Need-enum-known-member (put-sorted-anew-claims t) (put-sorted-anew-at t) put-sorted-anew.Post put-sorted-anew-Inv-loop put-sorted-anew-μ-loop
-put-sorted-anew-enum-known-member t c = ?
+put-sorted-anew-enum-known-member t c = search needs
 
 -- src/delete.rt:380:20
 put-sorted-anew-enum-told : (t : ℕ) → put-sorted-anew-lts.Need-enum-told (put-sorted-anew-claims t) (put-sorted-anew-at t) put-sorted-anew.Post put-sorted-anew-Inv-loop put-sorted-anew-μ-loop
-put-sorted-anew-enum-told t c = ?
+put-sorted-anew-enum-told t c = search needs
 
 -- src/delete.rt:380:20
 put-sorted-anew-sub-result : (t : ℕ) → put-sorted-anew-lts.Need-sub-result (put-sorted-anew-claims t) (put-sorted-anew-at t) put-sorted-anew.Post put-sorted-anew-Inv-loop put-sorted-anew-μ-loop
-put-sorted-anew-sub-result t c = ?
+put-sorted-anew-sub-result t c = let t0 = ap (λ (x : Places). x .«key_jentry») (c .before .before .before .before .before .before .before .before .before .before .before .before .places-for .ensures) in let t1 = ap (λ (x : Places). x .«val_jentry») (c .before .before .before .before .before .before .before .before .before .before .before .before .places-for .ensures) in let t2 = ap (λ (x : Places). x .key) (c .before .before .before .before .before .before .before .before .before .before .before .before .places-for .ensures) in let t3 = ap (λ (x : Places). x .val) (c .before .before .before .before .before .before .before .before .before .before .before .before .places-for .ensures) in omega (arith, c .before .before .before .before .before .loop .inv .val-on, t3)
 
 -- src/delete.rt:380:13
 put-sorted-anew-same-length : (t : ℕ) → put-sorted-anew-lts.Need-same-length (put-sorted-anew-claims t) (put-sorted-anew-at t) put-sorted-anew.Post put-sorted-anew-Inv-loop put-sorted-anew-μ-loop
-put-sorted-anew-same-length t c = ?
+put-sorted-anew-same-length t c = left-length (anew-left (c .before .before .before .before .before .before .before .before .before .before .before .before .before .before .before .before .before .before .before .before .before .args .s .now) (c .before .before .before .before .before .before .before .before .before .before .before .before .before .before .before .before .before .before .before .before .before .args .path .now) (c .before .before .before .before .before .before .before .before .before .before .before .before .before .before .before .before .before .before .before .before .before .args .n) (c .before .before .before .before .before .before .before .before .before .before .before .before .before .before .before .before .before .before .before .before .before .args .val) (c .before .before .before .before .before .before .before .before .before .before .before .before .before .before .before .before .before .before .before .before .before .args .way) (c .before .before .before .before .before .before .before .before .before .before .before .before .before .before .before .before .before .before .before .before .before .args .allowance) (octets-of (c .before .before .before .before .before .before .before .before .before .before .before .before .before .before .before .before .before .before .before .before .before .args .s .now) (λ i. omega (arith, c .before .before .before .before .before .before .before .before .before .before .before .before .before .before .before .before .before .before .before .before .shared-slice-known .given i))) (c .before .before .before .before .before .before .before .before .before .before .before .before .before .before .before .before .before .before .before .before .before .pre .1 .0) (c .before .before .before .before .before .before .before .before .before .before .before .before .before .before .before .before .before .before .before .before .before .pre .1 .1) (c .before .before .before .before .before .before .before .before .before .before .before .before .before .before .before .before .before .before .before .before .before .pre .1 .2) _ _ _ _ (c .before .before .before .before .before .before .before .before .before .before .before .before .before .before .before .before .before .members-of .ensures) (c .before .before .before .before .before .before .before .before .before .before .before .before .before .measure-members .ensures) (c .before .before .before .before .before .before .before .before .before .before .before .before .before .before .way-behind .ensures) (c .before .before .before .before .before .before .before .before .before .before .before .before .before .before .before .name-of .ensures) _ _ _ _ _ _ _ (c .before .before .before .before .before .before .before .before .before .before .before .before .places-for .ensures) refl (c .before .before .before .before .before .before .before .before .before .put-u32 .ensures) (ends-early _ _ _ _ _ _ _ _ _ _ (c .before .before .before .before .before .loop .inv) _ (c .before .before .before .next-member .ensures) (c .before .enum-told .given .1)) (ends-val _ _ _ _ _ _ _ _ _ _ (c .before .before .before .before .before .loop .inv) (sought-end (name-in (c .before .before .before .before .before .before .before .before .before .before .before .before .before .before .before .before .before .before .before .before .before .args .s .now)) _ _ _ (c .before .before .before .before .before .loop .inv .sought) _ (c .before .before .before .next-member .ensures) (c .before .enum-told .given .1))))
 
 -- src/delete.rt:380:13
 put-sorted-anew-returns : (t : ℕ) → put-sorted-anew-lts.Need-returns (put-sorted-anew-claims t) (put-sorted-anew-at t) put-sorted-anew.Post put-sorted-anew-Inv-loop put-sorted-anew-μ-loop
-put-sorted-anew-returns t c = ?
+put-sorted-anew-returns t c = anew-left (c .before .before .before .before .before .before .before .before .before .before .before .before .before .before .before .before .before .before .before .before .before .args .s .now) (c .before .before .before .before .before .before .before .before .before .before .before .before .before .before .before .before .before .before .before .before .before .args .path .now) (c .before .before .before .before .before .before .before .before .before .before .before .before .before .before .before .before .before .before .before .before .before .args .n) (c .before .before .before .before .before .before .before .before .before .before .before .before .before .before .before .before .before .before .before .before .before .args .val) (c .before .before .before .before .before .before .before .before .before .before .before .before .before .before .before .before .before .before .before .before .before .args .way) (c .before .before .before .before .before .before .before .before .before .before .before .before .before .before .before .before .before .before .before .before .before .args .allowance) (octets-of (c .before .before .before .before .before .before .before .before .before .before .before .before .before .before .before .before .before .before .before .before .before .args .s .now) (λ i. omega (arith, c .before .before .before .before .before .before .before .before .before .before .before .before .before .before .before .before .before .before .before .before .shared-slice-known .given i))) (c .before .before .before .before .before .before .before .before .before .before .before .before .before .before .before .before .before .before .before .before .before .pre .1 .0) (c .before .before .before .before .before .before .before .before .before .before .before .before .before .before .before .before .before .before .before .before .before .pre .1 .1) (c .before .before .before .before .before .before .before .before .before .before .before .before .before .before .before .before .before .before .before .before .before .pre .1 .2) _ _ _ _ (c .before .before .before .before .before .before .before .before .before .before .before .before .before .before .before .before .before .members-of .ensures) (c .before .before .before .before .before .before .before .before .before .before .before .before .before .measure-members .ensures) (c .before .before .before .before .before .before .before .before .before .before .before .before .before .before .way-behind .ensures) (c .before .before .before .before .before .before .before .before .before .before .before .before .before .before .before .name-of .ensures) _ _ _ _ _ _ _ (c .before .before .before .before .before .before .before .before .before .before .before .before .places-for .ensures) refl (c .before .before .before .before .before .before .before .before .before .put-u32 .ensures) (ends-early _ _ _ _ _ _ _ _ _ _ (c .before .before .before .before .before .loop .inv) _ (c .before .before .before .next-member .ensures) (c .before .enum-told .given .1)) (ends-val _ _ _ _ _ _ _ _ _ _ (c .before .before .before .before .before .loop .inv) (sought-end (name-in (c .before .before .before .before .before .before .before .before .before .before .before .before .before .before .before .before .before .before .before .before .before .args .s .now)) _ _ _ (c .before .before .before .before .before .loop .inv .sought) _ (c .before .before .before .next-member .ensures) (c .before .enum-told .given .1)))
 
 -- src/delete.rt:382:68
 put-sorted-anew-sub-put-member-anew : (t : ℕ) → put-sorted-anew-lts.Need-sub-put-member-anew (put-sorted-anew-claims t) (put-sorted-anew-at t) put-sorted-anew.Post put-sorted-anew-Inv-loop put-sorted-anew-μ-loop
-put-sorted-anew-sub-put-member-anew t c = ?
+put-sorted-anew-sub-put-member-anew t c = let a = allows (c .before .before .before .before .before .before .before .before .before .before .before .before .before .before .before .before .before .before .before .before .before .before .args .s .now) (c .before .before .before .before .before .before .before .before .before .before .before .before .before .before .before .before .before .before .before .before .before .before .args .path .now) (c .before .before .before .before .before .before .before .before .before .before .before .before .before .before .before .before .before .before .before .before .before .before .args .n) (c .before .before .before .before .before .before .before .before .before .before .before .before .before .before .before .before .before .before .before .before .before .before .args .val) (c .before .before .before .before .before .before .before .before .before .before .before .before .before .before .before .before .before .before .before .before .before .before .args .way) (c .before .before .before .before .before .before .before .before .before .before .before .before .before .before .before .before .before .before .before .before .before .before .args .allowance) (octets-of (c .before .before .before .before .before .before .before .before .before .before .before .before .before .before .before .before .before .before .before .before .before .before .args .s .now) (λ i. omega (arith, c .before .before .before .before .before .before .before .before .before .before .before .before .before .before .before .before .before .before .before .before .before .shared-slice-known .given i))) (c .before .before .before .before .before .before .before .before .before .before .before .before .before .before .before .before .before .before .before .before .before .before .pre .1 .0) (c .before .before .before .before .before .before .before .before .before .before .before .before .before .before .before .before .before .before .before .before .before .before .pre .1 .1) (c .before .before .before .before .before .before .before .before .before .before .before .before .before .before .before .before .before .before .before .before .before .before .pre .1 .2) in omega (arith, a)
 
 -- src/delete.rt:382:9
 put-sorted-anew-put-member-anew-requires :
@@ -528,35 +544,35 @@ put-sorted-anew-put-member-anew-requires :
       payload-at-reads.Asked,
       payload-at-reads.Learnt,
     ) (put-sorted-anew-at t) put-sorted-anew.Post put-sorted-anew-Inv-loop put-sorted-anew-μ-loop
-put-sorted-anew-put-member-anew-requires t c κs = ?
+put-sorted-anew-put-member-anew-requires t c κs = let v = at-value (c .before .before .before .before .before .before .before .before .before .before .before .before .before .before .before .before .before .before .before .before .before .before .args .s .now) (c .before .before .before .before .before .before .before .before .before .before .before .before .before .before .before .before .before .before .before .before .before .before .args .path .now) (c .before .before .before .before .before .before .before .before .before .before .before .before .before .before .before .before .before .before .before .before .before .before .args .n) (c .before .before .before .before .before .before .before .before .before .before .before .before .before .before .before .before .before .before .before .before .before .before .args .val) (c .before .before .before .before .before .before .before .before .before .before .before .before .before .before .before .before .before .before .before .before .before .before .args .way) (c .before .before .before .before .before .before .before .before .before .before .before .before .before .before .before .before .before .before .before .before .before .before .args .allowance) (octets-of (c .before .before .before .before .before .before .before .before .before .before .before .before .before .before .before .before .before .before .before .before .before .before .args .s .now) (λ i. omega (arith, c .before .before .before .before .before .before .before .before .before .before .before .before .before .before .before .before .before .before .before .before .before .shared-slice-known .given i))) (c .before .before .before .before .before .before .before .before .before .before .before .before .before .before .before .before .before .before .before .before .before .before .pre .1 .0) (c .before .before .before .before .before .before .before .before .before .before .before .before .before .before .before .before .before .before .before .before .before .before .pre .1 .1) (c .before .before .before .before .before .before .before .before .before .before .before .before .before .before .before .before .before .before .before .before .before .before .pre .1 .2) in let g = anew-room (c .before .before .before .before .before .before .before .before .before .before .before .before .before .before .before .before .before .before .before .before .before .before .args .s .now) (c .before .before .before .before .before .before .before .before .before .before .before .before .before .before .before .before .before .before .before .before .before .before .args .path .now) (c .before .before .before .before .before .before .before .before .before .before .before .before .before .before .before .before .before .before .before .before .before .before .args .n) (c .before .before .before .before .before .before .before .before .before .before .before .before .before .before .before .before .before .before .before .before .before .before .args .val) (c .before .before .before .before .before .before .before .before .before .before .before .before .before .before .before .before .before .before .before .before .before .before .args .way) (c .before .before .before .before .before .before .before .before .before .before .before .before .before .before .before .before .before .before .before .before .before .before .args .allowance) (octets-of (c .before .before .before .before .before .before .before .before .before .before .before .before .before .before .before .before .before .before .before .before .before .before .args .s .now) (λ i. omega (arith, c .before .before .before .before .before .before .before .before .before .before .before .before .before .before .before .before .before .before .before .before .before .shared-slice-known .given i))) (c .before .before .before .before .before .before .before .before .before .before .before .before .before .before .before .before .before .before .before .before .before .before .pre .1 .0) (c .before .before .before .before .before .before .before .before .before .before .before .before .before .before .before .before .before .before .before .before .before .before .pre .1 .1) (c .before .before .before .before .before .before .before .before .before .before .before .before .before .before .before .before .before .before .before .before .before .before .pre .1 .2) _ _ _ _ (c .before .before .before .before .before .before .before .before .before .before .before .before .before .before .before .before .before .before .members-of .ensures) (c .before .before .before .before .before .before .before .before .before .before .before .before .before .before .measure-members .ensures) (c .before .before .before .before .before .before .before .before .before .before .before .before .before .before .before .way-behind .ensures) (c .before .before .before .before .before .before .before .before .before .before .before .before .before .before .before .before .name-of .ensures) in let t0 = ap (λ (x : Places). x .«key_jentry») (c .before .before .before .before .before .before .before .before .before .before .before .before .before .places-for .ensures) in let t1 = ap (λ (x : Places). x .«val_jentry») (c .before .before .before .before .before .before .before .before .before .before .before .before .before .places-for .ensures) in let t2 = ap (λ (x : Places). x .key) (c .before .before .before .before .before .before .before .before .before .before .before .before .before .places-for .ensures) in let t3 = ap (λ (x : Places). x .val) (c .before .before .before .before .before .before .before .before .before .before .before .before .before .places-for .ensures) in let a = allows (c .before .before .before .before .before .before .before .before .before .before .before .before .before .before .before .before .before .before .before .before .before .before .args .s .now) (c .before .before .before .before .before .before .before .before .before .before .before .before .before .before .before .before .before .before .before .before .before .before .args .path .now) (c .before .before .before .before .before .before .before .before .before .before .before .before .before .before .before .before .before .before .before .before .before .before .args .n) (c .before .before .before .before .before .before .before .before .before .before .before .before .before .before .before .before .before .before .before .before .before .before .args .val) (c .before .before .before .before .before .before .before .before .before .before .before .before .before .before .before .before .before .before .before .before .before .before .args .way) (c .before .before .before .before .before .before .before .before .before .before .before .before .before .before .before .before .before .before .before .before .before .before .args .allowance) (octets-of (c .before .before .before .before .before .before .before .before .before .before .before .before .before .before .before .before .before .before .before .before .before .before .args .s .now) (λ i. omega (arith, c .before .before .before .before .before .before .before .before .before .before .before .before .before .before .before .before .before .before .before .before .before .shared-slice-known .given i))) (c .before .before .before .before .before .before .before .before .before .before .before .before .before .before .before .before .before .before .before .before .before .before .pre .1 .0) (c .before .before .before .before .before .before .before .before .before .before .before .before .before .before .before .before .before .before .before .before .before .before .pre .1 .1) (c .before .before .before .before .before .before .before .before .before .before .before .before .before .before .before .before .before .before .before .before .before .before .pre .1 .2) in let k = anew-count (c .before .before .before .before .before .before .before .before .before .before .before .before .before .before .before .before .before .before .before .before .before .before .args .s .now) (c .before .before .before .before .before .before .before .before .before .before .before .before .before .before .before .before .before .before .before .before .before .before .args .path .now) (c .before .before .before .before .before .before .before .before .before .before .before .before .before .before .before .before .before .before .before .before .before .before .args .n) (c .before .before .before .before .before .before .before .before .before .before .before .before .before .before .before .before .before .before .before .before .before .before .args .val) (c .before .before .before .before .before .before .before .before .before .before .before .before .before .before .before .before .before .before .before .before .before .before .args .way) (c .before .before .before .before .before .before .before .before .before .before .before .before .before .before .before .before .before .before .before .before .before .before .args .allowance) (octets-of (c .before .before .before .before .before .before .before .before .before .before .before .before .before .before .before .before .before .before .before .before .before .before .args .s .now) (λ i. omega (arith, c .before .before .before .before .before .before .before .before .before .before .before .before .before .before .before .before .before .before .before .before .before .shared-slice-known .given i))) (c .before .before .before .before .before .before .before .before .before .before .before .before .before .before .before .before .before .before .before .before .before .before .pre .1 .0) (c .before .before .before .before .before .before .before .before .before .before .before .before .before .before .before .before .before .before .before .before .before .before .pre .1 .1) (c .before .before .before .before .before .before .before .before .before .before .before .before .before .before .before .before .before .before .before .before .before .before .pre .1 .2) _ _ _ _ (c .before .before .before .before .before .before .before .before .before .before .before .before .before .before .before .before .before .before .members-of .ensures) (c .before .before .before .before .before .before .before .before .before .before .before .before .before .before .measure-members .ensures) (c .before .before .before .before .before .before .before .before .before .before .before .before .before .before .before .way-behind .ensures) (c .before .before .before .before .before .before .before .before .before .before .before .before .before .before .before .before .name-of .ensures) _ _ (sought-nth (name-in (c .before .before .before .before .before .before .before .before .before .before .before .before .before .before .before .before .before .before .before .before .before .before .args .s .now)) _ _ _ (c .before .before .before .before .before .before .loop .inv .sought) _ (c .before .before .before .before .next-member .ensures) _ (c .before .before .member .given .1)) in (omega (arith, a, c .before .before .before .before .before .before .before .before .before .before .before .before .before .before .before .before .before .before .before .before .before .before .pre .0), (omega (arith, c .before .before .before .before .before .before .loop .inv .near-key-jentry, c .before .before .before .before .before .before .loop .inv .val-jentry, c .before .before .before .before .before .before .loop .inv .near-key, c .before .before .before .before .before .before .loop .inv .near-val, c .before .before .before .before .before .before .loop .inv .key-on, c .before .before .before .before .before .before .loop .inv .val-on, c .before .before .before .before .before .before .loop .inv .val-rest, t0, k, g, c .before .before .before .before .before .before .before .before .before .before .before .before .before .before .before .before .before .before .before .before .before .before .pre .1 .3, c .before .before .before .before .before .before .before .before .before .before .before .before .before .before .before .before .before .before .before .before .before .before .pre .1 .0 .allowed), omega (arith, c .before .before .before .before .before .before .loop .inv .near-key-jentry, c .before .before .before .before .before .before .loop .inv .val-jentry, c .before .before .before .before .before .before .loop .inv .near-key, c .before .before .before .before .before .before .loop .inv .near-val, c .before .before .before .before .before .before .loop .inv .key-on, c .before .before .before .before .before .before .loop .inv .val-on, c .before .before .before .before .before .before .loop .inv .val-rest, t2, k, g, c .before .before .before .before .before .before .before .before .before .before .before .before .before .before .before .before .before .before .before .before .before .before .pre .1 .3, c .before .before .before .before .before .before .before .before .before .before .before .before .before .before .before .before .before .before .before .before .before .before .pre .1 .0 .allowed), omega (arith, c .before .before .before .before .before .before .loop .inv .near-key-jentry, c .before .before .before .before .before .before .loop .inv .val-jentry, c .before .before .before .before .before .before .loop .inv .near-key, c .before .before .before .before .before .before .loop .inv .near-val, c .before .before .before .before .before .before .loop .inv .key-on, c .before .before .before .before .before .before .loop .inv .val-on, c .before .before .before .before .before .before .loop .inv .val-rest, t3, k, g, c .before .before .before .before .before .before .before .before .before .before .before .before .before .before .before .before .before .before .before .before .before .before .pre .1 .3, c .before .before .before .before .before .before .before .before .before .before .before .before .before .before .before .before .before .before .before .before .before .before .pre .1 .0 .allowed), omega (arith, c .before .before .before .before .before .before .loop .inv .near-key-jentry, c .before .before .before .before .before .before .loop .inv .val-jentry, c .before .before .before .before .before .before .loop .inv .near-key, c .before .before .before .before .before .before .loop .inv .near-val, c .before .before .before .before .before .before .loop .inv .key-on, c .before .before .before .before .before .before .loop .inv .val-on, c .before .before .before .before .before .before .loop .inv .val-rest, t1, t2, k), omega (arith, c .before .before .before .before .before .before .loop .inv .near-key-jentry, c .before .before .before .before .before .before .loop .inv .val-jentry, c .before .before .before .before .before .before .loop .inv .near-key, c .before .before .before .before .before .before .loop .inv .near-val, c .before .before .before .before .before .before .loop .inv .key-on, c .before .before .before .before .before .before .loop .inv .val-on, c .before .before .before .before .before .before .loop .inv .val-rest, t1, t3, k), λ q. (anew-cuts (c .before .before .before .before .before .before .before .before .before .before .before .before .before .before .before .before .before .before .before .before .before .before .args .s .now) (c .before .before .before .before .before .before .before .before .before .before .before .before .before .before .before .before .before .before .before .before .before .before .args .path .now) (c .before .before .before .before .before .before .before .before .before .before .before .before .before .before .before .before .before .before .before .before .before .before .args .n) (c .before .before .before .before .before .before .before .before .before .before .before .before .before .before .before .before .before .before .before .before .before .before .args .val) (c .before .before .before .before .before .before .before .before .before .before .before .before .before .before .before .before .before .before .before .before .before .before .args .way) (c .before .before .before .before .before .before .before .before .before .before .before .before .before .before .before .before .before .before .before .before .before .before .args .allowance) (octets-of (c .before .before .before .before .before .before .before .before .before .before .before .before .before .before .before .before .before .before .before .before .before .before .args .s .now) (λ i. omega (arith, c .before .before .before .before .before .before .before .before .before .before .before .before .before .before .before .before .before .before .before .before .before .shared-slice-known .given i))) (c .before .before .before .before .before .before .before .before .before .before .before .before .before .before .before .before .before .before .before .before .before .before .pre .1 .0) (c .before .before .before .before .before .before .before .before .before .before .before .before .before .before .before .before .before .before .before .before .before .before .pre .1 .1) (c .before .before .before .before .before .before .before .before .before .before .before .before .before .before .before .before .before .before .before .before .before .before .pre .1 .2) _ _ _ _ (c .before .before .before .before .before .before .before .before .before .before .before .before .before .before .before .before .before .before .members-of .ensures) (c .before .before .before .before .before .before .before .before .before .before .before .before .before .before .measure-members .ensures) (c .before .before .before .before .before .before .before .before .before .before .before .before .before .before .before .way-behind .ensures) (c .before .before .before .before .before .before .before .before .before .before .before .before .before .before .before .before .name-of .ensures) _ _ (sought-nth (name-in (c .before .before .before .before .before .before .before .before .before .before .before .before .before .before .before .before .before .before .before .before .before .before .args .s .now)) _ _ _ (c .before .before .before .before .before .before .loop .inv .sought) _ (c .before .before .before .before .next-member .ensures) _ (c .before .before .member .given .1)) q, omega (arith, c .before .before .before .before .before .before .loop .inv .near-key-jentry, c .before .before .before .before .before .before .loop .inv .val-jentry, c .before .before .before .before .before .before .loop .inv .near-key, c .before .before .before .before .before .before .loop .inv .near-val, c .before .before .before .before .before .before .loop .inv .key-on, c .before .before .before .before .before .before .loop .inv .val-on, c .before .before .before .before .before .before .loop .inv .val-rest, t3, g, a, c .before .before .before .before .before .before .before .before .before .before .before .before .before .before .before .before .before .before .before .before .before .before .pre .1 .3, c .before .before .before .before .before .before .before .before .before .before .before .before .before .before .before .before .before .before .before .before .before .before .pre .1 .0 .allowed))))
 
 -- src/delete.rt:383:9
 put-sorted-anew-payload-at-requires : (t : ℕ) → put-sorted-anew-lts.Need-payload-at-requires (put-sorted-anew-claims t) (put-sorted-anew-at t) put-sorted-anew.Post put-sorted-anew-Inv-loop put-sorted-anew-μ-loop
-put-sorted-anew-payload-at-requires t c κs = ?
+put-sorted-anew-payload-at-requires t c κs = search needs
 
 -- src/delete.rt:384:9
 put-sorted-anew-add-i : (t : ℕ) → put-sorted-anew-lts.Need-add-i (put-sorted-anew-claims t) (put-sorted-anew-at t) put-sorted-anew.Post put-sorted-anew-Inv-loop put-sorted-anew-μ-loop
-put-sorted-anew-add-i t c = ?
+put-sorted-anew-add-i t c = let v = at-value (c .before .before .before .before .before .before .before .before .before .before .before .before .before .before .before .before .before .before .before .before .before .before .before .before .before .before .args .s .now) (c .before .before .before .before .before .before .before .before .before .before .before .before .before .before .before .before .before .before .before .before .before .before .before .before .before .before .args .path .now) (c .before .before .before .before .before .before .before .before .before .before .before .before .before .before .before .before .before .before .before .before .before .before .before .before .before .before .args .n) (c .before .before .before .before .before .before .before .before .before .before .before .before .before .before .before .before .before .before .before .before .before .before .before .before .before .before .args .val) (c .before .before .before .before .before .before .before .before .before .before .before .before .before .before .before .before .before .before .before .before .before .before .before .before .before .before .args .way) (c .before .before .before .before .before .before .before .before .before .before .before .before .before .before .before .before .before .before .before .before .before .before .before .before .before .before .args .allowance) (octets-of (c .before .before .before .before .before .before .before .before .before .before .before .before .before .before .before .before .before .before .before .before .before .before .before .before .before .before .args .s .now) (λ i. omega (arith, c .before .before .before .before .before .before .before .before .before .before .before .before .before .before .before .before .before .before .before .before .before .before .before .before .before .shared-slice-known .given i))) (c .before .before .before .before .before .before .before .before .before .before .before .before .before .before .before .before .before .before .before .before .before .before .before .before .before .before .pre .1 .0) (c .before .before .before .before .before .before .before .before .before .before .before .before .before .before .before .before .before .before .before .before .before .before .before .before .before .before .pre .1 .1) (c .before .before .before .before .before .before .before .before .before .before .before .before .before .before .before .before .before .before .before .before .before .before .before .before .before .before .pre .1 .2) in omega (arith, c .before .before .before .before .before .before .before .before .before .loop-test .taken, v .table, v .short)
 
 -- src/delete.rt:378:5
 put-sorted-anew-loop-less : (t : ℕ) → put-sorted-anew-lts.Need-loop-less (put-sorted-anew-claims t) (put-sorted-anew-at t) put-sorted-anew.Post put-sorted-anew-Inv-loop put-sorted-anew-μ-loop
-put-sorted-anew-loop-less t c = ?
+put-sorted-anew-loop-less t c = search needs
 
 -- src/delete.rt:378:5
 put-sorted-anew-loop-again : (t : ℕ) → put-sorted-anew-lts.Need-loop-again (put-sorted-anew-claims t) (put-sorted-anew-at t) put-sorted-anew.Post put-sorted-anew-Inv-loop put-sorted-anew-μ-loop
-put-sorted-anew-loop-again t c = ?
+put-sorted-anew-loop-again t c = goes _ _ _ _ _ _ _ _ _ _ (c .before .before .before .before .before .before .before .before .before .before .loop .inv) _ (c .before .before .before .before .before .before .before .before .next-member .ensures) _ _ _ _ (c .before .before .before .before .before .before .member .given .1) (c .before .before .before .put-member-anew .ensures) (c .payload-at .ensures) (bytes-short (c .before .before .before .before .before .before .before .before .before .before .before .before .before .before .before .before .before .before .before .before .before .before .before .before .before .before .args .s .now) (c .before .before .before .before .before .before .member .given .0 .0 .key)) (value-anew-short (c .before .before .before .before .before .before .before .before .before .before .before .before .before .before .before .before .before .before .before .before .before .before .before .before .before .before .args .s .now) (c .before .before .before .before .before .before .before .before .before .before .before .before .before .before .before .before .before .before .before .before .before .before .before .before .before .before .args .path .now) (c .before .before .before .before .before .before .before .before .before .before .before .before .before .before .before .before .before .before .before .before .before .before .before .before .before .before .args .n) (c .before .before .before .before .before .before .before .before .before .before .before .before .before .before .before .before .before .before .before .before .before .before .before .before .before .before .args .val) (c .before .before .before .before .before .before .before .before .before .before .before .before .before .before .before .before .before .before .before .before .before .before .before .before .before .before .args .way) (c .before .before .before .before .before .before .before .before .before .before .before .before .before .before .before .before .before .before .before .before .before .before .before .before .before .before .args .allowance) (octets-of (c .before .before .before .before .before .before .before .before .before .before .before .before .before .before .before .before .before .before .before .before .before .before .before .before .before .before .args .s .now) (λ i. omega (arith, c .before .before .before .before .before .before .before .before .before .before .before .before .before .before .before .before .before .before .before .before .before .before .before .before .before .shared-slice-known .given i))) (c .before .before .before .before .before .before .before .before .before .before .before .before .before .before .before .before .before .before .before .before .before .before .before .before .before .before .pre .1 .0) (c .before .before .before .before .before .before .before .before .before .before .before .before .before .before .before .before .before .before .before .before .before .before .before .before .before .before .pre .1 .1) (c .before .before .before .before .before .before .before .before .before .before .before .before .before .before .before .before .before .before .before .before .before .before .before .before .before .before .pre .1 .2) _ _ _ _ (c .before .before .before .before .before .before .before .before .before .before .before .before .before .before .before .before .before .before .before .before .before .before .members-of .ensures) (c .before .before .before .before .before .before .before .before .before .before .before .before .before .before .before .before .before .before .measure-members .ensures) (c .before .before .before .before .before .before .before .before .before .before .before .before .before .before .before .before .before .before .before .way-behind .ensures) (c .before .before .before .before .before .before .before .before .before .before .before .before .before .before .before .before .before .before .before .before .name-of .ensures) _ _ (sought-nth (name-in (c .before .before .before .before .before .before .before .before .before .before .before .before .before .before .before .before .before .before .before .before .before .before .before .before .before .before .args .s .now)) _ _ _ (c .before .before .before .before .before .before .before .before .before .before .loop .inv .sought) _ (c .before .before .before .before .before .before .before .before .next-member .ensures) _ (c .before .before .before .before .before .before .member .given .1)))
 
 -- src/delete.rt:386:5
 put-sorted-anew-sub-result-2 : (t : ℕ) → put-sorted-anew-lts.Need-sub-result-2 (put-sorted-anew-claims t) (put-sorted-anew-at t) put-sorted-anew.Post put-sorted-anew-Inv-loop put-sorted-anew-μ-loop
-put-sorted-anew-sub-result-2 t c = ?
+put-sorted-anew-sub-result-2 t c = let t0 = ap (λ (x : Places). x .«key_jentry») (c .before .before .before .before .before .before .before .before .before .places-for .ensures) in let t1 = ap (λ (x : Places). x .«val_jentry») (c .before .before .before .before .before .before .before .before .before .places-for .ensures) in let t2 = ap (λ (x : Places). x .key) (c .before .before .before .before .before .before .before .before .before .places-for .ensures) in let t3 = ap (λ (x : Places). x .val) (c .before .before .before .before .before .before .before .before .before .places-for .ensures) in omega (arith, c .before .before .loop .inv .val-on, t3)
 
 -- src/delete.rt:365:1
 put-sorted-anew-same-length-2 : (t : ℕ) → put-sorted-anew-lts.Need-same-length-2 (put-sorted-anew-claims t) (put-sorted-anew-at t) put-sorted-anew.Post put-sorted-anew-Inv-loop put-sorted-anew-μ-loop
-put-sorted-anew-same-length-2 t c = ?
+put-sorted-anew-same-length-2 t c = left-length (anew-left (c .before .before .before .before .before .before .before .before .before .before .before .before .before .before .before .before .before .before .args .s .now) (c .before .before .before .before .before .before .before .before .before .before .before .before .before .before .before .before .before .before .args .path .now) (c .before .before .before .before .before .before .before .before .before .before .before .before .before .before .before .before .before .before .args .n) (c .before .before .before .before .before .before .before .before .before .before .before .before .before .before .before .before .before .before .args .val) (c .before .before .before .before .before .before .before .before .before .before .before .before .before .before .before .before .before .before .args .way) (c .before .before .before .before .before .before .before .before .before .before .before .before .before .before .before .before .before .before .args .allowance) (octets-of (c .before .before .before .before .before .before .before .before .before .before .before .before .before .before .before .before .before .before .args .s .now) (λ i. omega (arith, c .before .before .before .before .before .before .before .before .before .before .before .before .before .before .before .before .before .shared-slice-known .given i))) (c .before .before .before .before .before .before .before .before .before .before .before .before .before .before .before .before .before .before .pre .1 .0) (c .before .before .before .before .before .before .before .before .before .before .before .before .before .before .before .before .before .before .pre .1 .1) (c .before .before .before .before .before .before .before .before .before .before .before .before .before .before .before .before .before .before .pre .1 .2) _ _ _ _ (c .before .before .before .before .before .before .before .before .before .before .before .before .before .before .members-of .ensures) (c .before .before .before .before .before .before .before .before .before .before .measure-members .ensures) (c .before .before .before .before .before .before .before .before .before .before .before .way-behind .ensures) (c .before .before .before .before .before .before .before .before .before .before .before .before .name-of .ensures) _ _ _ _ _ _ _ (c .before .before .before .before .before .before .before .before .before .places-for .ensures) refl (c .before .before .before .before .before .before .put-u32 .ensures) (ends-full _ _ _ _ _ _ _ _ _ _ (c .before .before .loop .inv) _ (few-searched _ _ _ _ _) (c .before .loop-test .left)) (ends-val _ _ _ _ _ _ _ _ _ _ (c .before .before .loop .inv) (sought-all (name-in (c .before .before .before .before .before .before .before .before .before .before .before .before .before .before .before .before .before .before .args .s .now)) _ _ _ (few-searched _ _ _ _ _) (c .before .loop-test .left))))
 
 -- src/delete.rt:365:1
 put-sorted-anew-returns-2 : (t : ℕ) → put-sorted-anew-lts.Need-returns-2 (put-sorted-anew-claims t) (put-sorted-anew-at t) put-sorted-anew.Post put-sorted-anew-Inv-loop put-sorted-anew-μ-loop
-put-sorted-anew-returns-2 t c = ?
+put-sorted-anew-returns-2 t c = anew-left (c .before .before .before .before .before .before .before .before .before .before .before .before .before .before .before .before .before .before .args .s .now) (c .before .before .before .before .before .before .before .before .before .before .before .before .before .before .before .before .before .before .args .path .now) (c .before .before .before .before .before .before .before .before .before .before .before .before .before .before .before .before .before .before .args .n) (c .before .before .before .before .before .before .before .before .before .before .before .before .before .before .before .before .before .before .args .val) (c .before .before .before .before .before .before .before .before .before .before .before .before .before .before .before .before .before .before .args .way) (c .before .before .before .before .before .before .before .before .before .before .before .before .before .before .before .before .before .before .args .allowance) (octets-of (c .before .before .before .before .before .before .before .before .before .before .before .before .before .before .before .before .before .before .args .s .now) (λ i. omega (arith, c .before .before .before .before .before .before .before .before .before .before .before .before .before .before .before .before .before .shared-slice-known .given i))) (c .before .before .before .before .before .before .before .before .before .before .before .before .before .before .before .before .before .before .pre .1 .0) (c .before .before .before .before .before .before .before .before .before .before .before .before .before .before .before .before .before .before .pre .1 .1) (c .before .before .before .before .before .before .before .before .before .before .before .before .before .before .before .before .before .before .pre .1 .2) _ _ _ _ (c .before .before .before .before .before .before .before .before .before .before .before .before .before .before .members-of .ensures) (c .before .before .before .before .before .before .before .before .before .before .measure-members .ensures) (c .before .before .before .before .before .before .before .before .before .before .before .way-behind .ensures) (c .before .before .before .before .before .before .before .before .before .before .before .before .name-of .ensures) _ _ _ _ _ _ _ (c .before .before .before .before .before .before .before .before .before .places-for .ensures) refl (c .before .before .before .before .before .before .put-u32 .ensures) (ends-full _ _ _ _ _ _ _ _ _ _ (c .before .before .loop .inv) _ (few-searched _ _ _ _ _) (c .before .loop-test .left)) (ends-val _ _ _ _ _ _ _ _ _ _ (c .before .before .loop .inv) (sought-all (name-in (c .before .before .before .before .before .before .before .before .before .before .before .before .before .before .before .before .before .before .args .s .now)) _ _ _ (few-searched _ _ _ _ _) (c .before .loop-test .left)))
 
 pub +put-deleted+put-member-anew+put-part-anew+put-sorted-anew-spec : {M : Type 1} → statement M
 +put-deleted+put-member-anew+put-part-anew+put-sorted-anew-spec =
