@@ -22,6 +22,7 @@ pub mod Onwards
 pub mod Anews
 pub mod Reweaves
 pub mod SortedAnews
+pub mod Writes
 pub mod Manners
 pub mod Measures
 pub mod Helds

@@ -1,0 +1,65 @@
+-- A container without the item that a path finds in it: measured first, by the same writer on a part of no bytes, then stored where
+-- there is room; and the numbers of delete in their order.
+use Prim.Native.Nat.{ℕ, _+_, _*_, _-_, _^_, _≤_, _<_}
+use native.Mathlib.Omega.{arith}
+use mathlib.Core.Path.{_≡_, refl, ap, sym, _∙_}
+use mathlib.Core.List.{List, [], _∷_, _++_}
+use mathlib.Core.Option.{some}
+use lib.ListN.{length}
+use Rattle.layout.specs.Bytes.{Bytes}
+use Rattle.layout.specs.Tree.{Tree}
+use Rattle.layout.specs.Read.{nested}
+use Rattle.layout.specs.Check.{checked}
+use Rattle.layout.specs.Ended.{Ended, into}
+use Rattle.layout.specs.Place.{parts-at}
+use Rattle.layout.specs.declared.check.Check.the-variants.{Readable}
+use Rattle.layout.specs.declared.refusal.Refusal.the-variants.{Buffer}
+use Rattle.layout.specs.declared.ending.Ending.the-variants.{Done, Refused}
+use Rattle.layout.proofs.Patches.{patch-empty, ended-short, ended-full}
+use Rattle.edits.specs.Path.{Step}
+use Rattle.edits.specs.Steps.{part-steps}
+use Rattle.edits.specs.Held.{finding}
+use Rattle.edits.specs.Cut.{Left, Cuts, left-of, steps-from}
+use Rattle.edits.specs.declared.delete.Way.{Way}
+
+-- The way at its start.
+abbrev pub whole-way : ℕ → Way
+whole-way n = record { step = record { index = 0; place = 4 + 4 * n }; count = n }
+
+steps-whole : (path : Bytes) (n : ℕ) → steps-from path (whole-way n) ≡ part-steps (parts-at path 0 (4 + 4 * n) n)
+steps-whole path n = let z : n - 0 ≡ n = omega arith in rw z
+
+pub whole-cuts : (s path : Bytes) (n : ℕ) → checked (nested 64 s) ≡ Readable → length s ≤ 65536 → n < 2 ^ 29 → 0 < n
+    → (t : Tree) × (finding s (part-steps (parts-at path 0 (4 + 4 * n) n)) ≡ some t) → Cuts s path (whole-way n) 64
+whole-cuts s path n c l few more f =
+    record {
+      readable = c;
+      allowed = omega arith;
+      short = l;
+      more = more;
+      few = few;
+      near = omega arith;
+      finds = (f .0, ap (finding s) (steps-whole path n) ∙ f .1);
+    }
+
+-- What was measured on no bytes.
+module _ (s path : Bytes) (n : ℕ) (o e : Bytes) (len : ℕ) (d : Left len [] e 0 (left-of s (steps-from path (whole-way n)))) where
+  abbrev result : Bytes
+  result = left-of s (part-steps (parts-at path 0 (4 + 4 * n) n))
+
+  as-steps : left-of s (steps-from path (whole-way n)) ≡ result
+  as-steps = ap (left-of s) (steps-whole path n)
+
+  measured : len ≡ length result
+  measured = d .length-is ∙ ap length as-steps
+
+  untouched : e ++ o ≡ o
+  untouched = rw (d .stored, patch-empty)
+
+  pub no-room : length (e ++ o) < len → Ended (Refused Buffer) o (e ++ o) (into (length o) result)
+  no-room h = rw untouched (ended-short result o (omega (arith, measured, ap length untouched, h)))
+
+  pub has-room : (len₂ : ℕ) (o′ : Bytes) → len ≤ length (e ++ o) → Left len₂ (e ++ o) o′ 0 (left-of s (steps-from path (whole-way n)))
+      → Ended (Done len) o o′ (into (length o) result)
+  has-room len₂ o′ h l =
+      ended-full result o o′ len (omega (arith, measured, ap length untouched, h)) measured (l .stored ∙ rw (untouched, as-steps))
