@@ -23,6 +23,7 @@ pub mod Anews
 pub mod Reweaves
 pub mod SortedAnews
 pub mod Writes
+pub mod Deletions
 pub mod Manners
 pub mod Measures
 pub mod Helds

@@ -141,7 +141,7 @@ scalar-look-up : (p : List Step) (t : Tree) (m : ℕ) → head-of t ≡ Scalar m
 scalar-look-up [] t m e q = absurd (q refl)
 scalar-look-up (s ∷ p) t m e q = rw (scalar-none s t m e)
 
-steps-length : (path : Bytes) (n : ℕ) → length (steps-in path n) ≡ n
+pub steps-length : (path : Bytes) (n : ℕ) → length (steps-in path n) ≡ n
 steps-length path n = length-part-steps (parts-at path 0 (4 + 4 * n) n) ∙ length-parts path 0 (4 + 4 * n) n
 
 -- ---- look-up

@@ -44,7 +44,7 @@ unfolding parts-at
 steps-cons path w h = let z : w .count - w .step .index ≡ suc (w .count - (w .step .index + 1)) = omega arith in rw z
 
 -- Only a container has something inside.
-inside-container : (p : Step) (t v : Tree) → step-into p t ≡ some v → kind t ≡ Container
+pub inside-container : (p : Step) (t v : Tree) → step-into p t ≡ some v → kind t ≡ Container
 inside-container p null v e = nothing-some e
 inside-container p (boolean x) v e = nothing-some e
 inside-container p (number b) v e = nothing-some e
@@ -72,7 +72,7 @@ pub record Below (s path : Bytes) (w : Way) (a : PartAt) (allowance : ℕ) : Typ
   pub left-shorter : length (left-of s (steps-from path w)) ≤ length s
 
 -- What is left of a container is a container.
-anew-kind : (o : Option Tree) (p : Step) (t : Tree) → kind (anew o p t) ≡ kind t
+pub anew-kind : (o : Option Tree) (p : Step) (t : Tree) → kind (anew o p t) ≡ kind t
 anew-kind o p null = refl
 anew-kind o p (boolean true) = refl
 anew-kind o p (boolean false) = refl

@@ -62,10 +62,10 @@ module _ (s path name : Bytes) (m : MemberAt) (w : Way) (at : Places) (key : Byt
           let lb = length-be32 e in (
             rw (n, hk, ln),
             rw n
-            (e₄ ∙ ap (λ (x : Bytes). patch x (at .«val_jentry») (be32 e)) (st ∙ rw (e₂, e₁, hk))
-            ∙ reordered o₀ (at .«key_jentry») (at .«val_jentry») (at .key) (at .val) (be32 (m .key .jentry)) (be32 e) (bytes-at s (m .key))
-            (left-of (value-in s m) (steps-from path w)) (omega arith) (omega arith)
-            ∙ rw ez),
+                (e₄ ∙ ap (λ (x : Bytes). patch x (at .«val_jentry») (be32 e)) (st ∙ rw (e₂, e₁, hk))
+                ∙ reordered o₀ (at .«key_jentry») (at .«val_jentry») (at .key) (at .val) (be32 (m .key .jentry)) (be32 e) (bytes-at s (m .key))
+                (left-of (value-in s m) (steps-from path w)) (omega arith) (omega arith)
+                ∙ rw ez),
           )
 
   -- Where it has another.

@@ -39,8 +39,7 @@ contains a s o l c =
     let g = readable-gives (nested a s) Readable (sym c) refl in
     let t : Tree = g .0 in
     let r = nested-reads a s (g .0) o l .0 (g .1) in
-    let e = container-encode (g .0) s (r .0) in
-    (
+    let e = container-encode (g .0) s (r .0) in (
       g .0,
       record {
         reads = g .1;

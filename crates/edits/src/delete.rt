@@ -110,7 +110,11 @@ fn put_run(s: &[u8], from: PartAt, to: PartAt, out: &mut [u8], at: Cursor) -> Cu
 {
     let table = JENTRY_SIZE * (to.index - from.index);
     let len = to.place - from.place;
-    copy(slice(s, HEADER_SIZE + JENTRY_SIZE * from.index, table), out, at.jentry);
+    copy(
+        slice(s, HEADER_SIZE + JENTRY_SIZE * from.index, table),
+        out,
+        at.jentry,
+    );
     copy(slice(s, from.place, len), out, at.place);
     Cursor {
         jentry: at.jentry + table,
@@ -226,7 +230,11 @@ fn name_of(s: &[u8], n: usize, k: usize) -> &[u8]
         index: 0,
         place: HEADER_SIZE + JENTRY_SIZE * (n + n),
     };
-    slice(s, place_after(s, first, k), payload_len(read_jentry(s, k)) as usize)
+    slice(
+        s,
+        place_after(s, first, k),
+        payload_len(read_jentry(s, k)) as usize,
+    )
 }
 
 // Where an object of these sizes stores its members.
@@ -284,7 +292,16 @@ fn way_behind(path: &[u8], way: Way) -> Way
 }
 
 // Stores a container with one of its parts written anew, and gives its length.
-fn put_part_anew(s: &[u8], total: usize, part: PartAt, path: &[u8], way: Way, out: &mut [u8], at: usize, allowance: u32) -> usize
+fn put_part_anew(
+    s: &[u8],
+    total: usize,
+    part: PartAt,
+    path: &[u8],
+    way: Way,
+    out: &mut [u8],
+    at: usize,
+    allowance: u32,
+) -> usize
     requires { ⌜ Cuts (now s) (now path) way allowance × Onward (now s) (now path) way part × InRuns (now s) total
         × (at ≤ 65536 * (64 - allowance)) ⌝ }
     ensures { λ r. ⌜ Left r (now (out .entry)) (now (out .exit)) at (leftOf (now (s .entry)) (stepsFrom (now (path .entry)) way)) ⌝ }
@@ -349,7 +366,14 @@ fn put_member_anew(
     if is_same(name, key) {
         put_u32(out, at.key_jentry, member.key.jentry);
         copy(key, out, at.key);
-        let len = put_deleted(payload_at(s, member.val), path, next, out, at.val, allowance);
+        let len = put_deleted(
+            payload_at(s, member.val),
+            path,
+            next,
+            out,
+            at.val,
+            allowance,
+        );
         put_u32(out, at.val_jentry, encoded(CONTAINER_CODE, len as u32));
         return Places {
             key_jentry: at.key_jentry + JENTRY_SIZE,
@@ -362,7 +386,16 @@ fn put_member_anew(
 }
 
 // Stores an object of n members in byte order of the names, with one value written anew, and gives its length.
-fn put_sorted_anew(s: &[u8], n: usize, val: PartAt, path: &[u8], way: Way, out: &mut [u8], at: usize, allowance: u32) -> usize
+fn put_sorted_anew(
+    s: &[u8],
+    n: usize,
+    val: PartAt,
+    path: &[u8],
+    way: Way,
+    out: &mut [u8],
+    at: usize,
+    allowance: u32,
+) -> usize
     requires { ⌜ Cuts (now s) (now path) way allowance × Onward (now s) (now path) way val × (header (now s) ≡ Header.Object n)
         × (at ≤ 65536 * (64 - allowance)) ⌝ }
     ensures { λ r. ⌜ Left r (now (out .entry)) (now (out .exit)) at (leftOf (now (s .entry)) (stepsFrom (now (path .entry)) way)) ⌝ }
