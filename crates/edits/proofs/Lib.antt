@@ -29,3 +29,4 @@ pub mod Measures
 pub mod Helds
 pub mod OnPaths
 pub mod Lookups
+pub mod ForC

@@ -1,4 +1,5 @@
-// The edits: look-up and delete by a path.
+// The edits: look-up and delete by a path, and the functions for C.
+pub mod c;
 pub mod delete;
 pub mod find;
 pub mod keypath;

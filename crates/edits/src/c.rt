@@ -1,0 +1,77 @@
+// The functions for the flight computer's C code; include/jsonb.h is for its programmers. A slice is a pointer and a length there.
+use crate::path::get_by_keypath;
+use builders::builder::append;
+use builders::builder::build_object;
+use layout::check::Check;
+use layout::check::check_record;
+use layout::ending::Ending;
+use layout::refusal::Refusal;
+ghost use mathlib.Core.Path.{_≡_};
+ghost use Prim.Native.Nat.{_+_, _^_};
+ghost use lib.ListN.{length};
+ghost use Rattle.layout.specs.Read.{read};
+ghost use Rattle.layout.specs.Check.{checked};
+ghost use Rattle.layout.specs.Refusal.{number};
+ghost use Rattle.builders.specs.Build.{append as appendOf, build, «on-two» as onTwo};
+ghost use Rattle.edits.specs.Keypath.{«get-by» as getBy, «on-path» as onPath};
+ghost use Rattle.edits.specs.C.{«c-check» as cCheck, «c-ending» as cEnding, EndedC};
+
+// The answer where the record is readable, and that of an absence, which is above every length. A refusal's number is added to
+// it.
+const READABLE: u64 = 0;
+
+const ABSENT: u64 = 0x1_0000_0000;
+
+fn c_refused(refusal: Refusal) -> u64
+    ensures { λ r. ⌜ r ≡ 2 ^ 32 + number refusal ⌝ }
+{
+    ABSENT + refusal.number()
+}
+
+fn c_ending(ending: Ending) -> u64
+    ensures { λ r. ⌜ r ≡ cEnding ending ⌝ }
+{
+    match ending {
+        Ending::Done(n) => n as u64,
+        Ending::Absent => ABSENT,
+        Ending::Refused(refusal) => c_refused(refusal),
+    }
+}
+
+// Checks a record.
+#[no_mangle]
+pub extern "C" fn jsonb_check(s: &[u8]) -> u64
+    ensures { λ r. ⌜ r ≡ cCheck (checked (read (now (s .entry)))) ⌝ }
+{
+    match check_record(s) {
+        Check::Readable => READABLE,
+        Check::Refused(refusal) => c_refused(refusal),
+    }
+}
+
+// Looks up what a path finds in a record.
+#[no_mangle]
+pub extern "C" fn jsonb_get_by_keypath(target: &[u8], path: &[u8], out: &mut [u8]) -> u64
+    ensures { λ r. ⌜ EndedC r (now (out .entry)) (now (out .exit))
+        (onPath getBy (now (target .entry)) (now (path .entry)) (length (now (out .entry)))) ⌝ }
+{
+    c_ending(get_by_keypath(target, path, out))
+}
+
+// Puts a record, as one item, at the end of an array record.
+#[no_mangle]
+pub extern "C" fn jsonb_append(array: &[u8], item: &[u8], out: &mut [u8]) -> u64
+    ensures { λ r. ⌜ EndedC r (now (out .entry)) (now (out .exit))
+        (onTwo appendOf (now (array .entry)) (now (item .entry)) (length (now (out .entry)))) ⌝ }
+{
+    c_ending(append(array, item, out))
+}
+
+// Builds an object from an array of names and an array of values.
+#[no_mangle]
+pub extern "C" fn jsonb_build_object(names: &[u8], values: &[u8], out: &mut [u8]) -> u64
+    ensures { λ r. ⌜ EndedC r (now (out .entry)) (now (out .exit))
+        (onTwo build (now (names .entry)) (now (values .entry)) (length (now (out .entry)))) ⌝ }
+{
+    c_ending(build_object(names, values, out))
+}
