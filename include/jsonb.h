@@ -1,0 +1,113 @@
+/*
+ * JSONB records for the flight computer: the check and the edits.
+ *
+ * The functions are those of the static library that `rt staticlib edits` makes, target/staticlib/libedits.a, for x86-64 Linux.
+ * Each is proved to answer what crates/edits/specs/C.antt defines, on every record, path and buffer, and to end. They keep nothing
+ * between calls, take no memory but the stack, and may be called from several threads at once.
+ *
+ * A record, a path and a buffer are each a pointer and a length in bytes. What the caller owes:
+ *
+ *   - A pointer is to as many bytes as its length says. It is never null, also where the length is 0.
+ *   - The buffer overlaps no record and no path of the call. Records and paths may overlap each other, or be the same.
+ *   - Nobody else changes a record or a path, or uses the buffer, before the call returns.
+ *
+ * What the bytes are is owed by no one: any bytes at all may be given as a record or as a path.
+ *
+ * An answer is one number:
+ *
+ *   below JSONB_ABSENT      done. It is the length of the result, which fills that many first bytes of the buffer; the bytes
+ *                           behind them are unchanged. No result is longer than JSONB_ROOM. The check has no result and no
+ *                           buffer: it answers JSONB_READABLE.
+ *   JSONB_ABSENT            the path finds nothing. No byte is changed.
+ *   above JSONB_ABSENT      refused, with one of the numbers below. No byte is changed.
+ *
+ * Of several faults the first in this order is told: that of the first record, that of the second, that of the path, 7, an
+ * absence, 8, 9, 10.
+ */
+#ifndef JSONB_H
+#define JSONB_H
+
+#include <stddef.h>
+#include <stdint.h>
+
+#ifdef __cplusplus
+extern "C" {
+#endif
+
+/* The longest record, and so the longest result, in bytes: a buffer of this length serves every call. */
+#define JSONB_ROOM 65536
+
+#define JSONB_READABLE UINT64_C(0)
+#define JSONB_ABSENT UINT64_C(0x100000000)
+
+/* The answer that has a number, and the number that an answer has: 1 to 10 of a refusal, 0 of an absence. */
+#define JSONB_REFUSED(number) (JSONB_ABSENT + (number))
+#define JSONB_NUMBER_OF(answer) ((int)((answer) - JSONB_ABSENT))
+
+/* Whether the call was done, so that its answer is a length. */
+#define JSONB_IS_DONE(answer) ((answer) < JSONB_ABSENT)
+
+/*
+ * The numbers, and who can cause each.
+ *
+ *    1  the sender of a record         it is cut short
+ *    2  the sender of a record         its layout is damaged: a header, an entry, or lengths that do not sum
+ *    3  the sender of a record         a text or a name is not UTF-8
+ *    4  the sender of a record         a number is of no listed form
+ *    5  the sender of a record         it is over 65,536 bytes, or nested deeper than 64
+ *    6  the writer of a path           the path is unreadable, no array, or holds what is neither a name nor an index
+ *    7  the author of an edit          delete on a root null, boolean, number or string; append to what is no array; object build
+ *                                      with what is no array, a name that is no string, or unequal counts
+ *    8  the author of an edit          object build with a repeated name
+ *    9  the author of an edit          the result would be over 65,536 bytes or deeper than 64: append and object build
+ *   10  the lender of the buffer       it is shorter than the result
+ */
+#define JSONB_SHORT JSONB_REFUSED(1)
+#define JSONB_LAYOUT JSONB_REFUSED(2)
+#define JSONB_TEXT JSONB_REFUSED(3)
+#define JSONB_NUMBER JSONB_REFUSED(4)
+#define JSONB_LIMIT JSONB_REFUSED(5)
+#define JSONB_PATH JSONB_REFUSED(6)
+#define JSONB_KIND JSONB_REFUSED(7)
+#define JSONB_REPEATED JSONB_REFUSED(8)
+#define JSONB_RESULT JSONB_REFUSED(9)
+#define JSONB_BUFFER JSONB_REFUSED(10)
+
+/* Checks a record: JSONB_READABLE, or refused with 1 to 5. The edits check their records too. */
+uint64_t jsonb_check(const uint8_t *record, size_t record_length);
+
+/*
+ * Looks up what a path finds in a record. A path is an array record: its strings are names, its integers are indexes, of which
+ * the negative ones count back from the end of an array. A scalar that is found is written as a scalar record; an empty path
+ * finds the record itself.
+ */
+uint64_t jsonb_get_by_keypath(const uint8_t *target, size_t target_length, const uint8_t *path, size_t path_length,
+                              uint8_t *out, size_t out_length);
+
+/* Puts a record, as one item, at the end of an array record. */
+uint64_t jsonb_append(const uint8_t *array, size_t array_length, const uint8_t *item, size_t item_length,
+                      uint8_t *out, size_t out_length);
+
+/* Builds an object from an array of names and an array of as many values. Its members stand in byte order of the names. */
+uint64_t jsonb_build_object(const uint8_t *names, size_t names_length, const uint8_t *values, size_t values_length,
+                            uint8_t *out, size_t out_length);
+
+/*
+ * For example, the heater's limit of a table {"heater":40}:
+ *
+ *     static const uint8_t path[] = {0x80, 0, 0, 1, 0x10, 0, 0, 6, 'h', 'e', 'a', 't', 'e', 'r'};
+ *     uint8_t found[JSONB_ROOM];
+ *     uint64_t answer = jsonb_get_by_keypath(table, table_length, path, sizeof path, found, sizeof found);
+ *     if (JSONB_IS_DONE(answer))
+ *         use(found, (size_t)answer);
+ *     else if (answer == JSONB_ABSENT)
+ *         use_default();
+ *     else
+ *         report(JSONB_NUMBER_OF(answer));
+ */
+
+#ifdef __cplusplus
+}
+#endif
+
+#endif
