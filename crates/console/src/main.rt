@@ -2,6 +2,7 @@
 //
 //   check R         ok, or refused N WORDS
 //   sound R         sound, unsound, or refused N WORDS
+//   get R ; PATH    result HEX, absent, or refused N WORDS: what the path finds in the record R
 //   append A ; R    result HEX, or refused N WORDS: the record R, as one item, at the end of the array A
 //   build N ; V     result HEX, or refused N WORDS: an object of the names in the array N with the values in the array V
 //

@@ -11,20 +11,23 @@ use crate::text::argument;
 use crate::text::count_arguments;
 use builders::builder::append;
 use builders::builder::build_object;
+use edits::path::get_by_keypath;
 use layout::ending::Ending;
 use layout::util::slice;
 use layout::writer::least;
 
-// How many records the calls below take.
+// How many records the calls below take, a path being one.
 const RECORDS: usize = 2;
 
 pub(crate) enum Edit {
+    Get,
     Append,
     Build,
 }
 
 fn run_edit(call: Edit, left: &[u8], right: &[u8], out: &mut [u8]) -> Ending {
     match call {
+        Edit::Get => get_by_keypath(left, right, out),
         Edit::Append => append(left, right, out),
         Edit::Build => build_object(left, right, out),
     }
