@@ -84,6 +84,13 @@ uint64_t jsonb_check(const uint8_t *record, size_t record_length);
 uint64_t jsonb_get_by_keypath(const uint8_t *target, size_t target_length, const uint8_t *path, size_t path_length,
                               uint8_t *out, size_t out_length);
 
+/*
+ * Deletes what a path finds in a record. An empty path, and one that finds nothing, give the record as it is. Every container
+ * above what is deleted is written anew, its objects in byte order of the names, of repeated names the first.
+ */
+uint64_t jsonb_delete_by_keypath(const uint8_t *target, size_t target_length, const uint8_t *path, size_t path_length,
+                                 uint8_t *out, size_t out_length);
+
 /* Puts a record, as one item, at the end of an array record. */
 uint64_t jsonb_append(const uint8_t *array, size_t array_length, const uint8_t *item, size_t item_length,
                       uint8_t *out, size_t out_length);

@@ -208,6 +208,21 @@ static void test_get(void) {
     ends("get by a path of no bytes", get, A, "", JSONB_PATH);
 }
 
+static void test_delete(void) {
+    Edit *delete = jsonb_delete_by_keypath;
+    gives("delete index 0", delete, NULLS, INDEX_0, "80000000");
+    gives("delete \"a\" of D", delete, D, NAME_A, "40000001 10000001 40000000 61");
+    gives("delete \"a\" of A", delete, A, NAME_A, "40000000");
+    gives("delete \"b\" of A, which it has not", delete, A, NAME_B, A);
+    gives("delete with an empty path", delete, D, NO_STEPS, D);
+    gives("delete in a nested array", delete, "80000001 50000008 80000001 00000000", "80000002 20000001 20000001 00 00",
+          "80000001 50000004 80000000");
+    gives("delete in a root extension", delete, "20000000 60000001 AB", INDEX_0, "20000000 60000001 AB");
+    ends("delete in a root null", delete, ROOT_NULL, INDEX_0, JSONB_KIND);
+    ends("delete in a root null, by a path that is no array", delete, ROOT_NULL, A, JSONB_PATH);
+    ends("delete in a damaged record", delete, "80000000 00", A, JSONB_LAYOUT);
+}
+
 static void test_append(void) {
     gives("append to an empty array", jsonb_append, "80000000", ROOT_NULL, NULLS);
     gives("append a string", jsonb_append, "80000001 20000002 5001", "20000000 10000001 61",
@@ -252,6 +267,7 @@ int main(void) {
     test_numbers();
     test_check();
     test_get();
+    test_delete();
     test_append();
     test_build();
     printf("%d right, %d wrong\n", right, wrong);

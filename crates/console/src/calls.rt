@@ -77,11 +77,14 @@ pub(crate) fn answer(line: &[u8]) {
     if is_same(word, b"get") {
         return answer_two(Edit::Get, rest);
     }
+    if is_same(word, b"delete") {
+        return answer_two(Edit::Delete, rest);
+    }
     if is_same(word, b"append") {
         return answer_two(Edit::Append, rest);
     }
     if is_same(word, b"build") {
         return answer_two(Edit::Build, rest);
     }
-    say(b"? there is no such call; there are check, sound, get, append and build\n");
+    say(b"? there is no such call; there are check, sound, get, delete, append and build\n");
 }

@@ -1,15 +1,16 @@
 // The console: a line of hexadecimal in, an answer out, a line for a line.
 //
-//   check R         ok, or refused N WORDS
-//   sound R         sound, unsound, or refused N WORDS
-//   get R ; PATH    result HEX, absent, or refused N WORDS: what the path finds in the record R
-//   append A ; R    result HEX, or refused N WORDS: the record R, as one item, at the end of the array A
-//   build N ; V     result HEX, or refused N WORDS: an object of the names in the array N with the values in the array V
+//   check R            ok, or refused N WORDS
+//   sound R            sound, unsound, or refused N WORDS
+//   get R ; PATH       result HEX, absent, or refused N WORDS: what the path finds in the record R
+//   delete R ; PATH    result HEX, or refused N WORDS: the record R without what the path finds in it
+//   append A ; R       result HEX, or refused N WORDS: the record R, as one item, at the end of the array A
+//   build N ; V        result HEX, or refused N WORDS: an object of the names in the array N with the values in the array V
 //
-// A record stands in hexadecimal; spaces in it are ignored, and an empty one is -. Behind the records of a call that gives a
-// result may stand one more argument, as in `append A ; R ; 100`: the length of the result's buffer in decimal, 65,536 where it
-// is left out. An empty line and a line that starts with # are copied. A line that is none of these gets `? WHY`, and the next
-// one is answered as ever.
+// A record stands in hexadecimal, and so does a path, which is one; spaces in it are ignored, and an empty one is -. Behind the
+// records of a call that gives a result may stand one more argument, as in `append A ; R ; 100`: the length of the result's
+// buffer in decimal, 65,536 where it is left out. An empty line and a line that starts with # are copied. A line that is none of
+// these gets `? WHY`, and the next one is answered as ever.
 mod calls;
 mod decimal;
 mod hex;

@@ -11,6 +11,7 @@ use crate::text::argument;
 use crate::text::count_arguments;
 use builders::builder::append;
 use builders::builder::build_object;
+use edits::path::delete_by_keypath;
 use edits::path::get_by_keypath;
 use layout::ending::Ending;
 use layout::util::slice;
@@ -21,6 +22,7 @@ const RECORDS: usize = 2;
 
 pub(crate) enum Edit {
     Get,
+    Delete,
     Append,
     Build,
 }
@@ -28,6 +30,7 @@ pub(crate) enum Edit {
 fn run_edit(call: Edit, left: &[u8], right: &[u8], out: &mut [u8]) -> Ending {
     match call {
         Edit::Get => get_by_keypath(left, right, out),
+        Edit::Delete => delete_by_keypath(left, right, out),
         Edit::Append => append(left, right, out),
         Edit::Build => build_object(left, right, out),
     }

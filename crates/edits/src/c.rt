@@ -1,4 +1,5 @@
 // The functions for the flight computer's C code; include/jsonb.h is for its programmers. A slice is a pointer and a length there.
+use crate::path::delete_by_keypath;
 use crate::path::get_by_keypath;
 use builders::builder::append;
 use builders::builder::build_object;
@@ -13,7 +14,7 @@ ghost use Rattle.layout.specs.Read.{read};
 ghost use Rattle.layout.specs.Check.{checked};
 ghost use Rattle.layout.specs.Refusal.{number};
 ghost use Rattle.builders.specs.Build.{append as appendOf, build, «on-two» as onTwo};
-ghost use Rattle.edits.specs.Keypath.{«get-by» as getBy, «on-path» as onPath};
+ghost use Rattle.edits.specs.Keypath.{«get-by» as getBy, «delete-by» as deleteBy, «on-path» as onPath};
 ghost use Rattle.edits.specs.C.{«c-check» as cCheck, «c-ending» as cEnding, EndedC};
 
 // The answer where the record is readable, and that of an absence, which is above every length. A refusal's number is added to
@@ -56,6 +57,15 @@ pub extern "C" fn jsonb_get_by_keypath(target: &[u8], path: &[u8], out: &mut [u8
         (onPath getBy (now (target .entry)) (now (path .entry)) (length (now (out .entry)))) ⌝ }
 {
     c_ending(get_by_keypath(target, path, out))
+}
+
+// Deletes what a path finds in a record.
+#[no_mangle]
+pub extern "C" fn jsonb_delete_by_keypath(target: &[u8], path: &[u8], out: &mut [u8]) -> u64
+    ensures { λ r. ⌜ EndedC r (now (out .entry)) (now (out .exit))
+        (onPath deleteBy (now (target .entry)) (now (path .entry)) (length (now (out .entry)))) ⌝ }
+{
+    c_ending(delete_by_keypath(target, path, out))
 }
 
 // Puts a record, as one item, at the end of an array record.
