@@ -40,7 +40,7 @@ extern "C" {
 #define JSONB_READABLE UINT64_C(0)
 #define JSONB_ABSENT UINT64_C(0x100000000)
 
-/* The answer that has a number, and the number that an answer has: 1 to 10 of a refusal, 0 of an absence. */
+/* The answer that has a number; and the number of an answer that is no length, 1 to 10 of a refusal and 0 of an absence. */
 #define JSONB_REFUSED(number) (JSONB_ABSENT + (number))
 #define JSONB_NUMBER_OF(answer) ((int)((answer) - JSONB_ABSENT))
 
