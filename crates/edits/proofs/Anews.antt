@@ -1,7 +1,7 @@
 -- A container with one of its parts written anew, as the code stores it.
-use Prim.Native.Nat.{ℕ, suc, _+_, _*_, _-_, _%_, _^_, _≤_, _<_}
+use Prim.Native.Nat.{ℕ, suc, _+_, _*_, _-_, _%_, _^_, _≤_}
 use native.Mathlib.Omega.{arith}
-use mathlib.Core.Path.{_≡_, refl, ap, ap₂, sym, _∙_}
+use mathlib.Core.Path.{_≡_, refl, ap, sym, _∙_}
 use mathlib.Core.List.{List, [], _∷_, _++_}
 use mathlib.Core.Option.{some}
 use lib.ListN.{length, take, drop}
@@ -9,21 +9,18 @@ use lib.Seq.{take-at}
 use Rattle.layout.specs.Bytes.{Bytes, Octets, be32, word-at, word}
 use Rattle.layout.specs.Entry.{entry-of, length-of, entry-at}
 use Rattle.layout.specs.Tree.{Tree, kind}
-use Rattle.layout.specs.Encode.{Part, entry-word, entries, payloads, payload, part, record-of}
+use Rattle.layout.specs.Encode.{Part, entry-word, payload, part, record-of}
 use Rattle.layout.specs.Check.{checked}
 use Rattle.layout.specs.Patch.{patch}
 use Rattle.layout.specs.declared.item.Kind.the-variants.{Container}
 use Rattle.layout.proofs.Answers.{gives-inj}
 use Rattle.layout.proofs.Words.{word-be32}
-use Rattle.edits.specs.Path.{Step}
-use Rattle.edits.specs.Find.{step-into}
 use Rattle.edits.specs.Delete.{anew}
 use Rattle.edits.specs.Spot.{behind}
-use Rattle.edits.specs.Cut.{Left, Cuts, Onward, InRuns, left-of, step-at, steps-from, way-behind, parts-of, run-entries, run-payloads, run-behind}
+use Rattle.edits.specs.Cut.{Left, Cuts, Onward, InRuns, left-of, step-at, steps-from, way-behind, run-entries, run-payloads, run-behind}
 use Rattle.edits.specs.declared.find.PartAt.{PartAt}
 use Rattle.edits.specs.declared.delete.Cursor.{Cursor}
 use Rattle.edits.specs.declared.delete.Way.{Way}
-use Rattle.edits.proofs.Deletes.{some-inj}
 use Rattle.edits.proofs.Tables.{parted}
 use Rattle.edits.proofs.Cuts.{Part-at, at-part, anew-stored}
 use Rattle.edits.proofs.Leds.{Led, runs-led, left-as}
@@ -76,9 +73,6 @@ module _ (s path : Bytes) (n : ℕ) (a : PartAt) (w : Way) (allowance : ℕ) (o 
   child-bytes next e =
       let z : next .place - a .place ≡ length-of (entry-at s (a .index)) = rw e (omega arith) in
       rw z (down .child)
-
-  pub child-end : (next : PartAt) → next ≡ behind s a → (a .place ≤ next .place) × (next .place ≤ length s)
-  child-end next e = rw e (omega arith, omega (arith, here .size, here .end))
 
   pub child-cuts : (next : PartAt) (w′ : Way) → next ≡ behind s a → w′ ≡ way-behind path w
       → Cuts (take (next .place - a .place) (drop (a .place) s)) path w′ (allowance - 1)

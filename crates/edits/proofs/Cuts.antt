@@ -1,5 +1,5 @@
 -- A container without one of its parts, or with one written anew, stored in runs.
-use Prim.Native.Nat.{ℕ, zero, suc, _+_, _*_, _-_, _^_, _≤_, _<_}
+use Prim.Native.Nat.{ℕ, zero, suc, _+_, _*_, _-_, _≤_, _<_}
 use native.Mathlib.Omega.{arith}
 use mathlib.Core.Path.{_≡_, refl, ap, ap₂, sym, _∙_}
 use mathlib.Core.List.{List, [], _∷_, _++_, append-assoc, append-nil}
@@ -11,7 +11,7 @@ use Rattle.layout.specs.Patch.{patch}
 use Rattle.layout.proofs.Level.{AllFit}
 use Rattle.layout.proofs.Decoding.{payloads-append}
 use Rattle.layout.proofs.Readables.{record-of-length}
-use Rattle.edits.specs.Spot.{nth-part, behind}
+use Rattle.edits.specs.Spot.{behind}
 use Rattle.edits.specs.Cut.{Left, PartOf, parts-of, without, without-member, run-entries, run-payloads, run-behind}
 use Rattle.edits.specs.declared.find.PartAt.{PartAt}
 use Rattle.edits.specs.declared.delete.Cursor.{Cursor}

@@ -15,10 +15,6 @@ use Rattle.layout.specs.Patch.{patch}
 use Rattle.layout.proofs.Patches.{patch-zero, patch-snoc}
 use Rattle.edits.specs.Path.{decimal, index-text}
 
-pub decimal-none : (most v : ℕ) → most ≡ 0 → decimal most v ≡ []
-unfolding decimal
-decimal-none most v z = rw z
-
 pub decimal-one : (most v : ℕ) → (most ≡ 0 → ⊥) → v < 10 → decimal most v ≡ (48 + v) ∷ []
 unfolding decimal
 decimal-one zero v z h = absurd (z refl)

@@ -1,10 +1,10 @@
 -- Delete by a path, number by number in document 01's order, as the code decides.
-use Prim.Native.Nat.{ℕ, _+_, _*_, _^_, _≤_, _<_}
+use Prim.Native.Nat.{ℕ, _^_, _≤_, _<_}
 use native.Mathlib.Omega.{arith}
 use mathlib.Core.Path.{_≡_, refl, ap, sym, _∙_}
 use mathlib.Core.Bool.{true, false}
 use mathlib.Core.List.{List, [], _∷_}
-use mathlib.Core.Option.{Option, none as nothing, some}
+use mathlib.Core.Option.{some}
 use lib.ListN.{length, length-append}
 use Rattle.layout.specs.Bytes.{Bytes, Octets}
 use Rattle.layout.specs.Answer.{gives, refused, _>>=_}
@@ -37,7 +37,7 @@ use Rattle.edits.specs.Path.{Step, path-of}
 use Rattle.edits.specs.Find.{_then_, step-into, look-up}
 use Rattle.edits.specs.Delete.{anew, left, delete, deletable}
 use Rattle.edits.specs.Keypath.{delete-by, on-path}
-use Rattle.edits.specs.Steps.{part-steps, steps-told}
+use Rattle.edits.specs.Steps.{steps-told}
 use Rattle.edits.specs.Held.{finding, Finds}
 use Rattle.edits.specs.Cut.{left-of}
 use Rattle.edits.specs.declared.keypath.Steps.{Steps}

@@ -1,39 +1,29 @@
 -- The answers for C. How the functions come to them; that a result is shorter than 2 ^ 32; and that no answer stands for two
 -- endings, since lengths are below 2 ^ 32 and the numbers above it.
-use Prim.Native.Nat.{ℕ, _+_, _-_, _^_, _≤_, _<_}
+use Prim.Native.Nat.{ℕ, _-_, _^_, _≤_, _<_}
 use native.Mathlib.Omega.{arith}
 use mathlib.Core.Path.{_≡_, refl, ap, sym, _∙_}
-use mathlib.Core.Bool.{Bool, true, false, cond}
-use mathlib.Core.List.{List, [], _∷_}
-use mathlib.Core.Option.{Option, none as nothing, some}
-use lib.Dec.{ltb, leb→le}
+use mathlib.Core.List.{[], _∷_}
+use lib.Dec.{leb→le}
 use lib.ListN.{length, getD}
 use Rattle.layout.specs.Bytes.{Bytes, Octets}
-use Rattle.layout.specs.Answer.{Answer, gives, refused, _>>=_}
-use Rattle.layout.specs.Tree.{Tree, null, boolean, number as numeral, string, extension, array, object}
-use Rattle.layout.specs.Encode.{encode}
-use Rattle.layout.specs.Read.{read}
-use Rattle.layout.specs.Limits.{record-length}
+use Rattle.layout.specs.Answer.{Answer}
+use Rattle.layout.specs.Tree.{Tree, array}
 use Rattle.layout.specs.Refusal.{number}
-use Rattle.layout.specs.Ended.{Outcome, result, absence, refusal, into, ending, Ended}
+use Rattle.layout.specs.Ended.{Outcome, result, absence, refusal, ending, Ended}
 use Rattle.layout.specs.declared.refusal.Refusal.{Refusal}
 use Rattle.layout.specs.declared.refusal.Refusal.the-variants.{Short, Layout, Text, Number, Limit, Path, Kind, Repeated, Result, Buffer}
 use Rattle.layout.specs.declared.check.Check.{Check}
 use Rattle.layout.specs.declared.check.Check.the-variants.{Readable, Refused as NotReadable}
 use Rattle.layout.specs.declared.ending.Ending.{Ending}
-use Rattle.layout.specs.declared.ending.Ending.the-variants.{Done, Absent, Refused}
-use Rattle.layout.proofs.Answers.{from-bind, from-require, gives-inj, refused-gives}
-use Rattle.layout.proofs.Decoding.{read-is, read-sound}
-use Rattle.layout.proofs.Readables.{length-encode}
+use Rattle.layout.specs.declared.ending.Ending.the-variants.{Done, Refused}
+use Rattle.layout.proofs.Answers.{from-require}
+use Rattle.layout.proofs.Decoding.{read-is}
 use Rattle.builders.specs.Build.{append, build, on-two}
 use Rattle.builders.proofs.Results.{Keeps, result-made, append-keeps, build-keeps}
-use Rattle.edits.specs.Path.{Step, path-of}
-use Rattle.edits.specs.Find.{look-up}
-use Rattle.edits.specs.Delete.{delete, deletable}
-use Rattle.edits.specs.Keypath.{get-by, delete-by, found, on-path}
+use Rattle.edits.specs.Keypath.{get-by, delete-by, on-path}
 use Rattle.edits.specs.C.{c-check, c-ending, c-outcome, EndedC}
-use Rattle.edits.proofs.Deletes.{some-inj}
-use Rattle.edits.proofs.Kept.{look-up-kept, delete-kept}
+use Rattle.edits.proofs.PathResults.{get-made, delete-made}
 
 -- ---- the functions
 
@@ -57,59 +47,11 @@ ended-c e o o′ x h r q = record { answer = q ∙ ap c-ending (h .answer); byte
 abbrev pub Limited : Outcome → Type 0
 Limited o = (b : Bytes) → o ≡ result b → length b ≤ 65536
 
-into-result : (room : ℕ) (x b : Bytes) → into room x ≡ result b → b ≡ x
-unfolding into
-into-result room x b = go (ltb room (length x))
-  where
-    go : (t : Bool) → cond t (refusal Buffer) (result x) ≡ result b → b ≡ x
-    go true q = let z : _≡_ {A = ℕ} 0 1 = cc in let w : ⊥ = omega arith in absurd w
-    go false q = cc
-
-found-result : (room : ℕ) (m : Answer (Option Tree)) (b : Bytes) → found room m ≡ result b → (v : Tree) × (m ≡ gives (some v)) × (b ≡ encode v)
-found-result room (refused r) b e = let z : _≡_ {A = ℕ} 0 1 = cc in let w : ⊥ = omega arith in absurd w
-found-result room (gives nothing) b e = let z : _≡_ {A = ℕ} 0 1 = cc in let w : ⊥ = omega arith in absurd w
-found-result room (gives (some v)) b e = (v, refl, into-result room (encode v) b e)
-
-on-path-is : (edit : List Step → Tree → Answer (Option Tree)) (target path : Bytes) (room : ℕ)
-    → on-path edit target path room ≡ found room (read target >>= λ t. path-of path >>= λ p. edit p t)
-unfolding on-path
-on-path-is edit target path room = refl
-
--- With a path: an edit whose trees have no longer records than those that it is given.
-path-limited : (edit : List Step → Tree → Answer (Option Tree))
-    → ((p : List Step) (t v : Tree) → edit p t ≡ gives (some v) → record-length v ≤ record-length t)
-    → (target path : Bytes) (room : ℕ) → Octets target → Limited (on-path edit target path room)
-path-limited edit shrinks target path room o b e =
-    let w = found-result room _ b (sym (on-path-is edit target path room) ∙ e) in
-    from-bind (w .1) λ t ht e₁. from-bind e₁ λ p hp e₂.
-    let s = read-sound target t o ht in
-    let l : length (encode t) ≡ length target = ap length (s .0 .bytes) in
-    rw (w .2) (omega (arith, s .1, l, length-encode t, length-encode (w .0), shrinks p t (w .0) e₂))
-
 pub get-limited : (target path : Bytes) (room : ℕ) → Octets target → Limited (on-path get-by target path room)
-get-limited = path-limited get-by (λ p t v e. look-up-kept p t v (gives-inj (sym (get-is p t) ∙ e)) .long)
-  where
-    get-is : (p : List Step) (t : Tree) → get-by p t ≡ gives (look-up p t)
-    get-is p t = unfold get-by in refl
-
-deletable-same : (t u : Tree) → deletable t ≡ gives u → t ≡ u
-deletable-same null u e = refused-gives e
-deletable-same (boolean x) u e = refused-gives e
-deletable-same (numeral b) u e = refused-gives e
-deletable-same (string b) u e = refused-gives e
-deletable-same (extension b) u e = gives-inj e
-deletable-same (array ts) u e = gives-inj e
-deletable-same (object ms) u e = gives-inj e
-
-delete-gives : (p : List Step) (t v : Tree) → delete-by p t ≡ gives (some v) → delete p t ≡ v
-delete-gives p t v e =
-    from-bind (sym (delete-is p t) ∙ e) λ u hu e₁. ap (delete p) (deletable-same t u hu) ∙ some-inj (gives-inj e₁)
-  where
-    delete-is : (p : List Step) (t : Tree) → delete-by p t ≡ (deletable t >>= λ u. gives (some (delete p u)))
-    delete-is p t = unfold delete-by in refl
+get-limited target path room o b e = get-made target path b room o e .short
 
 pub delete-limited : (target path : Bytes) (room : ℕ) → Octets target → Limited (on-path delete-by target path room)
-delete-limited = path-limited delete-by (λ p t v e. rw (← delete-gives p t v e) (delete-kept p t .long))
+delete-limited target path room o b e = delete-made target path b room o e .short
 
 -- With two records: the result reads as a tree.
 two-limited : (edit : Tree → Tree → Answer Tree) → Keeps edit → (l r : Bytes) (room : ℕ) → Octets l → Octets r → Limited (on-two edit l r room)

@@ -10,7 +10,6 @@ use mathlib.Core.Option.{Option, none as nothing, some}
 use lib.ListN.{length, take, drop, length-append}
 use lib.Seq.{take-at, drop-at, drop-drop}
 use Rattle.layout.specs.Bytes.{Bytes, Octets}
-use Rattle.layout.specs.Answer.{gives}
 use Rattle.layout.specs.Tree.{Tree, array, object, Items, Members, names}
 use Rattle.layout.specs.Encode.{Part, payload, part, record-of, item-parts, name-part, name-parts, member-parts}
 use Rattle.layout.specs.Read.{header, nested}
@@ -25,22 +24,21 @@ use Rattle.layout.proofs.Encoding.{names-count}
 use Rattle.layout.proofs.Patches.{length-patch}
 use Rattle.layout.proofs.Places.{take-parts}
 use Rattle.layout.proofs.Sounds.{rising-test, rising-names}
-use Rattle.builders.specs.Order.{find, in-order}
+use Rattle.builders.specs.Order.{in-order}
 use Rattle.builders.specs.Build.{count}
 use Rattle.builders.proofs.InOrders.{rising-in-order}
 use Rattle.builders.proofs.Knowns.{an-array}
 use Rattle.edits.specs.Path.{Step}
 use Rattle.edits.specs.Find.{step-place, step-name, item-at, step-into}
-use Rattle.edits.specs.Delete.{change-item, change-member, anew}
+use Rattle.edits.specs.Delete.{change-member, anew}
 use Rattle.edits.specs.Spot.{spot, nth-part}
 use Rattle.edits.specs.Cut.{Left, InRuns, left-of, count-parts, Table, PartOf, parts-of, without, without-member, manner-of}
 use Rattle.edits.specs.declared.find.PartAt.{PartAt}
 use Rattle.edits.specs.declared.find.Spot.the-variants.{At}
-use Rattle.edits.specs.declared.delete.Manner.{Manner}
 use Rattle.edits.specs.declared.delete.Manner.the-variants.{Items as ByItems, Rising as ByRising, Unsorted, Neither}
 use Rattle.edits.proofs.Deletes.{change-rising}
 use Rattle.edits.proofs.Splits.{ItemSplit, item-split, MemberSplit, member-split}
-use Rattle.edits.proofs.Tables.{Contains, contains, an-object, array-parted, object-parted}
+use Rattle.edits.proofs.Tables.{Contains, contains, array-parted, object-parted}
 use Rattle.edits.proofs.Spots.{array-spot}
 use Rattle.edits.proofs.Sorteds.{Value-at, value-at}
 
@@ -209,9 +207,6 @@ module _ (s : Bytes) (n : ℕ) (a : PartAt) (p : Step) (v : Value-at s n a p) (h
 
   vals-all : length (sp .vals-left) + suc (length (sp .vals-right)) ≡ n
   vals-all = sym (length-append (sp .vals-left) (part (v .value) ∷ sp .vals-right)) ∙ ap length (sym (sp .vals)) ∙ sym (v .count)
-
-  keys-all : length (sp .keys-left) + suc (length (sp .keys-right)) ≡ n
-  keys-all = sym (length-append (sp .keys-left) (name-part (step-name p) ∷ sp .keys-right)) ∙ ap length (sym (sp .keys)) ∙ names-all
 
   -- The parts before the value are the names and the values before it.
   object-left : name-parts (names ms) ++ member-parts ms ≡ (name-parts (names ms) ++ sp .vals-left) ++ (part (v .value) ∷ sp .vals-right)

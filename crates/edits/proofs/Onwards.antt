@@ -1,31 +1,30 @@
 -- One level down: from a container in which the rest of a path finds an item to the part that the next step leads to.
-use Prim.Native.Nat.{ℕ, zero, suc, _+_, _*_, _-_, _^_, _≤_, _<_}
+use Prim.Native.Nat.{ℕ, suc, _+_, _-_, _≤_, _<_}
 use native.Mathlib.Omega.{arith}
 use mathlib.Core.Path.{_≡_, refl, ap, ap₂, sym, _∙_}
 use mathlib.Core.Bool.{true, false}
 use mathlib.Core.List.{List, [], _∷_}
-use mathlib.Core.Option.{Option, none as nothing, some}
+use mathlib.Core.Option.{Option, some}
 use lib.ListN.{length, take, drop}
 use Rattle.layout.specs.Bytes.{Bytes, Octets}
 use Rattle.layout.specs.Answer.{gives}
 use Rattle.layout.specs.Entry.{code-of, length-of, entry-at}
-use Rattle.layout.specs.Tree.{Tree, null, boolean, number, string, extension, array, object, Items, none, item, Members, empty, member, kind}
-use Rattle.layout.specs.Encode.{Part, payload, part}
+use Rattle.layout.specs.Tree.{Tree, null, boolean, number, string, extension, array, object, none, kind}
+use Rattle.layout.specs.Encode.{payload, part}
 use Rattle.layout.specs.Read.{header, nested}
 use Rattle.layout.specs.Check.{checked}
-use Rattle.layout.specs.Limits.{Valid, depth, depth-items, depth-members, size}
+use Rattle.layout.specs.Limits.{size}
 use Rattle.layout.specs.Place.{part-at, parts-at}
 use Rattle.layout.specs.declared.item.Kind.the-variants.{Container}
 use Rattle.layout.specs.declared.check.Check.the-variants.{Readable}
 use Rattle.layout.proofs.Fields.{length-lt}
 use Rattle.layout.proofs.Words.{octets-take, octets-drop}
 use Rattle.layout.proofs.Readables.{nested-reads, size-payload}
-use Rattle.builders.specs.Order.{find, by}
 use Rattle.edits.specs.Path.{Step}
-use Rattle.edits.specs.Find.{_then_, step-into, look-up, item-at, step-place, step-name}
+use Rattle.edits.specs.Find.{_then_, step-into, look-up}
 use Rattle.edits.specs.Delete.{left, anew, delete}
 use Rattle.edits.specs.Steps.{code-key, step}
-use Rattle.edits.specs.Spot.{spot, behind}
+use Rattle.edits.specs.Spot.{spot}
 use Rattle.edits.specs.Held.{finding}
 use Rattle.edits.specs.Cut.{left-of, step-at, steps-from, way-behind, Cuts, Onward}
 use Rattle.edits.specs.declared.find.PartAt.{PartAt}
@@ -36,7 +35,7 @@ use Rattle.edits.proofs.Deletes.{then-some, some-inj, nothing-some}
 use Rattle.edits.proofs.Kept.{delete-kept, step-inside}
 use Rattle.edits.proofs.Tables.{Contains, contains, contains-more}
 use Rattle.edits.proofs.Keys.{part-key-at}
-use Rattle.edits.proofs.Spots.{Spotted, spot-part, spot-none}
+use Rattle.edits.proofs.Spots.{spot-part, spot-none}
 
 -- The next step, and those behind it.
 pub steps-cons : (path : Bytes) (w : Way) → w .step .index < w .count → steps-from path w ≡ step-at path (w .step) ∷ steps-from path (way-behind path w)

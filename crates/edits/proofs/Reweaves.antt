@@ -1,10 +1,10 @@
 -- A member stored with its value written anew where it has a name, and the loop that stores all of them in byte order.
-use Prim.Native.Nat.{ℕ, suc, _+_, _*_, _-_, _%_, _^_, _≤_, _<_}
+use Prim.Native.Nat.{ℕ, _+_, _*_, _-_, _%_, _^_, _≤_}
 use native.Mathlib.Omega.{arith}
-use mathlib.Core.Path.{_≡_, refl, ap, ap₂, sym, _∙_}
+use mathlib.Core.Path.{_≡_, ap, sym, _∙_}
 use mathlib.Core.Bool.{Bool, true, false}
 use mathlib.Core.List.{List}
-use lib.ListN.{length, take, drop}
+use lib.ListN.{length, drop}
 use Rattle.layout.specs.Bytes.{Bytes, Octets, be32}
 use Rattle.layout.specs.Entry.{entry-of, length-of}
 use Rattle.layout.specs.Patch.{patch}

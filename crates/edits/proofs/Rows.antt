@@ -1,14 +1,14 @@
 -- Where the parts of a record stand: the entry of each, and its payload.
-use Prim.Native.Nat.{ℕ, zero, suc, _+_, _*_, _-_, _^_, _≤_, _<_}
+use Prim.Native.Nat.{ℕ, _+_, _*_, _-_, _≤_}
 use native.Mathlib.Omega.{arith}
 use mathlib.Core.Path.{_≡_, refl, ap, sym, _∙_}
 use mathlib.Core.List.{List, [], _∷_, _++_, append-assoc}
 use lib.ListN.{length, take, drop, length-append}
 use lib.Seq.{take-append-seam, drop-append-seam, drop-drop}
-use Rattle.layout.specs.Bytes.{Bytes, be32, word-at}
+use Rattle.layout.specs.Bytes.{Bytes}
 use Rattle.layout.specs.Entry.{length-of, entry-at, lengths}
 use Rattle.layout.specs.Encode.{Part, entry-word, entries, payloads, record-of}
-use Rattle.layout.proofs.Words.{drop-be32, length-be32}
+use Rattle.layout.proofs.Words.{drop-be32}
 use Rattle.layout.proofs.Level.{AllFit, entries-length}
 use Rattle.layout.proofs.Decoding.{payloads-append}
 use Rattle.layout.proofs.Readables.{record-of-length}

@@ -2,18 +2,17 @@
 -- that is left.
 use Prim.Native.Nat.{ℕ, zero, suc, _+_, _*_, _-_, _^_, _≤_, _<_}
 use native.Mathlib.Omega.{arith}
-use mathlib.Core.Path.{_≡_, refl, ap, ap₂, sym, _∙_}
-use mathlib.Core.Logic.{_⊎_, inl, inr}
-use mathlib.Core.Bool.{Bool, true, false, cond}
+use mathlib.Core.Path.{_≡_, refl, ap, sym, _∙_}
+use mathlib.Core.Logic.{inl, inr}
+use mathlib.Core.Bool.{true, false}
 use mathlib.Core.List.{List, [], _∷_, _++_, append-assoc}
-use mathlib.Core.Option.{Option, some}
+use mathlib.Core.Option.{some}
 use lib.Bits.{bitOr}
-use lib.Dec.{eqb}
-use lib.ListN.{length, take, drop, length-append}
+use lib.ListN.{length, take, drop}
 use Rattle.layout.specs.Bytes.{Bytes, Octets, be32}
-use Rattle.layout.specs.Entry.{entry-of, length-of, entry-at, lengths}
+use Rattle.layout.specs.Entry.{length-of, entry-at, lengths}
 use Rattle.layout.specs.Tree.{Tree, object, Members, empty, member, names, kind}
-use Rattle.layout.specs.Encode.{Part, entry-word, name-part, name-parts, member-parts, payload, part, record-of}
+use Rattle.layout.specs.Encode.{Part, name-part, name-parts, member-parts, payload, record-of}
 use Rattle.layout.specs.Order.{order}
 use Rattle.layout.specs.Sound.{Rising, _≺_}
 use Rattle.layout.specs.Read.{header}
@@ -28,13 +27,12 @@ use Rattle.layout.proofs.Answers.{gives-inj}
 use Rattle.layout.proofs.Encoding.{object-fits}
 use Rattle.layout.proofs.Values.{In, rising-tail, rising-all, ≺-irrefl}
 use Rattle.builders.specs.Order.{by, same, find, in-order}
-use Rattle.builders.specs.Search.{bytes-at, name-in, value-in, members-at, kept-of, bound, least, sorted, nth}
+use Rattle.builders.specs.Search.{name-in, value-in, members-at, kept-of, sorted, nth}
 use Rattle.builders.specs.Weave.{own-entry, woven, column}
 use Rattle.builders.specs.declared.search.Kept.the-variants.{All}
 use Rattle.builders.specs.declared.search.MemberAt.{MemberAt}
 use Rattle.builders.specs.declared.search.Places.{Places}
-use Rattle.builders.specs.declared.search.Found.{Found}
-use Rattle.builders.specs.declared.search.Found.the-variants.{Nothing, At as FoundAt}
+use Rattle.builders.specs.declared.search.Found.the-variants.{At as FoundAt}
 use Rattle.builders.proofs.Orderings.{order-equal, order-refl}
 use Rattle.builders.proofs.InOrders.{in-order-rising, find-in-order}
 use Rattle.builders.proofs.Searches.{kept-all, nth-inside}

@@ -1,8 +1,8 @@
 -- The members of an object by their places: without one of them, in byte order, they stand for those of the tree that is left.
-use Prim.Native.Nat.{ℕ, zero, suc, _+_, _*_, _-_, _^_, _≤_, _<_}
+use Prim.Native.Nat.{ℕ, suc, _+_, _*_, _-_, _^_, _≤_, _<_}
 use native.Mathlib.Omega.{arith}
 use mathlib.Core.Path.{_≡_, refl, ap, ap₂, sym, _∙_}
-use mathlib.Core.Bool.{Bool, true, false, not, cond}
+use mathlib.Core.Bool.{true, false, cond}
 use mathlib.Core.List.{List, [], _∷_, _++_, append-assoc, append-nil}
 use mathlib.Core.Option.{Option, none as nothing, some}
 use lib.Bits.{bitOr}
@@ -11,7 +11,7 @@ use lib.ListN.{length, drop, length-append}
 use borrow.Author.Tests.{eq-eqb, ne-eqb}
 use Rattle.layout.specs.Bytes.{Bytes, Octets, be32}
 use Rattle.layout.specs.Entry.{lengths}
-use Rattle.layout.specs.Tree.{Tree, object, Items, none, item, Members, empty, member, names, values, pair}
+use Rattle.layout.specs.Tree.{Tree, object, Members, empty, member, names, values}
 use Rattle.layout.specs.Encode.{Part, payload, payloads, entries, record-of, name-parts, item-parts, member-parts, part}
 use Rattle.layout.specs.Answer.{gives}
 use Rattle.layout.specs.Limits.{size}
@@ -23,12 +23,11 @@ use Rattle.layout.specs.declared.check.Check.the-variants.{Readable}
 use Rattle.layout.specs.declared.util.Header.the-variants.{Object}
 use Rattle.layout.specs.declared.order.Ordering.{Ordering}
 use Rattle.layout.specs.declared.order.Ordering.the-variants.{Less, Equal, Greater}
-use Rattle.layout.proofs.Level.{AllFit}
 use Rattle.layout.proofs.Encoding.{object-fits, names-count, pair-of}
 use Rattle.layout.proofs.Decoding.{payloads-append}
 use Rattle.layout.proofs.Readables.{record-of-length, size-payload}
 use Rattle.builders.specs.Order.{by, find, same, in-order}
-use Rattle.builders.specs.Search.{name-in, value-in, members-from, members-at, is-kept, kept-of}
+use Rattle.builders.specs.Search.{name-in, value-in, members-at, is-kept, kept-of}
 use Rattle.builders.specs.Weave.{own-entry, woven, column}
 use Rattle.builders.specs.declared.search.Kept.the-variants.{But}
 use Rattle.builders.specs.declared.search.MemberAt.{MemberAt}

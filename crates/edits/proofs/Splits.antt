@@ -1,9 +1,8 @@
 -- A container split at the item that a step finds: the parts before it, its own, and those behind it; and what becomes of them
 -- where the item goes or is written anew.
 use Prim.Native.Nat.{ℕ, zero, suc}
-use native.Mathlib.Omega.{arith}
-use mathlib.Core.Path.{_≡_, refl, ap, sym, _∙_}
-use mathlib.Core.Bool.{cond, true, false}
+use mathlib.Core.Path.{_≡_, refl, ap, sym}
+use mathlib.Core.Bool.{false}
 use mathlib.Core.List.{List, [], _∷_, _++_}
 use mathlib.Core.Option.{Option, none as nothing, some}
 use lib.ListN.{length}
@@ -17,7 +16,7 @@ use Rattle.builders.specs.Order.{by, find, same}
 use Rattle.builders.proofs.Orderings.{order-equal}
 use Rattle.edits.specs.Find.{item-at}
 use Rattle.edits.specs.Delete.{change-item, change-member}
-use Rattle.edits.specs.Spot.{one-more, first}
+use Rattle.edits.specs.Spot.{first}
 use Rattle.edits.proofs.Deletes.{nothing-some, some-inj}
 
 -- An array at its item `k`.

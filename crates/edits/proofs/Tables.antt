@@ -1,18 +1,17 @@
 -- A readable container by its bytes: its tree, and its parts.
-use Prim.Native.Nat.{ℕ, suc, _+_, _*_, _^_, _≤_, _<_}
+use Prim.Native.Nat.{ℕ, _+_, _*_, _^_, _≤_}
 use native.Mathlib.Omega.{arith}
 use mathlib.Core.Path.{_≡_, refl, ap, sym, _∙_}
 use mathlib.Core.Bool.{true, false}
 use mathlib.Core.List.{List, _++_}
 use lib.ListN.{length}
-use Rattle.layout.specs.Bytes.{Bytes, Octets, word-at}
+use Rattle.layout.specs.Bytes.{Bytes, Octets}
 use Rattle.layout.specs.Answer.{gives}
 use Rattle.layout.specs.Tree.{Tree, null, boolean, number, string, extension, array, object, Items, Members, kind, names}
 use Rattle.layout.specs.Encode.{Part, payload, part, record-of, item-parts, name-parts, member-parts}
 use Rattle.layout.specs.Limits.{Valid, depth}
 use Rattle.layout.specs.Read.{header, nested}
 use Rattle.layout.specs.Check.{checked}
-use Rattle.layout.specs.Place.{parts-at}
 use Rattle.layout.specs.declared.item.Kind.the-variants.{Container}
 use Rattle.layout.specs.declared.check.Check.the-variants.{Readable}
 use Rattle.layout.specs.declared.util.Header.the-variants.{Object}

@@ -1,13 +1,13 @@
 -- An array and an object without one of their items, as the code stores them.
-use Prim.Native.Nat.{ℕ, suc, _+_, _*_, _-_, _^_, _≤_, _<_}
+use Prim.Native.Nat.{ℕ, _+_, _*_, _-_, _^_, _≤_, _<_}
 use native.Mathlib.Omega.{arith}
 use mathlib.Core.Path.{_≡_, refl, ap, sym, _∙_}
-use mathlib.Core.List.{List, _∷_, _++_}
+use mathlib.Core.List.{_∷_, _++_}
 use lib.Bits.{bitOr, or-shifted}
-use lib.ListN.{length, length-append}
+use lib.ListN.{length}
 use Rattle.layout.specs.Bytes.{Bytes, be32}
 use Rattle.layout.specs.Entry.{length-of, entry-at, lengths}
-use Rattle.layout.specs.Encode.{Part, payloads, record-of}
+use Rattle.layout.specs.Encode.{record-of}
 use Rattle.layout.specs.Patch.{patch}
 use Rattle.layout.proofs.Level.{AllFit}
 use Rattle.edits.specs.Spot.{nth-part, behind}

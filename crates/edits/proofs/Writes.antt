@@ -2,8 +2,8 @@
 -- there is room; and the numbers of delete in their order.
 use Prim.Native.Nat.{ℕ, _+_, _*_, _-_, _^_, _≤_, _<_}
 use native.Mathlib.Omega.{arith}
-use mathlib.Core.Path.{_≡_, refl, ap, sym, _∙_}
-use mathlib.Core.List.{List, [], _∷_, _++_}
+use mathlib.Core.Path.{_≡_, ap, _∙_}
+use mathlib.Core.List.{[], _++_}
 use mathlib.Core.Option.{some}
 use lib.ListN.{length}
 use Rattle.layout.specs.Bytes.{Bytes}
@@ -16,7 +16,6 @@ use Rattle.layout.specs.declared.check.Check.the-variants.{Readable}
 use Rattle.layout.specs.declared.refusal.Refusal.the-variants.{Buffer}
 use Rattle.layout.specs.declared.ending.Ending.the-variants.{Done, Refused}
 use Rattle.layout.proofs.Patches.{patch-empty, ended-short, ended-full}
-use Rattle.edits.specs.Path.{Step}
 use Rattle.edits.specs.Steps.{part-steps}
 use Rattle.edits.specs.Held.{finding}
 use Rattle.edits.specs.Cut.{Left, Cuts, left-of, steps-from}

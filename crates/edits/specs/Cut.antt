@@ -2,15 +2,15 @@
 use Prim.Native.Nat.{ℕ, suc, _+_, _*_, _-_, _^_, _≤_, _<_}
 use mathlib.Core.Path.{_≡_}
 use mathlib.Core.Logic.{_⊎_}
-use mathlib.Core.Bool.{Bool, true, false, cond}
+use mathlib.Core.Bool.{true, cond}
 use mathlib.Core.List.{List, [], _∷_, _++_}
 use mathlib.Core.Option.{Option, none as nothing, some}
 use lib.ListN.{length, take, drop}
-use Rattle.layout.specs.Bytes.{Bytes, word-at}
+use Rattle.layout.specs.Bytes.{Bytes}
 use Rattle.layout.specs.Answer.{Answer, gives, refused}
 use Rattle.layout.specs.Entry.{entry-of, lengths}
 use Rattle.layout.specs.Tree.{Tree}
-use Rattle.layout.specs.Encode.{Part, payload, record-of}
+use Rattle.layout.specs.Encode.{Part, payload}
 use Rattle.layout.specs.Read.{header, nested}
 use Rattle.layout.specs.Check.{checked}
 use Rattle.layout.specs.Patch.{patch}
@@ -25,7 +25,6 @@ use Rattle.builders.specs.declared.search.Kept.{Kept}
 use Rattle.builders.specs.declared.search.MemberAt.{MemberAt}
 use Rattle.builders.specs.declared.search.Places.{Places}
 use Rattle.edits.specs.Path.{Step}
-use Rattle.edits.specs.Find.{look-up}
 use Rattle.edits.specs.Delete.{left}
 use Rattle.edits.specs.Steps.{part-step, part-steps}
 use Rattle.edits.specs.Spot.{spot, nth-part, behind}

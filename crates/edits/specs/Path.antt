@@ -1,7 +1,7 @@
 -- Path records: document 01, "A path is itself an array record: strings are names, integers of any listed width, 00 among them,
 -- from −2^31 to 2^31−1 are indexes", and 6, "the path is unreadable, no array, or holds another kind of item".
 use Prim.Native.Nat.{ℕ, zero, suc, _+_, _/_, _%_, _^_}
-use mathlib.Core.Bool.{Bool, cond}
+use mathlib.Core.Bool.{cond}
 use mathlib.Core.List.{List, [], _∷_, _++_}
 use lib.Dec.{ltb}
 use lib.IntN.{ℤ, pos, negsuc}
@@ -13,7 +13,6 @@ use Rattle.layout.specs.Tree.{Tree, null, boolean, number, string, extension, a
 use Rattle.layout.specs.Read.{read}
 use Rattle.layout.specs.declared.number.Number.{Number}
 use Rattle.layout.specs.declared.number.Number.the-variants.{Nan, Infinity, NegInfinity, Int64, UInt64, Float64, Decimal64, WideDecimal, Refused}
-use Rattle.layout.specs.declared.refusal.Refusal.{Refusal}
 use Rattle.layout.specs.declared.refusal.Refusal.the-variants.{Path}
 
 pub data Step : Type 0 where

@@ -1,5 +1,5 @@
 -- `edits::c::c_ending` meets its contract.
-use mathlib.Core.Path.{_≡_, sym, ap, _∙_}
+use mathlib.Core.Path.{sym, ap, _∙_}
 use Rattle.edits.specs.C.{c-ending}
 use borrow.Author.Needs.{needs}
 use Rattle.edits.proofs.c.c_ending.Statement.{statement}

@@ -1,5 +1,5 @@
 -- `edits::c::jsonb_check` meets its contract.
-use mathlib.Core.Path.{_≡_, sym, ap, _∙_}
+use mathlib.Core.Path.{sym, ap, _∙_}
 use Rattle.edits.specs.C.{c-check}
 use borrow.Author.Needs.{needs}
 use Rattle.edits.proofs.c.jsonb_check.Statement.{statement}

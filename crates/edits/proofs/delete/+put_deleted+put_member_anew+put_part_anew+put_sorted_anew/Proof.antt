@@ -147,279 +147,144 @@ put-part-anew-claims t = (part-behind-reads.Asked, part-behind-reads.Learnt, rea
 abbrev put-sorted-anew-claims : ℕ → put-sorted-anew-lts.Claims
 put-sorted-anew-claims t = (members-of-reads.Asked, members-of-reads.Learnt, name-of-reads.Asked, name-of-reads.Learnt, way-behind-reads.Asked, way-behind-reads.Learnt, measure-members-reads.Asked, measure-members-reads.Learnt, places-for-reads.Asked, places-for-reads.Learnt, put-u32-reads.Asked, put-u32-reads.Learnt, slice-reads.Asked, slice-reads.Learnt, next-member-reads.Asked, next-member-reads.Learnt, put-member-anew-below t, put-member-anew.Post, payload-at-reads.Asked, payload-at-reads.Learnt)
 
--- src/delete.rt:394:9
 put-deleted-read-jentry-requires : (t : ℕ) → put-deleted-lts.Need-read-jentry-requires (put-deleted-claims t) (put-deleted-at t) put-deleted.Post
 put-deleted-read-jentry-requires t c κs = omega (arith, c .before .before .before .pre .1 .0 .more, c .before .before .before .pre .1 .0 .few)
 
--- src/delete.rt:395:44
-put-deleted-payload-len-requires : (t : ℕ) → put-deleted-lts.Need-payload-len-requires (put-deleted-claims t) (put-deleted-at t) put-deleted.Post
-put-deleted-payload-len-requires t c κs = search needs
-
--- src/delete.rt:395:44
-put-deleted-cast-slice : (t : ℕ) → put-deleted-lts.Need-cast-slice (put-deleted-claims t) (put-deleted-at t) put-deleted.Post
-put-deleted-cast-slice t c = search needs
-
--- src/delete.rt:395:9
-put-deleted-slice-requires : (t : ℕ) → put-deleted-lts.Need-slice-requires (put-deleted-claims t) (put-deleted-at t) put-deleted.Post
-put-deleted-slice-requires t c κs = search needs
-
--- src/delete.rt:396:26
-put-deleted-find-step-requires : (t : ℕ) → put-deleted-lts.Need-find-step-requires (put-deleted-claims t) (put-deleted-at t) put-deleted.Post
-put-deleted-find-step-requires t c κs = search needs
-
--- src/delete.rt:396:18
-put-deleted-enum-known-part : (t : ℕ) → put-deleted-lts.Need-enum-known-part (put-deleted-claims t) (put-deleted-at t) put-deleted.Post
-put-deleted-enum-known-part t c = search needs
-
--- src/delete.rt:397:9
-put-deleted-enum-told : (t : ℕ) → put-deleted-lts.Need-enum-told (put-deleted-claims t) (put-deleted-at t) put-deleted.Post
-put-deleted-enum-told t c = search needs
-
--- src/delete.rt:397:9
 put-deleted-returns : (t : ℕ) → put-deleted-lts.Need-returns (put-deleted-claims t) (put-deleted-at t) put-deleted.Post
 put-deleted-returns t c = leads-nowhere (c .before .before .before .before .before .before .before .before .before .args .s .now) (c .before .before .before .before .before .before .before .before .before .args .path .now) (c .before .before .before .before .before .before .before .before .before .args .way) _ _ _ (c .before .before .before .before .before .read-jentry .ensures) (c .before .before .before .before .payload-len .ensures) (c .before .before .before .slice .ensures) _ (c .before .before .find-step .ensures) (c .before .before .before .before .before .before .before .before .before .args .allowance) (octets-of (c .before .before .before .before .before .before .before .before .before .args .s .now) (λ i. omega (arith, c .before .before .before .before .before .before .before .before .shared-slice-known .given i))) (c .before .before .before .before .before .before .before .before .before .pre .1 .0) (c .enum-told .given .1)
 
--- src/delete.rt:399:8
 put-deleted-add-if1 : (t : ℕ) → put-deleted-lts.Need-add-if1 (put-deleted-claims t) (put-deleted-at t) put-deleted.Post
 put-deleted-add-if1 t c = omega (arith, c .before .before .before .before .before .before .before .before .before .before .before .pre .1 .0 .more, c .before .before .before .before .before .before .before .before .before .before .before .pre .1 .0 .few)
 
--- src/delete.rt:400:9
 put-deleted-put-without-requires : (t : ℕ) → put-deleted-lts.Need-put-without-requires (put-deleted-claims t) (put-deleted-at t) put-deleted.Post
 put-deleted-put-without-requires t c κs = ((whole-levels (c .before .before .before .before .before .before .before .before .before .before .before .before .before .before .args .s .now) (c .before .before .before .before .before .before .before .before .before .before .before .before .before .before .args .path .now) (c .before .before .before .before .before .before .before .before .before .before .before .before .before .before .args .way) (c .before .before .before .before .before .before .before .before .before .before .before .before .before .before .args .allowance) (octets-of (c .before .before .before .before .before .before .before .before .before .before .before .before .before .before .args .s .now) (λ i. omega (arith, c .before .before .before .before .before .before .before .before .before .before .before .before .before .shared-slice-known .given i))) (c .before .before .before .before .before .before .before .before .before .before .before .before .before .before .pre .1 .0)), c .before .before .before .before .before .before .before .before .before .before .before .before .before .before .pre .1 .0 .short, (_, (leads-on (c .before .before .before .before .before .before .before .before .before .before .before .before .before .before .args .s .now) (c .before .before .before .before .before .before .before .before .before .before .before .before .before .before .args .path .now) (c .before .before .before .before .before .before .before .before .before .before .before .before .before .before .args .way) _ _ _ (c .before .before .before .before .before .before .before .before .before .before .read-jentry .ensures) (c .before .before .before .before .before .before .before .before .before .payload-len .ensures) (c .before .before .before .before .before .before .before .before .slice .ensures) _ (c .before .before .before .before .before .before .before .find-step .ensures) _ (c .before .before .before .before .before .part .given .1))), omega (arith, c .before .before .before .before .before .before .before .before .before .before .before .before .before .before .pre .1 .1, c .before .before .before .before .before .before .before .before .before .before .before .before .before .before .pre .1 .0 .allowed))
 
--- src/delete.rt:400:9
 put-deleted-same-length : (t : ℕ) → put-deleted-lts.Need-same-length (put-deleted-claims t) (put-deleted-at t) put-deleted.Post
 put-deleted-same-length t c = left-length (left-as _ _ _ _ _ _ (ap (left-of (c .before .before .before .before .before .before .before .before .before .before .before .before .before .before .before .before .before .args .s .now)) (last-step (c .before .before .before .before .before .before .before .before .before .before .before .before .before .before .before .before .before .args .path .now) (c .before .before .before .before .before .before .before .before .before .before .before .before .before .before .before .before .before .args .way) (c .before .before .before .before .if1 .taken))) (c .before .before .put-without .ensures _ (leads-on (c .before .before .before .before .before .before .before .before .before .before .before .before .before .before .before .before .before .args .s .now) (c .before .before .before .before .before .before .before .before .before .before .before .before .before .before .before .before .before .args .path .now) (c .before .before .before .before .before .before .before .before .before .before .before .before .before .before .before .before .before .args .way) _ _ _ (c .before .before .before .before .before .before .before .before .before .before .before .before .before .read-jentry .ensures) (c .before .before .before .before .before .before .before .before .before .before .before .before .payload-len .ensures) (c .before .before .before .before .before .before .before .before .before .before .before .slice .ensures) _ (c .before .before .before .before .before .before .before .before .before .before .find-step .ensures) _ (c .before .before .before .before .before .before .before .before .part .given .1))))
 
--- src/delete.rt:400:9
 put-deleted-returns-2 : (t : ℕ) → put-deleted-lts.Need-returns-2 (put-deleted-claims t) (put-deleted-at t) put-deleted.Post
 put-deleted-returns-2 t c = left-as _ _ _ _ _ _ (ap (left-of (c .before .before .before .before .before .before .before .before .before .before .before .before .before .before .before .before .before .args .s .now)) (last-step (c .before .before .before .before .before .before .before .before .before .before .before .before .before .before .before .before .before .args .path .now) (c .before .before .before .before .before .before .before .before .before .before .before .before .before .before .before .before .before .args .way) (c .before .before .before .before .if1 .taken))) (c .before .before .put-without .ensures _ (leads-on (c .before .before .before .before .before .before .before .before .before .before .before .before .before .before .before .before .before .args .s .now) (c .before .before .before .before .before .before .before .before .before .before .before .before .before .before .before .before .before .args .path .now) (c .before .before .before .before .before .before .before .before .before .before .before .before .before .before .before .before .before .args .way) _ _ _ (c .before .before .before .before .before .before .before .before .before .before .before .before .before .read-jentry .ensures) (c .before .before .before .before .before .before .before .before .before .before .before .before .payload-len .ensures) (c .before .before .before .before .before .before .before .before .before .before .before .slice .ensures) _ (c .before .before .before .before .before .before .before .before .before .before .find-step .ensures) _ (c .before .before .before .before .before .before .before .before .part .given .1)))
 
--- src/delete.rt:402:11
-put-deleted-manner-of-requires : (t : ℕ) → put-deleted-lts.Need-manner-of-requires (put-deleted-claims t) (put-deleted-at t) put-deleted.Post
-put-deleted-manner-of-requires t c κs = search needs
-
--- src/delete.rt:403:23
-put-deleted-enum-known-n : (t : ℕ) → put-deleted-lts.Need-enum-known-n (put-deleted-claims t) (put-deleted-at t) put-deleted.Post
-put-deleted-enum-known-n t c = search needs
-
--- src/delete.rt:403:29
 put-deleted-put-part-anew-requires : (t : ℕ) → put-deleted-lts.Need-put-part-anew-requires (put-deleted-claims t) (put-deleted-at t) put-deleted.Post
 put-deleted-put-part-anew-requires t c κs = (omega (arith, c .before .before .before .before .before .before .before .before .before .before .before .before .before .before .before .before .before .before .pre .0), (c .before .before .before .before .before .before .before .before .before .before .before .before .before .before .before .before .before .before .pre .1 .0, (record { leads = leads-on (c .before .before .before .before .before .before .before .before .before .before .before .before .before .before .before .before .before .before .args .s .now) (c .before .before .before .before .before .before .before .before .before .before .before .before .before .before .before .before .before .before .args .path .now) (c .before .before .before .before .before .before .before .before .before .before .before .before .before .before .before .before .before .before .args .way) _ _ _ (c .before .before .before .before .before .before .before .before .before .before .before .before .before .before .read-jentry .ensures) (c .before .before .before .before .before .before .before .before .before .before .before .before .before .payload-len .ensures) (c .before .before .before .before .before .before .before .before .before .before .before .before .slice .ensures) _ (c .before .before .before .before .before .before .before .before .before .before .before .find-step .ensures) _ (c .before .before .before .before .before .before .before .before .before .part .given .1); more = omega (arith, c .before .before .before .before .before .if1 .left, c .before .before .before .before .before .before .before .before .before .before .before .before .before .before .before .before .before .before .pre .1 .0 .more) }), inl (manner-array (c .before .before .before .before .before .before .before .before .before .before .before .before .before .before .before .before .before .before .args .s .now) _ _ (sym (c .before .before .n .given .1) ∙ c .before .before .before .before .manner-of .ensures)), c .before .before .before .before .before .before .before .before .before .before .before .before .before .before .before .before .before .before .pre .1 .1))
 
--- src/delete.rt:404:24
-put-deleted-enum-known-n-2 : (t : ℕ) → put-deleted-lts.Need-enum-known-n-2 (put-deleted-claims t) (put-deleted-at t) put-deleted.Post
-put-deleted-enum-known-n-2 t c = search needs
-
--- src/delete.rt:404:47
 put-deleted-add-put-part-anew : (t : ℕ) → put-deleted-lts.Need-add-put-part-anew (put-deleted-claims t) (put-deleted-at t) put-deleted.Post
 put-deleted-add-put-part-anew t c = let h = (manner-object (c .before .before .before .before .before .before .before .before .before .before .before .before .before .before .before .before .before .args .s .now) _ _ (sym (c .before .n2 .given .1) ∙ c .before .before .before .manner-of .ensures)) in let b = told-object (c .before .before .before .before .before .before .before .before .before .before .before .before .before .before .before .before .before .args .s .now) _ refl _ (h .0) in omega (arith, b .1)
 
--- src/delete.rt:404:30
 put-deleted-put-part-anew-requires-2 : (t : ℕ) → put-deleted-lts.Need-put-part-anew-requires-2 (put-deleted-claims t) (put-deleted-at t) put-deleted.Post
 put-deleted-put-part-anew-requires-2 t c κs = let h = (manner-object (c .before .before .before .before .before .before .before .before .before .before .before .before .before .before .before .before .before .before .args .s .now) _ _ (sym (c .before .before .n2 .given .1) ∙ c .before .before .before .before .manner-of .ensures)) in (omega (arith, c .before .before .before .before .before .before .before .before .before .before .before .before .before .before .before .before .before .before .pre .0), (c .before .before .before .before .before .before .before .before .before .before .before .before .before .before .before .before .before .before .pre .1 .0, (record { leads = leads-on (c .before .before .before .before .before .before .before .before .before .before .before .before .before .before .before .before .before .before .args .s .now) (c .before .before .before .before .before .before .before .before .before .before .before .before .before .before .before .before .before .before .args .path .now) (c .before .before .before .before .before .before .before .before .before .before .before .before .before .before .before .before .before .before .args .way) _ _ _ (c .before .before .before .before .before .before .before .before .before .before .before .before .before .before .read-jentry .ensures) (c .before .before .before .before .before .before .before .before .before .before .before .before .before .payload-len .ensures) (c .before .before .before .before .before .before .before .before .before .before .before .before .slice .ensures) _ (c .before .before .before .before .before .before .before .before .before .before .before .find-step .ensures) _ (c .before .before .before .before .before .before .before .before .before .part .given .1); more = omega (arith, c .before .before .before .before .before .if1 .left, c .before .before .before .before .before .before .before .before .before .before .before .before .before .before .before .before .before .before .pre .1 .0 .more) }), inr (_, h .0, refl, h .1), c .before .before .before .before .before .before .before .before .before .before .before .before .before .before .before .before .before .before .pre .1 .1))
 
--- src/delete.rt:405:26
-put-deleted-enum-known-n-3 : (t : ℕ) → put-deleted-lts.Need-enum-known-n-3 (put-deleted-claims t) (put-deleted-at t) put-deleted.Post
-put-deleted-enum-known-n-3 t c = search needs
-
--- src/delete.rt:405:32
 put-deleted-put-sorted-anew-requires : (t : ℕ) → put-deleted-lts.Need-put-sorted-anew-requires (put-deleted-claims t) (put-deleted-at t) put-deleted.Post
 put-deleted-put-sorted-anew-requires t c κs = (omega (arith, c .before .before .before .before .before .before .before .before .before .before .before .before .before .before .before .before .before .before .pre .0), (c .before .before .before .before .before .before .before .before .before .before .before .before .before .before .before .before .before .before .pre .1 .0, (record { leads = leads-on (c .before .before .before .before .before .before .before .before .before .before .before .before .before .before .before .before .before .before .args .s .now) (c .before .before .before .before .before .before .before .before .before .before .before .before .before .before .before .before .before .before .args .path .now) (c .before .before .before .before .before .before .before .before .before .before .before .before .before .before .before .before .before .before .args .way) _ _ _ (c .before .before .before .before .before .before .before .before .before .before .before .before .before .before .read-jentry .ensures) (c .before .before .before .before .before .before .before .before .before .before .before .before .before .payload-len .ensures) (c .before .before .before .before .before .before .before .before .before .before .before .before .slice .ensures) _ (c .before .before .before .before .before .before .before .before .before .before .before .find-step .ensures) _ (c .before .before .before .before .before .before .before .before .before .part .given .1); more = omega (arith, c .before .before .before .before .before .if1 .left, c .before .before .before .before .before .before .before .before .before .before .before .before .before .before .before .before .before .before .pre .1 .0 .more) }), (manner-search (c .before .before .before .before .before .before .before .before .before .before .before .before .before .before .before .before .before .before .args .s .now) _ _ (sym (c .before .before .n3 .given .1) ∙ c .before .before .before .before .manner-of .ensures)), c .before .before .before .before .before .before .before .before .before .before .before .before .before .before .before .before .before .before .pre .1 .1))
 
--- src/delete.rt:406:28
-put-deleted-enum-told-2 : (t : ℕ) → put-deleted-lts.Need-enum-told-2 (put-deleted-claims t) (put-deleted-at t) put-deleted.Post
-put-deleted-enum-told-2 t c = search needs
-
--- src/delete.rt:390:1
 put-deleted-same-length-2 : (t : ℕ) → put-deleted-lts.Need-same-length-2 (put-deleted-claims t) (put-deleted-at t) put-deleted.Post
 put-deleted-same-length-2 t c = left-length (c .before .before .put-part-anew .ensures)
 
--- src/delete.rt:390:1
 put-deleted-returns-3 : (t : ℕ) → put-deleted-lts.Need-returns-3 (put-deleted-claims t) (put-deleted-at t) put-deleted.Post
 put-deleted-returns-3 t c = c .before .before .put-part-anew .ensures
 
--- src/delete.rt:390:1
 put-deleted-same-length-3 : (t : ℕ) → put-deleted-lts.Need-same-length-3 (put-deleted-claims t) (put-deleted-at t) put-deleted.Post
 put-deleted-same-length-3 t c = left-length (c .before .before .put-part-anew2 .ensures)
 
--- src/delete.rt:390:1
 put-deleted-returns-4 : (t : ℕ) → put-deleted-lts.Need-returns-4 (put-deleted-claims t) (put-deleted-at t) put-deleted.Post
 put-deleted-returns-4 t c = c .before .before .put-part-anew2 .ensures
 
--- src/delete.rt:390:1
 put-deleted-same-length-4 : (t : ℕ) → put-deleted-lts.Need-same-length-4 (put-deleted-claims t) (put-deleted-at t) put-deleted.Post
 put-deleted-same-length-4 t c = left-length (c .before .before .put-sorted-anew .ensures)
 
--- src/delete.rt:390:1
 put-deleted-returns-5 : (t : ℕ) → put-deleted-lts.Need-returns-5 (put-deleted-claims t) (put-deleted-at t) put-deleted.Post
 put-deleted-returns-5 t c = c .before .before .put-sorted-anew .ensures
 
--- src/delete.rt:390:1
 put-deleted-returns-6 : (t : ℕ) → put-deleted-lts.Need-returns-6 (put-deleted-claims t) (put-deleted-at t) put-deleted.Post
 put-deleted-returns-6 t c = no-manner (c .before .before .before .before .before .before .before .before .before .before .before .before .before .before .before .before .args .s .now) _ (sym (c .enum-told2 .given .1) ∙ c .before .before .manner-of .ensures) _ _ (leads-on (c .before .before .before .before .before .before .before .before .before .before .before .before .before .before .before .before .args .s .now) (c .before .before .before .before .before .before .before .before .before .before .before .before .before .before .before .before .args .path .now) (c .before .before .before .before .before .before .before .before .before .before .before .before .before .before .before .before .args .way) _ _ _ (c .before .before .before .before .before .before .before .before .before .before .before .before .read-jentry .ensures) (c .before .before .before .before .before .before .before .before .before .before .before .payload-len .ensures) (c .before .before .before .before .before .before .before .before .before .before .slice .ensures) _ (c .before .before .before .before .before .before .before .before .before .find-step .ensures) _ (c .before .before .before .before .before .before .before .part .given .1))
 
--- src/delete.rt:348:9
-put-member-anew-payload-at-requires : (t : ℕ) → put-member-anew-lts.Need-payload-at-requires (put-member-anew-claims t) (put-member-anew-at t) put-member-anew.Post
-put-member-anew-payload-at-requires t c κs = search needs
-
--- src/delete.rt:349:8
-put-member-anew-is-same-requires : (t : ℕ) → put-member-anew-lts.Need-is-same-requires (put-member-anew-claims t) (put-member-anew-at t) put-member-anew.Post
-put-member-anew-is-same-requires t c κs = search needs
-
--- src/delete.rt:350:9
-put-member-anew-put-u32-requires : (t : ℕ) → put-member-anew-lts.Need-put-u32-requires (put-member-anew-claims t) (put-member-anew-at t) put-member-anew.Post
-put-member-anew-put-u32-requires t c κs = search needs
-
--- src/delete.rt:351:9
-put-member-anew-copy-requires : (t : ℕ) → put-member-anew-lts.Need-copy-requires (put-member-anew-claims t) (put-member-anew-at t) put-member-anew.Post
-put-member-anew-copy-requires t c κs = search needs
-
--- src/delete.rt:352:31
-put-member-anew-payload-at-requires-2 : (t : ℕ) → put-member-anew-lts.Need-payload-at-requires-2 (put-member-anew-claims t) (put-member-anew-at t) put-member-anew.Post
-put-member-anew-payload-at-requires-2 t c κs = search needs
-
--- src/delete.rt:352:13
 put-member-anew-put-deleted-requires : (t : ℕ) → put-member-anew-lts.Need-put-deleted-requires (put-member-anew-claims t) (put-member-anew-at t) put-member-anew.Post
 put-member-anew-put-deleted-requires t c κs = let v = value-cuts (c .before .before .before .before .before .before .before .before .before .before .before .before .before .before .before .before .before .args .s .now) (c .before .before .before .before .before .before .before .before .before .before .before .before .before .before .before .before .before .args .path .now) (c .before .before .before .before .before .before .before .before .before .before .before .before .before .before .before .before .before .args .name .now) (c .before .before .before .before .before .before .before .before .before .before .before .before .before .before .before .before .before .args .member) (c .before .before .before .before .before .before .before .before .before .before .before .before .before .before .before .before .before .args .next) (c .before .before .before .before .before .before .before .before .before .before .before .before .before .before .before .before .before .args .at) _ (c .before .before .before .before .before .before .before .before .before .before .before .before .payload-at .ensures) _ (c .before .before .before .before .before .before .before .before .before .before .before .is-same .ensures) (c .before .before .before .before .before .before .before .before .before .before .if1 .taken) (c .before .before .before .before .before .before .before .before .before .before .before .before .before .before .before .before .before .args .allowance) (c .before .before .before .before .before .before .before .before .before .before .before .before .before .before .before .before .before .pre .1 .5) _ (c .before .payload-at2 .ensures) in (omega (arith, c .before .before .before .before .before .before .before .before .before .before .before .before .before .before .before .before .before .pre .0), v)
 
--- src/delete.rt:353:61
 put-member-anew-cast-encoded : (t : ℕ) → put-member-anew-lts.Need-cast-encoded (put-member-anew-claims t) (put-member-anew-at t) put-member-anew.Post
 put-member-anew-cast-encoded t c = let f = value-short (c .before .before .before .before .before .before .before .before .before .before .before .before .before .before .before .before .before .before .before .before .before .args .s .now) (c .before .before .before .before .before .before .before .before .before .before .before .before .before .before .before .before .before .before .before .before .before .args .path .now) (c .before .before .before .before .before .before .before .before .before .before .before .before .before .before .before .before .before .before .before .before .before .args .name .now) (c .before .before .before .before .before .before .before .before .before .before .before .before .before .before .before .before .before .before .before .before .before .args .member) (c .before .before .before .before .before .before .before .before .before .before .before .before .before .before .before .before .before .before .before .before .before .args .next) (c .before .before .before .before .before .before .before .before .before .before .before .before .before .before .before .before .before .before .before .before .before .args .at) _ (c .before .before .before .before .before .before .before .before .before .before .before .before .before .before .before .before .payload-at .ensures) _ (c .before .before .before .before .before .before .before .before .before .before .before .before .before .before .before .is-same .ensures) (c .before .before .before .before .before .before .before .before .before .before .before .before .before .before .if1 .taken) (c .before .before .before .before .before .before .before .before .before .before .before .before .before .before .before .before .before .before .before .before .before .args .allowance) (c .before .before .before .before .before .before .before .before .before .before .before .before .before .before .before .before .before .before .before .before .before .pre .1 .5) _ (c .before .before .before .before .before .payload-at2 .ensures) (octets-of (c .before .before .before .before .before .before .before .before .before .before .before .before .before .before .before .before .before .before .before .before .before .args .s .now) (λ i. omega (arith, c .before .before .before .before .before .before .before .before .before .before .before .before .before .before .before .before .before .before .before .before .shared-slice-known .given i))) _ _ _ (c .before .before .before .put-deleted .ensures) in omega (arith, f)
 
--- src/delete.rt:353:37
-put-member-anew-encoded-requires : (t : ℕ) → put-member-anew-lts.Need-encoded-requires (put-member-anew-claims t) (put-member-anew-at t) put-member-anew.Post
-put-member-anew-encoded-requires t c κs = search needs
-
--- src/delete.rt:353:9
-put-member-anew-put-u32-requires-2 : (t : ℕ) → put-member-anew-lts.Need-put-u32-requires-2 (put-member-anew-claims t) (put-member-anew-at t) put-member-anew.Post
-put-member-anew-put-u32-requires-2 t c κs = search needs
-
--- src/delete.rt:355:25
 put-member-anew-add-t24 : (t : ℕ) → put-member-anew-lts.Need-add-t24 (put-member-anew-claims t) (put-member-anew-at t) put-member-anew.Post
 put-member-anew-add-t24 t c = omega (arith, c .before .before .before .before .before .before .before .before .before .before .before .before .before .before .before .before .before .before .before .before .before .before .before .before .before .before .pre .1)
 
--- src/delete.rt:356:25
 put-member-anew-add-t25 : (t : ℕ) → put-member-anew-lts.Need-add-t25 (put-member-anew-claims t) (put-member-anew-at t) put-member-anew.Post
 put-member-anew-add-t25 t c = omega (arith, c .before .before .before .before .before .before .before .before .before .before .before .before .before .before .before .before .before .before .before .before .before .before .before .before .before .before .before .pre .1 .3, c .before .before .before .before .before .before .before .before .before .before .before .before .before .before .before .before .before .before .before .before .before .before .before .before .before .before .before .pre .1 .1)
 
--- src/delete.rt:357:18
 put-member-anew-add-t27 : (t : ℕ) → put-member-anew-lts.Need-add-t27 (put-member-anew-claims t) (put-member-anew-at t) put-member-anew.Post
 put-member-anew-add-t27 t c = let f = payload-short (c .before .before .before .before .before .before .before .before .before .before .before .before .before .before .before .before .before .before .before .before .before .before .before .before .before .before .before .before .args .s .now) _ (c .before .before .before .before .before .before .before .before .before .before .before .before .before .before .before .before .before .before .before .before .before .before .before .before .before .before .before .before .args .member .key) (c .before .before .before .before .before .before .before .before .before .before .before .before .before .before .before .before .before .before .before .before .before .before .before .payload-at .ensures) in omega (arith, f, c .before .before .before .before .before .before .before .before .before .before .before .before .before .before .before .before .before .before .before .before .before .before .before .before .before .before .before .before .pre .1 .1)
 
--- src/delete.rt:358:18
 put-member-anew-add-t28 : (t : ℕ) → put-member-anew-lts.Need-add-t28 (put-member-anew-claims t) (put-member-anew-at t) put-member-anew.Post
 put-member-anew-add-t28 t c = let f = value-short (c .before .before .before .before .before .before .before .before .before .before .before .before .before .before .before .before .before .before .before .before .before .before .before .before .before .before .before .before .before .args .s .now) (c .before .before .before .before .before .before .before .before .before .before .before .before .before .before .before .before .before .before .before .before .before .before .before .before .before .before .before .before .before .args .path .now) (c .before .before .before .before .before .before .before .before .before .before .before .before .before .before .before .before .before .before .before .before .before .before .before .before .before .before .before .before .before .args .name .now) (c .before .before .before .before .before .before .before .before .before .before .before .before .before .before .before .before .before .before .before .before .before .before .before .before .before .before .before .before .before .args .member) (c .before .before .before .before .before .before .before .before .before .before .before .before .before .before .before .before .before .before .before .before .before .before .before .before .before .before .before .before .before .args .next) (c .before .before .before .before .before .before .before .before .before .before .before .before .before .before .before .before .before .before .before .before .before .before .before .before .before .before .before .before .before .args .at) _ (c .before .before .before .before .before .before .before .before .before .before .before .before .before .before .before .before .before .before .before .before .before .before .before .before .payload-at .ensures) _ (c .before .before .before .before .before .before .before .before .before .before .before .before .before .before .before .before .before .before .before .before .before .before .before .is-same .ensures) (c .before .before .before .before .before .before .before .before .before .before .before .before .before .before .before .before .before .before .before .before .before .before .if1 .taken) (c .before .before .before .before .before .before .before .before .before .before .before .before .before .before .before .before .before .before .before .before .before .before .before .before .before .before .before .before .before .args .allowance) (c .before .before .before .before .before .before .before .before .before .before .before .before .before .before .before .before .before .before .before .before .before .before .before .before .before .before .before .before .before .pre .1 .5) _ (c .before .before .before .before .before .before .before .before .before .before .before .before .before .payload-at2 .ensures) (octets-of (c .before .before .before .before .before .before .before .before .before .before .before .before .before .before .before .before .before .before .before .before .before .before .before .before .before .before .before .before .before .args .s .now) (λ i. omega (arith, c .before .before .before .before .before .before .before .before .before .before .before .before .before .before .before .before .before .before .before .before .before .before .before .before .before .before .before .before .shared-slice-known .given i))) _ _ _ (c .before .before .before .before .before .before .before .before .before .before .before .put-deleted .ensures) in omega (arith, f, c .before .before .before .before .before .before .before .before .before .before .before .before .before .before .before .before .before .before .before .before .before .before .before .before .before .before .before .before .before .pre .1 .2)
 
--- src/delete.rt:354:9
 put-member-anew-same-length : (t : ℕ) → put-member-anew-lts.Need-same-length (put-member-anew-claims t) (put-member-anew-at t) put-member-anew.Post
 put-member-anew-same-length t c = stored-length _ _ _ _ _ _ _ _ _ _ ((named-stored (c .before .before .before .before .before .before .before .before .before .before .before .before .before .before .before .before .before .before .before .before .before .before .before .before .before .before .before .before .before .args .s .now) (c .before .before .before .before .before .before .before .before .before .before .before .before .before .before .before .before .before .before .before .before .before .before .before .before .before .before .before .before .before .args .path .now) (c .before .before .before .before .before .before .before .before .before .before .before .before .before .before .before .before .before .before .before .before .before .before .before .before .before .before .before .before .before .args .name .now) (c .before .before .before .before .before .before .before .before .before .before .before .before .before .before .before .before .before .before .before .before .before .before .before .before .before .before .before .before .before .args .member) (c .before .before .before .before .before .before .before .before .before .before .before .before .before .before .before .before .before .before .before .before .before .before .before .before .before .before .before .before .before .args .next) (c .before .before .before .before .before .before .before .before .before .before .before .before .before .before .before .before .before .before .before .before .before .before .before .before .before .before .before .before .before .args .at) _ (c .before .before .before .before .before .before .before .before .before .before .before .before .before .before .before .before .before .before .before .before .before .before .before .before .payload-at .ensures) _ (c .before .before .before .before .before .before .before .before .before .before .before .before .before .before .before .before .before .before .before .before .before .before .before .is-same .ensures) (c .before .before .before .before .before .before .before .before .before .before .before .before .before .before .before .before .before .before .before .before .before .before .if1 .taken) (c .before .before .before .before .before .before .before .before .before .before .before .before .before .before .before .before .before .before .before .before .before .before .before .before .before .before .before .before .before .args .allowance) (c .before .before .before .before .before .before .before .before .before .before .before .before .before .before .before .before .before .before .before .before .before .before .before .before .before .before .before .before .before .pre .1 .5) _ (c .before .before .before .before .before .before .before .before .before .before .before .before .before .payload-at2 .ensures) (octets-of (c .before .before .before .before .before .before .before .before .before .before .before .before .before .before .before .before .before .before .before .before .before .before .before .before .before .before .before .before .before .args .s .now) (λ i. omega (arith, c .before .before .before .before .before .before .before .before .before .before .before .before .before .before .before .before .before .before .before .before .before .before .before .before .before .before .before .before .shared-slice-known .given i))) _ _ _ (c .before .before .before .before .before .before .before .before .before .before .before .put-deleted .ensures) _ _ _ _ (c .before .before .before .before .before .before .before .before .before .before .before .before .before .before .before .before .before .before .before .before .put-u32 .ensures) (c .before .before .before .before .before .before .before .before .before .before .before .before .before .before .before .before .copy .ensures) (c .before .before .before .before .before .before .before .encoded .ensures) (c .before .before .before .before .before .before .put-u322 .ensures) (c .before .before .before .before .before .before .before .before .before .before .before .before .before .before .before .before .before .before .before .before .before .before .before .before .before .before .before .before .before .pre .1 .3) (c .before .before .before .before .before .before .before .before .before .before .before .before .before .before .before .before .before .before .before .before .before .before .before .before .before .before .before .before .before .pre .1 .4)) .1)
 
--- src/delete.rt:354:9
 put-member-anew-returns : (t : ℕ) → put-member-anew-lts.Need-returns (put-member-anew-claims t) (put-member-anew-at t) put-member-anew.Post
 put-member-anew-returns t c = named-stored (c .before .before .before .before .before .before .before .before .before .before .before .before .before .before .before .before .before .before .before .before .before .before .before .before .before .before .before .before .before .args .s .now) (c .before .before .before .before .before .before .before .before .before .before .before .before .before .before .before .before .before .before .before .before .before .before .before .before .before .before .before .before .before .args .path .now) (c .before .before .before .before .before .before .before .before .before .before .before .before .before .before .before .before .before .before .before .before .before .before .before .before .before .before .before .before .before .args .name .now) (c .before .before .before .before .before .before .before .before .before .before .before .before .before .before .before .before .before .before .before .before .before .before .before .before .before .before .before .before .before .args .member) (c .before .before .before .before .before .before .before .before .before .before .before .before .before .before .before .before .before .before .before .before .before .before .before .before .before .before .before .before .before .args .next) (c .before .before .before .before .before .before .before .before .before .before .before .before .before .before .before .before .before .before .before .before .before .before .before .before .before .before .before .before .before .args .at) _ (c .before .before .before .before .before .before .before .before .before .before .before .before .before .before .before .before .before .before .before .before .before .before .before .before .payload-at .ensures) _ (c .before .before .before .before .before .before .before .before .before .before .before .before .before .before .before .before .before .before .before .before .before .before .before .is-same .ensures) (c .before .before .before .before .before .before .before .before .before .before .before .before .before .before .before .before .before .before .before .before .before .before .if1 .taken) (c .before .before .before .before .before .before .before .before .before .before .before .before .before .before .before .before .before .before .before .before .before .before .before .before .before .before .before .before .before .args .allowance) (c .before .before .before .before .before .before .before .before .before .before .before .before .before .before .before .before .before .before .before .before .before .before .before .before .before .before .before .before .before .pre .1 .5) _ (c .before .before .before .before .before .before .before .before .before .before .before .before .before .payload-at2 .ensures) (octets-of (c .before .before .before .before .before .before .before .before .before .before .before .before .before .before .before .before .before .before .before .before .before .before .before .before .before .before .before .before .before .args .s .now) (λ i. omega (arith, c .before .before .before .before .before .before .before .before .before .before .before .before .before .before .before .before .before .before .before .before .before .before .before .before .before .before .before .before .shared-slice-known .given i))) _ _ _ (c .before .before .before .before .before .before .before .before .before .before .before .put-deleted .ensures) _ _ _ _ (c .before .before .before .before .before .before .before .before .before .before .before .before .before .before .before .before .before .before .before .before .put-u32 .ensures) (c .before .before .before .before .before .before .before .before .before .before .before .before .before .before .before .before .copy .ensures) (c .before .before .before .before .before .before .before .encoded .ensures) (c .before .before .before .before .before .before .put-u322 .ensures) (c .before .before .before .before .before .before .before .before .before .before .before .before .before .before .before .before .before .before .before .before .before .before .before .before .before .before .before .before .before .pre .1 .3) (c .before .before .before .before .before .before .before .before .before .before .before .before .before .before .before .before .before .before .before .before .before .before .before .before .before .before .before .before .before .pre .1 .4)
 
--- src/delete.rt:361:5
 put-member-anew-put-member-requires : (t : ℕ) → put-member-anew-lts.Need-put-member-requires (put-member-anew-claims t) (put-member-anew-at t) put-member-anew.Post
 put-member-anew-put-member-requires t c κs = (c .before .before .before .before .before .before .before .before .pre .1 .0, omega (arith, c .before .before .before .before .before .before .before .before .pre .1 .3, c .before .before .before .before .before .before .before .before .pre .1 .1), c .before .before .before .before .before .before .before .before .pre .1 .1, c .before .before .before .before .before .before .before .before .pre .1 .2)
 
--- src/delete.rt:327:1
 put-member-anew-same-length-2 : (t : ℕ) → put-member-anew-lts.Need-same-length-2 (put-member-anew-claims t) (put-member-anew-at t) put-member-anew.Post
 put-member-anew-same-length-2 t c = stored-length _ _ _ _ _ _ _ _ _ _ ((other-stored (c .before .before .before .before .before .before .before .before .before .before .before .args .s .now) (c .before .before .before .before .before .before .before .before .before .before .before .args .path .now) (c .before .before .before .before .before .before .before .before .before .before .before .args .name .now) (c .before .before .before .before .before .before .before .before .before .before .before .args .member) (c .before .before .before .before .before .before .before .before .before .before .before .args .next) (c .before .before .before .before .before .before .before .before .before .before .before .args .at) _ (c .before .before .before .before .before .before .payload-at .ensures) _ (c .before .before .before .before .before .is-same .ensures) (c .before .before .before .before .if1 .left) _ _ _ (c .before .before .put-member .ensures)) .1)
 
--- src/delete.rt:327:1
 put-member-anew-returns-2 : (t : ℕ) → put-member-anew-lts.Need-returns-2 (put-member-anew-claims t) (put-member-anew-at t) put-member-anew.Post
 put-member-anew-returns-2 t c = other-stored (c .before .before .before .before .before .before .before .before .before .before .before .args .s .now) (c .before .before .before .before .before .before .before .before .before .before .before .args .path .now) (c .before .before .before .before .before .before .before .before .before .before .before .args .name .now) (c .before .before .before .before .before .before .before .before .before .before .before .args .member) (c .before .before .before .before .before .before .before .before .before .before .before .args .next) (c .before .before .before .before .before .before .before .before .before .before .before .args .at) _ (c .before .before .before .before .before .before .payload-at .ensures) _ (c .before .before .before .before .before .is-same .ensures) (c .before .before .before .before .if1 .left) _ _ _ (c .before .before .put-member .ensures)
 
--- src/delete.rt:294:30
 put-part-anew-mul-put-deleted : (t : ℕ) → put-part-anew-lts.Need-mul-put-deleted (put-part-anew-claims t) (put-part-anew-at t) put-part-anew.Post
 put-part-anew-mul-put-deleted t c = let d = here (c .before .before .before .args .s .now) (c .before .before .before .args .path .now) (c .before .before .before .args .total) (c .before .before .before .args .part) (c .before .before .before .args .way) (c .before .before .before .args .allowance) (octets-of (c .before .before .before .args .s .now) (λ i. omega (arith, c .before .before .shared-slice-known .given i))) (c .before .before .before .pre .1 .0) (c .before .before .before .pre .1 .1) (c .before .before .before .pre .1 .2) in let w = down (c .before .before .before .args .s .now) (c .before .before .before .args .path .now) (c .before .before .before .args .total) (c .before .before .before .args .part) (c .before .before .before .args .way) (c .before .before .before .args .allowance) (octets-of (c .before .before .before .args .s .now) (λ i. omega (arith, c .before .before .shared-slice-known .given i))) (c .before .before .before .pre .1 .0) (c .before .before .before .pre .1 .1) (c .before .before .before .pre .1 .2) in omega (arith, d .table, d .short, d .count, d .place, d .size, d .end, w .allowed, c .before .before .before .pre .1 .0 .allowed, c .before .before .before .pre .1 .3, c .before .before .before .pre .0)
 
--- src/delete.rt:294:16
 put-part-anew-add-put-deleted : (t : ℕ) → put-part-anew-lts.Need-add-put-deleted (put-part-anew-claims t) (put-part-anew-at t) put-part-anew.Post
 put-part-anew-add-put-deleted t c = let d = here (c .before .before .before .args .s .now) (c .before .before .before .args .path .now) (c .before .before .before .args .total) (c .before .before .before .args .part) (c .before .before .before .args .way) (c .before .before .before .args .allowance) (octets-of (c .before .before .before .args .s .now) (λ i. omega (arith, c .before .before .shared-slice-known .given i))) (c .before .before .before .pre .1 .0) (c .before .before .before .pre .1 .1) (c .before .before .before .pre .1 .2) in let w = down (c .before .before .before .args .s .now) (c .before .before .before .args .path .now) (c .before .before .before .args .total) (c .before .before .before .args .part) (c .before .before .before .args .way) (c .before .before .before .args .allowance) (octets-of (c .before .before .before .args .s .now) (λ i. omega (arith, c .before .before .shared-slice-known .given i))) (c .before .before .before .pre .1 .0) (c .before .before .before .pre .1 .1) (c .before .before .before .pre .1 .2) in omega (arith, d .table, d .short, d .count, d .place, d .size, d .end, w .allowed, c .before .before .before .pre .1 .0 .allowed, c .before .before .before .pre .1 .3, c .before .before .before .pre .0)
 
--- src/delete.rt:300:9
 put-part-anew-part-behind-requires : (t : ℕ) → put-part-anew-lts.Need-part-behind-requires (put-part-anew-claims t) (put-part-anew-at t) put-part-anew.Post
 put-part-anew-part-behind-requires t c κs = let d = here (c .before .before .before .args .s .now) (c .before .before .before .args .path .now) (c .before .before .before .args .total) (c .before .before .before .args .part) (c .before .before .before .args .way) (c .before .before .before .args .allowance) (octets-of (c .before .before .before .args .s .now) (λ i. omega (arith, c .before .before .shared-slice-known .given i))) (c .before .before .before .pre .1 .0) (c .before .before .before .pre .1 .1) (c .before .before .before .pre .1 .2) in let w = down (c .before .before .before .args .s .now) (c .before .before .before .args .path .now) (c .before .before .before .args .total) (c .before .before .before .args .part) (c .before .before .before .args .way) (c .before .before .before .args .allowance) (octets-of (c .before .before .before .args .s .now) (λ i. omega (arith, c .before .before .shared-slice-known .given i))) (c .before .before .before .pre .1 .0) (c .before .before .before .pre .1 .1) (c .before .before .before .pre .1 .2) in (omega (arith, d .table, d .short, d .count, d .place, d .size, d .end, w .allowed, c .before .before .before .pre .1 .0 .allowed, c .before .before .before .pre .1 .3, c .before .before .before .pre .0), omega (arith, d .table, d .short, d .count, d .place, d .size, d .end, w .allowed, c .before .before .before .pre .1 .0 .allowed, c .before .before .before .pre .1 .3, c .before .before .before .pre .0))
 
--- src/delete.rt:302:17
 put-part-anew-add-put-deleted-2 : (t : ℕ) → put-part-anew-lts.Need-add-put-deleted-2 (put-part-anew-claims t) (put-part-anew-at t) put-part-anew.Post
 put-part-anew-add-put-deleted-2 t c = let d = here (c .before .before .before .before .args .s .now) (c .before .before .before .before .args .path .now) (c .before .before .before .before .args .total) (c .before .before .before .before .args .part) (c .before .before .before .before .args .way) (c .before .before .before .before .args .allowance) (octets-of (c .before .before .before .before .args .s .now) (λ i. omega (arith, c .before .before .before .shared-slice-known .given i))) (c .before .before .before .before .pre .1 .0) (c .before .before .before .before .pre .1 .1) (c .before .before .before .before .pre .1 .2) in let w = down (c .before .before .before .before .args .s .now) (c .before .before .before .before .args .path .now) (c .before .before .before .before .args .total) (c .before .before .before .before .args .part) (c .before .before .before .before .args .way) (c .before .before .before .before .args .allowance) (octets-of (c .before .before .before .before .args .s .now) (λ i. omega (arith, c .before .before .before .shared-slice-known .given i))) (c .before .before .before .before .pre .1 .0) (c .before .before .before .before .pre .1 .1) (c .before .before .before .before .pre .1 .2) in omega (arith, d .table, d .short, d .count, d .place, d .size, d .end, w .allowed, c .before .before .before .before .pre .1 .0 .allowed, c .before .before .before .before .pre .1 .3, c .before .before .before .before .pre .0)
 
--- src/delete.rt:303:16
 put-part-anew-add-t19 : (t : ℕ) → put-part-anew-lts.Need-add-t19 (put-part-anew-claims t) (put-part-anew-at t) put-part-anew.Post
 put-part-anew-add-t19 t c = let d = here (c .before .before .before .before .before .args .s .now) (c .before .before .before .before .before .args .path .now) (c .before .before .before .before .before .args .total) (c .before .before .before .before .before .args .part) (c .before .before .before .before .before .args .way) (c .before .before .before .before .before .args .allowance) (octets-of (c .before .before .before .before .before .args .s .now) (λ i. omega (arith, c .before .before .before .before .shared-slice-known .given i))) (c .before .before .before .before .before .pre .1 .0) (c .before .before .before .before .before .pre .1 .1) (c .before .before .before .before .before .pre .1 .2) in let w = down (c .before .before .before .before .before .args .s .now) (c .before .before .before .before .before .args .path .now) (c .before .before .before .before .before .args .total) (c .before .before .before .before .before .args .part) (c .before .before .before .before .before .args .way) (c .before .before .before .before .before .args .allowance) (octets-of (c .before .before .before .before .before .args .s .now) (λ i. omega (arith, c .before .before .before .before .shared-slice-known .given i))) (c .before .before .before .before .before .pre .1 .0) (c .before .before .before .before .before .pre .1 .1) (c .before .before .before .before .before .pre .1 .2) in omega (arith, d .table, d .short, d .count, d .place, d .size, d .end, w .allowed, c .before .before .before .before .before .pre .1 .0 .allowed, c .before .before .before .before .before .pre .1 .3, c .before .before .before .before .before .pre .0)
 
--- src/delete.rt:305:22
-put-part-anew-read-u32-requires : (t : ℕ) → put-part-anew-lts.Need-read-u32-requires (put-part-anew-claims t) (put-part-anew-at t) put-part-anew.Post
-put-part-anew-read-u32-requires t c κs = search needs
-
--- src/delete.rt:305:5
-put-part-anew-put-u32-requires : (t : ℕ) → put-part-anew-lts.Need-put-u32-requires (put-part-anew-claims t) (put-part-anew-at t) put-part-anew.Post
-put-part-anew-put-u32-requires t c κs = search needs
-
--- src/delete.rt:306:9
 put-part-anew-put-run-requires : (t : ℕ) → put-part-anew-lts.Need-put-run-requires (put-part-anew-claims t) (put-part-anew-at t) put-part-anew.Post
 put-part-anew-put-run-requires t c κs = let d = here (c .before .before .before .before .before .before .before .before .before .before .before .args .s .now) (c .before .before .before .before .before .before .before .before .before .before .before .args .path .now) (c .before .before .before .before .before .before .before .before .before .before .before .args .total) (c .before .before .before .before .before .before .before .before .before .before .before .args .part) (c .before .before .before .before .before .before .before .before .before .before .before .args .way) (c .before .before .before .before .before .before .before .before .before .before .before .args .allowance) (octets-of (c .before .before .before .before .before .before .before .before .before .before .before .args .s .now) (λ i. omega (arith, c .before .before .before .before .before .before .before .before .before .before .shared-slice-known .given i))) (c .before .before .before .before .before .before .before .before .before .before .before .pre .1 .0) (c .before .before .before .before .before .before .before .before .before .before .before .pre .1 .1) (c .before .before .before .before .before .before .before .before .before .before .before .pre .1 .2) in let w = down (c .before .before .before .before .before .before .before .before .before .before .before .args .s .now) (c .before .before .before .before .before .before .before .before .before .before .before .args .path .now) (c .before .before .before .before .before .before .before .before .before .before .before .args .total) (c .before .before .before .before .before .before .before .before .before .before .before .args .part) (c .before .before .before .before .before .before .before .before .before .before .before .args .way) (c .before .before .before .before .before .before .before .before .before .before .before .args .allowance) (octets-of (c .before .before .before .before .before .before .before .before .before .before .before .args .s .now) (λ i. omega (arith, c .before .before .before .before .before .before .before .before .before .before .shared-slice-known .given i))) (c .before .before .before .before .before .before .before .before .before .before .before .pre .1 .0) (c .before .before .before .before .before .before .before .before .before .before .before .pre .1 .1) (c .before .before .before .before .before .before .before .before .before .before .before .pre .1 .2) in (omega (arith, d .table, d .short, d .count, d .place, d .size, d .end, w .allowed, c .before .before .before .before .before .before .before .before .before .before .before .pre .1 .0 .allowed, c .before .before .before .before .before .before .before .before .before .before .before .pre .1 .3, c .before .before .before .before .before .before .before .before .before .before .before .pre .0), omega (arith, d .table, d .short, d .count, d .place, d .size, d .end, w .allowed, c .before .before .before .before .before .before .before .before .before .before .before .pre .1 .0 .allowed, c .before .before .before .before .before .before .before .before .before .before .before .pre .1 .3, c .before .before .before .before .before .before .before .before .before .before .before .pre .0), omega (arith, d .table, d .short, d .count, d .place, d .size, d .end, w .allowed, c .before .before .before .before .before .before .before .before .before .before .before .pre .1 .0 .allowed, c .before .before .before .before .before .before .before .before .before .before .before .pre .1 .3, c .before .before .before .before .before .before .before .before .before .before .before .pre .0), omega (arith, d .table, d .short, d .count, d .place, d .size, d .end, w .allowed, c .before .before .before .before .before .before .before .before .before .before .before .pre .1 .0 .allowed, c .before .before .before .before .before .before .before .before .before .before .before .pre .1 .3, c .before .before .before .before .before .before .before .before .before .before .before .pre .0), omega (arith, d .table, d .short, d .count, d .place, d .size, d .end, w .allowed, c .before .before .before .before .before .before .before .before .before .before .before .pre .1 .0 .allowed, c .before .before .before .before .before .before .before .before .before .before .before .pre .1 .3, c .before .before .before .before .before .before .before .before .before .before .before .pre .0), omega (arith, d .table, d .short, d .count, d .place, d .size, d .end, w .allowed, c .before .before .before .before .before .before .before .before .before .before .before .pre .1 .0 .allowed, c .before .before .before .before .before .before .before .before .before .before .before .pre .1 .3, c .before .before .before .before .before .before .before .before .before .before .before .pre .0))
 
--- src/delete.rt:310:9
 put-part-anew-sub-put-deleted : (t : ℕ) → put-part-anew-lts.Need-sub-put-deleted (put-part-anew-claims t) (put-part-anew-at t) put-part-anew.Post
 put-part-anew-sub-put-deleted t c = let d = here (c .before .before .before .before .before .before .before .before .before .before .before .before .before .before .args .s .now) (c .before .before .before .before .before .before .before .before .before .before .before .before .before .before .args .path .now) (c .before .before .before .before .before .before .before .before .before .before .before .before .before .before .args .total) (c .before .before .before .before .before .before .before .before .before .before .before .before .before .before .args .part) (c .before .before .before .before .before .before .before .before .before .before .before .before .before .before .args .way) (c .before .before .before .before .before .before .before .before .before .before .before .before .before .before .args .allowance) (octets-of (c .before .before .before .before .before .before .before .before .before .before .before .before .before .before .args .s .now) (λ i. omega (arith, c .before .before .before .before .before .before .before .before .before .before .before .before .before .shared-slice-known .given i))) (c .before .before .before .before .before .before .before .before .before .before .before .before .before .before .pre .1 .0) (c .before .before .before .before .before .before .before .before .before .before .before .before .before .before .pre .1 .1) (c .before .before .before .before .before .before .before .before .before .before .before .before .before .before .pre .1 .2) in let w = down (c .before .before .before .before .before .before .before .before .before .before .before .before .before .before .args .s .now) (c .before .before .before .before .before .before .before .before .before .before .before .before .before .before .args .path .now) (c .before .before .before .before .before .before .before .before .before .before .before .before .before .before .args .total) (c .before .before .before .before .before .before .before .before .before .before .before .before .before .before .args .part) (c .before .before .before .before .before .before .before .before .before .before .before .before .before .before .args .way) (c .before .before .before .before .before .before .before .before .before .before .before .before .before .before .args .allowance) (octets-of (c .before .before .before .before .before .before .before .before .before .before .before .before .before .before .args .s .now) (λ i. omega (arith, c .before .before .before .before .before .before .before .before .before .before .before .before .before .shared-slice-known .given i))) (c .before .before .before .before .before .before .before .before .before .before .before .before .before .before .pre .1 .0) (c .before .before .before .before .before .before .before .before .before .before .before .before .before .before .pre .1 .1) (c .before .before .before .before .before .before .before .before .before .before .before .before .before .before .pre .1 .2) in let f0 = ap (λ (x : PartAt). x .index) (c .before .before .before .before .before .before .before .before .before .before .part-behind .ensures) in let f1 = ap (λ (x : PartAt). x .place) (c .before .before .before .before .before .before .before .before .before .before .part-behind .ensures) in omega (arith, d .table, d .short, d .count, d .place, d .size, d .end, w .allowed, c .before .before .before .before .before .before .before .before .before .before .before .before .before .before .pre .1 .0 .allowed, c .before .before .before .before .before .before .before .before .before .before .before .before .before .before .pre .1 .3, c .before .before .before .before .before .before .before .before .before .before .before .before .before .before .pre .0, f0, f1)
 
--- src/delete.rt:310:9
 put-part-anew-part-put-deleted-start : (t : ℕ) → put-part-anew-lts.Need-part-put-deleted-start (put-part-anew-claims t) (put-part-anew-at t) put-part-anew.Post
 put-part-anew-part-put-deleted-start t c = let d = here (c .before .before .before .before .before .before .before .before .before .before .before .before .before .before .args .s .now) (c .before .before .before .before .before .before .before .before .before .before .before .before .before .before .args .path .now) (c .before .before .before .before .before .before .before .before .before .before .before .before .before .before .args .total) (c .before .before .before .before .before .before .before .before .before .before .before .before .before .before .args .part) (c .before .before .before .before .before .before .before .before .before .before .before .before .before .before .args .way) (c .before .before .before .before .before .before .before .before .before .before .before .before .before .before .args .allowance) (octets-of (c .before .before .before .before .before .before .before .before .before .before .before .before .before .before .args .s .now) (λ i. omega (arith, c .before .before .before .before .before .before .before .before .before .before .before .before .before .shared-slice-known .given i))) (c .before .before .before .before .before .before .before .before .before .before .before .before .before .before .pre .1 .0) (c .before .before .before .before .before .before .before .before .before .before .before .before .before .before .pre .1 .1) (c .before .before .before .before .before .before .before .before .before .before .before .before .before .before .pre .1 .2) in let w = down (c .before .before .before .before .before .before .before .before .before .before .before .before .before .before .args .s .now) (c .before .before .before .before .before .before .before .before .before .before .before .before .before .before .args .path .now) (c .before .before .before .before .before .before .before .before .before .before .before .before .before .before .args .total) (c .before .before .before .before .before .before .before .before .before .before .before .before .before .before .args .part) (c .before .before .before .before .before .before .before .before .before .before .before .before .before .before .args .way) (c .before .before .before .before .before .before .before .before .before .before .before .before .before .before .args .allowance) (octets-of (c .before .before .before .before .before .before .before .before .before .before .before .before .before .before .args .s .now) (λ i. omega (arith, c .before .before .before .before .before .before .before .before .before .before .before .before .before .shared-slice-known .given i))) (c .before .before .before .before .before .before .before .before .before .before .before .before .before .before .pre .1 .0) (c .before .before .before .before .before .before .before .before .before .before .before .before .before .before .pre .1 .1) (c .before .before .before .before .before .before .before .before .before .before .before .before .before .before .pre .1 .2) in let f0 = ap (λ (x : PartAt). x .index) (c .before .before .before .before .before .before .before .before .before .before .part-behind .ensures) in let f1 = ap (λ (x : PartAt). x .place) (c .before .before .before .before .before .before .before .before .before .before .part-behind .ensures) in omega (arith, d .table, d .short, d .count, d .place, d .size, d .end, w .allowed, c .before .before .before .before .before .before .before .before .before .before .before .before .before .before .pre .1 .0 .allowed, c .before .before .before .before .before .before .before .before .before .before .before .before .before .before .pre .1 .3, c .before .before .before .before .before .before .before .before .before .before .before .before .before .before .pre .0, f0, f1)
 
--- src/delete.rt:310:9
 put-part-anew-part-put-deleted-end : (t : ℕ) → put-part-anew-lts.Need-part-put-deleted-end (put-part-anew-claims t) (put-part-anew-at t) put-part-anew.Post
 put-part-anew-part-put-deleted-end t c = let d = here (c .before .before .before .before .before .before .before .before .before .before .before .before .before .before .args .s .now) (c .before .before .before .before .before .before .before .before .before .before .before .before .before .before .args .path .now) (c .before .before .before .before .before .before .before .before .before .before .before .before .before .before .args .total) (c .before .before .before .before .before .before .before .before .before .before .before .before .before .before .args .part) (c .before .before .before .before .before .before .before .before .before .before .before .before .before .before .args .way) (c .before .before .before .before .before .before .before .before .before .before .before .before .before .before .args .allowance) (octets-of (c .before .before .before .before .before .before .before .before .before .before .before .before .before .before .args .s .now) (λ i. omega (arith, c .before .before .before .before .before .before .before .before .before .before .before .before .before .shared-slice-known .given i))) (c .before .before .before .before .before .before .before .before .before .before .before .before .before .before .pre .1 .0) (c .before .before .before .before .before .before .before .before .before .before .before .before .before .before .pre .1 .1) (c .before .before .before .before .before .before .before .before .before .before .before .before .before .before .pre .1 .2) in let w = down (c .before .before .before .before .before .before .before .before .before .before .before .before .before .before .args .s .now) (c .before .before .before .before .before .before .before .before .before .before .before .before .before .before .args .path .now) (c .before .before .before .before .before .before .before .before .before .before .before .before .before .before .args .total) (c .before .before .before .before .before .before .before .before .before .before .before .before .before .before .args .part) (c .before .before .before .before .before .before .before .before .before .before .before .before .before .before .args .way) (c .before .before .before .before .before .before .before .before .before .before .before .before .before .before .args .allowance) (octets-of (c .before .before .before .before .before .before .before .before .before .before .before .before .before .before .args .s .now) (λ i. omega (arith, c .before .before .before .before .before .before .before .before .before .before .before .before .before .shared-slice-known .given i))) (c .before .before .before .before .before .before .before .before .before .before .before .before .before .before .pre .1 .0) (c .before .before .before .before .before .before .before .before .before .before .before .before .before .before .pre .1 .1) (c .before .before .before .before .before .before .before .before .before .before .before .before .before .before .pre .1 .2) in let f0 = ap (λ (x : PartAt). x .index) (c .before .before .before .before .before .before .before .before .before .before .part-behind .ensures) in let f1 = ap (λ (x : PartAt). x .place) (c .before .before .before .before .before .before .before .before .before .before .part-behind .ensures) in omega (arith, d .table, d .short, d .count, d .place, d .size, d .end, w .allowed, c .before .before .before .before .before .before .before .before .before .before .before .before .before .before .pre .1 .0 .allowed, c .before .before .before .before .before .before .before .before .before .before .before .before .before .before .pre .1 .3, c .before .before .before .before .before .before .before .before .before .before .before .before .before .before .pre .0, f0, f1)
 
--- src/delete.rt:312:9
 put-part-anew-way-behind-requires : (t : ℕ) → put-part-anew-lts.Need-way-behind-requires (put-part-anew-claims t) (put-part-anew-at t) put-part-anew.Post
 put-part-anew-way-behind-requires t c κs = let d = here (c .before .before .before .before .before .before .before .before .before .before .before .before .before .before .before .args .s .now) (c .before .before .before .before .before .before .before .before .before .before .before .before .before .before .before .args .path .now) (c .before .before .before .before .before .before .before .before .before .before .before .before .before .before .before .args .total) (c .before .before .before .before .before .before .before .before .before .before .before .before .before .before .before .args .part) (c .before .before .before .before .before .before .before .before .before .before .before .before .before .before .before .args .way) (c .before .before .before .before .before .before .before .before .before .before .before .before .before .before .before .args .allowance) (octets-of (c .before .before .before .before .before .before .before .before .before .before .before .before .before .before .before .args .s .now) (λ i. omega (arith, c .before .before .before .before .before .before .before .before .before .before .before .before .before .before .shared-slice-known .given i))) (c .before .before .before .before .before .before .before .before .before .before .before .before .before .before .before .pre .1 .0) (c .before .before .before .before .before .before .before .before .before .before .before .before .before .before .before .pre .1 .1) (c .before .before .before .before .before .before .before .before .before .before .before .before .before .before .before .pre .1 .2) in let w = down (c .before .before .before .before .before .before .before .before .before .before .before .before .before .before .before .args .s .now) (c .before .before .before .before .before .before .before .before .before .before .before .before .before .before .before .args .path .now) (c .before .before .before .before .before .before .before .before .before .before .before .before .before .before .before .args .total) (c .before .before .before .before .before .before .before .before .before .before .before .before .before .before .before .args .part) (c .before .before .before .before .before .before .before .before .before .before .before .before .before .before .before .args .way) (c .before .before .before .before .before .before .before .before .before .before .before .before .before .before .before .args .allowance) (octets-of (c .before .before .before .before .before .before .before .before .before .before .before .before .before .before .before .args .s .now) (λ i. omega (arith, c .before .before .before .before .before .before .before .before .before .before .before .before .before .before .shared-slice-known .given i))) (c .before .before .before .before .before .before .before .before .before .before .before .before .before .before .before .pre .1 .0) (c .before .before .before .before .before .before .before .before .before .before .before .before .before .before .before .pre .1 .1) (c .before .before .before .before .before .before .before .before .before .before .before .before .before .before .before .pre .1 .2) in (omega (arith, c .before .before .before .before .before .before .before .before .before .before .before .before .before .before .before .pre .1 .0 .more, c .before .before .before .before .before .before .before .before .before .before .before .before .before .before .before .pre .1 .0 .few), omega (arith, c .before .before .before .before .before .before .before .before .before .before .before .before .before .before .before .pre .1 .0 .near, c .before .before .before .before .before .before .before .before .before .before .before .before .before .before .before .pre .1 .0 .more, c .before .before .before .before .before .before .before .before .before .before .before .before .before .before .before .pre .1 .0 .few))
 
--- src/delete.rt:315:9
 put-part-anew-sub-put-deleted-2 : (t : ℕ) → put-part-anew-lts.Need-sub-put-deleted-2 (put-part-anew-claims t) (put-part-anew-at t) put-part-anew.Post
 put-part-anew-sub-put-deleted-2 t c = let d = here (c .before .before .before .before .before .before .before .before .before .before .before .before .before .before .before .before .before .args .s .now) (c .before .before .before .before .before .before .before .before .before .before .before .before .before .before .before .before .before .args .path .now) (c .before .before .before .before .before .before .before .before .before .before .before .before .before .before .before .before .before .args .total) (c .before .before .before .before .before .before .before .before .before .before .before .before .before .before .before .before .before .args .part) (c .before .before .before .before .before .before .before .before .before .before .before .before .before .before .before .before .before .args .way) (c .before .before .before .before .before .before .before .before .before .before .before .before .before .before .before .before .before .args .allowance) (octets-of (c .before .before .before .before .before .before .before .before .before .before .before .before .before .before .before .before .before .args .s .now) (λ i. omega (arith, c .before .before .before .before .before .before .before .before .before .before .before .before .before .before .before .before .shared-slice-known .given i))) (c .before .before .before .before .before .before .before .before .before .before .before .before .before .before .before .before .before .pre .1 .0) (c .before .before .before .before .before .before .before .before .before .before .before .before .before .before .before .before .before .pre .1 .1) (c .before .before .before .before .before .before .before .before .before .before .before .before .before .before .before .before .before .pre .1 .2) in let w = down (c .before .before .before .before .before .before .before .before .before .before .before .before .before .before .before .before .before .args .s .now) (c .before .before .before .before .before .before .before .before .before .before .before .before .before .before .before .before .before .args .path .now) (c .before .before .before .before .before .before .before .before .before .before .before .before .before .before .before .before .before .args .total) (c .before .before .before .before .before .before .before .before .before .before .before .before .before .before .before .before .before .args .part) (c .before .before .before .before .before .before .before .before .before .before .before .before .before .before .before .before .before .args .way) (c .before .before .before .before .before .before .before .before .before .before .before .before .before .before .before .before .before .args .allowance) (octets-of (c .before .before .before .before .before .before .before .before .before .before .before .before .before .before .before .before .before .args .s .now) (λ i. omega (arith, c .before .before .before .before .before .before .before .before .before .before .before .before .before .before .before .before .shared-slice-known .given i))) (c .before .before .before .before .before .before .before .before .before .before .before .before .before .before .before .before .before .pre .1 .0) (c .before .before .before .before .before .before .before .before .before .before .before .before .before .before .before .before .before .pre .1 .1) (c .before .before .before .before .before .before .before .before .before .before .before .before .before .before .before .before .before .pre .1 .2) in omega (arith, d .table, d .short, d .count, d .place, d .size, d .end, w .allowed, c .before .before .before .before .before .before .before .before .before .before .before .before .before .before .before .before .before .pre .1 .0 .allowed, c .before .before .before .before .before .before .before .before .before .before .before .before .before .before .before .before .before .pre .1 .3, c .before .before .before .before .before .before .before .before .before .before .before .before .before .before .before .before .before .pre .0)
 
--- src/delete.rt:309:9
 put-part-anew-put-deleted-requires : (t : ℕ) → put-part-anew-lts.Need-put-deleted-requires (put-part-anew-claims t) (put-part-anew-at t) put-part-anew.Post
 put-part-anew-put-deleted-requires t c κs = let d = here (c .before .before .before .before .before .before .before .before .before .before .before .before .before .before .before .before .before .args .s .now) (c .before .before .before .before .before .before .before .before .before .before .before .before .before .before .before .before .before .args .path .now) (c .before .before .before .before .before .before .before .before .before .before .before .before .before .before .before .before .before .args .total) (c .before .before .before .before .before .before .before .before .before .before .before .before .before .before .before .before .before .args .part) (c .before .before .before .before .before .before .before .before .before .before .before .before .before .before .before .before .before .args .way) (c .before .before .before .before .before .before .before .before .before .before .before .before .before .before .before .before .before .args .allowance) (octets-of (c .before .before .before .before .before .before .before .before .before .before .before .before .before .before .before .before .before .args .s .now) (λ i. omega (arith, c .before .before .before .before .before .before .before .before .before .before .before .before .before .before .before .before .shared-slice-known .given i))) (c .before .before .before .before .before .before .before .before .before .before .before .before .before .before .before .before .before .pre .1 .0) (c .before .before .before .before .before .before .before .before .before .before .before .before .before .before .before .before .before .pre .1 .1) (c .before .before .before .before .before .before .before .before .before .before .before .before .before .before .before .before .before .pre .1 .2) in let w = down (c .before .before .before .before .before .before .before .before .before .before .before .before .before .before .before .before .before .args .s .now) (c .before .before .before .before .before .before .before .before .before .before .before .before .before .before .before .before .before .args .path .now) (c .before .before .before .before .before .before .before .before .before .before .before .before .before .before .before .before .before .args .total) (c .before .before .before .before .before .before .before .before .before .before .before .before .before .before .before .before .before .args .part) (c .before .before .before .before .before .before .before .before .before .before .before .before .before .before .before .before .before .args .way) (c .before .before .before .before .before .before .before .before .before .before .before .before .before .before .before .before .before .args .allowance) (octets-of (c .before .before .before .before .before .before .before .before .before .before .before .before .before .before .before .before .before .args .s .now) (λ i. omega (arith, c .before .before .before .before .before .before .before .before .before .before .before .before .before .before .before .before .shared-slice-known .given i))) (c .before .before .before .before .before .before .before .before .before .before .before .before .before .before .before .before .before .pre .1 .0) (c .before .before .before .before .before .before .before .before .before .before .before .before .before .before .before .before .before .pre .1 .1) (c .before .before .before .before .before .before .before .before .before .before .before .before .before .before .before .before .before .pre .1 .2) in let f0 = ap (λ (x : Cursor). x .jentry) (c .before .before .before .before .before .put-run .ensures .0) in let f1 = ap (λ (x : Cursor). x .place) (c .before .before .before .before .before .put-run .ensures .0) in (omega (arith, d .table, d .short, d .count, d .place, d .size, d .end, w .allowed, c .before .before .before .before .before .before .before .before .before .before .before .before .before .before .before .before .before .pre .1 .0 .allowed, c .before .before .before .before .before .before .before .before .before .before .before .before .before .before .before .before .before .pre .1 .3, c .before .before .before .before .before .before .before .before .before .before .before .before .before .before .before .before .before .pre .0), (child-cuts (c .before .before .before .before .before .before .before .before .before .before .before .before .before .before .before .before .before .args .s .now) (c .before .before .before .before .before .before .before .before .before .before .before .before .before .before .before .before .before .args .path .now) (c .before .before .before .before .before .before .before .before .before .before .before .before .before .before .before .before .before .args .total) (c .before .before .before .before .before .before .before .before .before .before .before .before .before .before .before .before .before .args .part) (c .before .before .before .before .before .before .before .before .before .before .before .before .before .before .before .before .before .args .way) (c .before .before .before .before .before .before .before .before .before .before .before .before .before .before .before .before .before .args .allowance) (octets-of (c .before .before .before .before .before .before .before .before .before .before .before .before .before .before .before .before .before .args .s .now) (λ i. omega (arith, c .before .before .before .before .before .before .before .before .before .before .before .before .before .before .before .before .shared-slice-known .given i))) (c .before .before .before .before .before .before .before .before .before .before .before .before .before .before .before .before .before .pre .1 .0) (c .before .before .before .before .before .before .before .before .before .before .before .before .before .before .before .before .before .pre .1 .1) (c .before .before .before .before .before .before .before .before .before .before .before .before .before .before .before .before .before .pre .1 .2) _ _ (c .before .before .before .before .before .before .before .before .before .before .before .before .before .part-behind .ensures) (c .before .way-behind .ensures), omega (arith, d .table, d .short, d .count, d .place, d .size, d .end, w .allowed, c .before .before .before .before .before .before .before .before .before .before .before .before .before .before .before .before .before .pre .1 .0 .allowed, c .before .before .before .before .before .before .before .before .before .before .before .before .before .before .before .before .before .pre .1 .3, c .before .before .before .before .before .before .before .before .before .before .before .before .before .before .before .before .before .pre .0, f0, f1)))
 
--- src/delete.rt:317:55
 put-part-anew-cast-encoded : (t : ℕ) → put-part-anew-lts.Need-cast-encoded (put-part-anew-claims t) (put-part-anew-at t) put-part-anew.Post
 put-part-anew-cast-encoded t c = let d = here (c .before .before .before .before .before .before .before .before .before .before .before .before .before .before .before .before .before .before .before .before .before .args .s .now) (c .before .before .before .before .before .before .before .before .before .before .before .before .before .before .before .before .before .before .before .before .before .args .path .now) (c .before .before .before .before .before .before .before .before .before .before .before .before .before .before .before .before .before .before .before .before .before .args .total) (c .before .before .before .before .before .before .before .before .before .before .before .before .before .before .before .before .before .before .before .before .before .args .part) (c .before .before .before .before .before .before .before .before .before .before .before .before .before .before .before .before .before .before .before .before .before .args .way) (c .before .before .before .before .before .before .before .before .before .before .before .before .before .before .before .before .before .before .before .before .before .args .allowance) (octets-of (c .before .before .before .before .before .before .before .before .before .before .before .before .before .before .before .before .before .before .before .before .before .args .s .now) (λ i. omega (arith, c .before .before .before .before .before .before .before .before .before .before .before .before .before .before .before .before .before .before .before .before .shared-slice-known .given i))) (c .before .before .before .before .before .before .before .before .before .before .before .before .before .before .before .before .before .before .before .before .before .pre .1 .0) (c .before .before .before .before .before .before .before .before .before .before .before .before .before .before .before .before .before .before .before .before .before .pre .1 .1) (c .before .before .before .before .before .before .before .before .before .before .before .before .before .before .before .before .before .before .before .before .before .pre .1 .2) in let w = down (c .before .before .before .before .before .before .before .before .before .before .before .before .before .before .before .before .before .before .before .before .before .args .s .now) (c .before .before .before .before .before .before .before .before .before .before .before .before .before .before .before .before .before .before .before .before .before .args .path .now) (c .before .before .before .before .before .before .before .before .before .before .before .before .before .before .before .before .before .before .before .before .before .args .total) (c .before .before .before .before .before .before .before .before .before .before .before .before .before .before .before .before .before .before .before .before .before .args .part) (c .before .before .before .before .before .before .before .before .before .before .before .before .before .before .before .before .before .before .before .before .before .args .way) (c .before .before .before .before .before .before .before .before .before .before .before .before .before .before .before .before .before .before .before .before .before .args .allowance) (octets-of (c .before .before .before .before .before .before .before .before .before .before .before .before .before .before .before .before .before .before .before .before .before .args .s .now) (λ i. omega (arith, c .before .before .before .before .before .before .before .before .before .before .before .before .before .before .before .before .before .before .before .before .shared-slice-known .given i))) (c .before .before .before .before .before .before .before .before .before .before .before .before .before .before .before .before .before .before .before .before .before .pre .1 .0) (c .before .before .before .before .before .before .before .before .before .before .before .before .before .before .before .before .before .before .before .before .before .pre .1 .1) (c .before .before .before .before .before .before .before .before .before .before .before .before .before .before .before .before .before .before .before .before .before .pre .1 .2) in let f0 = child-short (c .before .before .before .before .before .before .before .before .before .before .before .before .before .before .before .before .before .before .before .before .before .args .s .now) (c .before .before .before .before .before .before .before .before .before .before .before .before .before .before .before .before .before .before .before .before .before .args .path .now) (c .before .before .before .before .before .before .before .before .before .before .before .before .before .before .before .before .before .before .before .before .before .args .total) (c .before .before .before .before .before .before .before .before .before .before .before .before .before .before .before .before .before .before .before .before .before .args .part) (c .before .before .before .before .before .before .before .before .before .before .before .before .before .before .before .before .before .before .before .before .before .args .way) (c .before .before .before .before .before .before .before .before .before .before .before .before .before .before .before .before .before .before .before .before .before .args .allowance) (octets-of (c .before .before .before .before .before .before .before .before .before .before .before .before .before .before .before .before .before .before .before .before .before .args .s .now) (λ i. omega (arith, c .before .before .before .before .before .before .before .before .before .before .before .before .before .before .before .before .before .before .before .before .shared-slice-known .given i))) (c .before .before .before .before .before .before .before .before .before .before .before .before .before .before .before .before .before .before .before .before .before .pre .1 .0) (c .before .before .before .before .before .before .before .before .before .before .before .before .before .before .before .before .before .before .before .before .before .pre .1 .1) (c .before .before .before .before .before .before .before .before .before .before .before .before .before .before .before .before .before .before .before .before .before .pre .1 .2) _ _ (c .before .before .before .before .before .before .before .before .before .before .before .before .before .before .before .before .before .part-behind .ensures) (c .before .before .before .before .before .way-behind .ensures) _ _ _ _ (c .before .before .before .put-deleted .ensures) in omega (arith, d .table, d .short, d .count, d .place, d .size, d .end, w .allowed, c .before .before .before .before .before .before .before .before .before .before .before .before .before .before .before .before .before .before .before .before .before .pre .1 .0 .allowed, c .before .before .before .before .before .before .before .before .before .before .before .before .before .before .before .before .before .before .before .before .before .pre .1 .3, c .before .before .before .before .before .before .before .before .before .before .before .before .before .before .before .before .before .before .before .before .before .pre .0, f0)
 
--- src/delete.rt:317:31
-put-part-anew-encoded-requires : (t : ℕ) → put-part-anew-lts.Need-encoded-requires (put-part-anew-claims t) (put-part-anew-at t) put-part-anew.Post
-put-part-anew-encoded-requires t c κs = search needs
-
--- src/delete.rt:317:5
-put-part-anew-put-u32-requires-2 : (t : ℕ) → put-part-anew-lts.Need-put-u32-requires-2 (put-part-anew-claims t) (put-part-anew-at t) put-part-anew.Post
-put-part-anew-put-u32-requires-2 t c κs = search needs
-
--- src/delete.rt:319:17
 put-part-anew-add-t19-2 : (t : ℕ) → put-part-anew-lts.Need-add-t19-2 (put-part-anew-claims t) (put-part-anew-at t) put-part-anew.Post
 put-part-anew-add-t19-2 t c = let d = here (c .before .before .before .before .before .before .before .before .before .before .before .before .before .before .before .before .before .before .before .before .before .before .before .before .before .before .args .s .now) (c .before .before .before .before .before .before .before .before .before .before .before .before .before .before .before .before .before .before .before .before .before .before .before .before .before .before .args .path .now) (c .before .before .before .before .before .before .before .before .before .before .before .before .before .before .before .before .before .before .before .before .before .before .before .before .before .before .args .total) (c .before .before .before .before .before .before .before .before .before .before .before .before .before .before .before .before .before .before .before .before .before .before .before .before .before .before .args .part) (c .before .before .before .before .before .before .before .before .before .before .before .before .before .before .before .before .before .before .before .before .before .before .before .before .before .before .args .way) (c .before .before .before .before .before .before .before .before .before .before .before .before .before .before .before .before .before .before .before .before .before .before .before .before .before .before .args .allowance) (octets-of (c .before .before .before .before .before .before .before .before .before .before .before .before .before .before .before .before .before .before .before .before .before .before .before .before .before .before .args .s .now) (λ i. omega (arith, c .before .before .before .before .before .before .before .before .before .before .before .before .before .before .before .before .before .before .before .before .before .before .before .before .before .shared-slice-known .given i))) (c .before .before .before .before .before .before .before .before .before .before .before .before .before .before .before .before .before .before .before .before .before .before .before .before .before .before .pre .1 .0) (c .before .before .before .before .before .before .before .before .before .before .before .before .before .before .before .before .before .before .before .before .before .before .before .before .before .before .pre .1 .1) (c .before .before .before .before .before .before .before .before .before .before .before .before .before .before .before .before .before .before .before .before .before .before .before .before .before .before .pre .1 .2) in let w = down (c .before .before .before .before .before .before .before .before .before .before .before .before .before .before .before .before .before .before .before .before .before .before .before .before .before .before .args .s .now) (c .before .before .before .before .before .before .before .before .before .before .before .before .before .before .before .before .before .before .before .before .before .before .before .before .before .before .args .path .now) (c .before .before .before .before .before .before .before .before .before .before .before .before .before .before .before .before .before .before .before .before .before .before .before .before .before .before .args .total) (c .before .before .before .before .before .before .before .before .before .before .before .before .before .before .before .before .before .before .before .before .before .before .before .before .before .before .args .part) (c .before .before .before .before .before .before .before .before .before .before .before .before .before .before .before .before .before .before .before .before .before .before .before .before .before .before .args .way) (c .before .before .before .before .before .before .before .before .before .before .before .before .before .before .before .before .before .before .before .before .before .before .before .before .before .before .args .allowance) (octets-of (c .before .before .before .before .before .before .before .before .before .before .before .before .before .before .before .before .before .before .before .before .before .before .before .before .before .before .args .s .now) (λ i. omega (arith, c .before .before .before .before .before .before .before .before .before .before .before .before .before .before .before .before .before .before .before .before .before .before .before .before .before .shared-slice-known .given i))) (c .before .before .before .before .before .before .before .before .before .before .before .before .before .before .before .before .before .before .before .before .before .before .before .before .before .before .pre .1 .0) (c .before .before .before .before .before .before .before .before .before .before .before .before .before .before .before .before .before .before .before .before .before .before .before .before .before .before .pre .1 .1) (c .before .before .before .before .before .before .before .before .before .before .before .before .before .before .before .before .before .before .before .before .before .before .before .before .before .before .pre .1 .2) in let f0 = ap (λ (x : Cursor). x .jentry) (c .before .before .before .before .before .before .before .before .before .before .before .before .before .before .put-run .ensures .0) in let f1 = ap (λ (x : Cursor). x .place) (c .before .before .before .before .before .before .before .before .before .before .before .before .before .before .put-run .ensures .0) in omega (arith, d .table, d .short, d .count, d .place, d .size, d .end, w .allowed, c .before .before .before .before .before .before .before .before .before .before .before .before .before .before .before .before .before .before .before .before .before .before .before .before .before .before .pre .1 .0 .allowed, c .before .before .before .before .before .before .before .before .before .before .before .before .before .before .before .before .before .before .before .before .before .before .before .before .before .before .pre .1 .3, c .before .before .before .before .before .before .before .before .before .before .before .before .before .before .before .before .before .before .before .before .before .before .before .before .before .before .pre .0, f0, f1)
 
--- src/delete.rt:320:16
 put-part-anew-add-t20 : (t : ℕ) → put-part-anew-lts.Need-add-t20 (put-part-anew-claims t) (put-part-anew-at t) put-part-anew.Post
 put-part-anew-add-t20 t c = let d = here (c .before .before .before .before .before .before .before .before .before .before .before .before .before .before .before .before .before .before .before .before .before .before .before .before .before .before .before .args .s .now) (c .before .before .before .before .before .before .before .before .before .before .before .before .before .before .before .before .before .before .before .before .before .before .before .before .before .before .before .args .path .now) (c .before .before .before .before .before .before .before .before .before .before .before .before .before .before .before .before .before .before .before .before .before .before .before .before .before .before .before .args .total) (c .before .before .before .before .before .before .before .before .before .before .before .before .before .before .before .before .before .before .before .before .before .before .before .before .before .before .before .args .part) (c .before .before .before .before .before .before .before .before .before .before .before .before .before .before .before .before .before .before .before .before .before .before .before .before .before .before .before .args .way) (c .before .before .before .before .before .before .before .before .before .before .before .before .before .before .before .before .before .before .before .before .before .before .before .before .before .before .before .args .allowance) (octets-of (c .before .before .before .before .before .before .before .before .before .before .before .before .before .before .before .before .before .before .before .before .before .before .before .before .before .before .before .args .s .now) (λ i. omega (arith, c .before .before .before .before .before .before .before .before .before .before .before .before .before .before .before .before .before .before .before .before .before .before .before .before .before .before .shared-slice-known .given i))) (c .before .before .before .before .before .before .before .before .before .before .before .before .before .before .before .before .before .before .before .before .before .before .before .before .before .before .before .pre .1 .0) (c .before .before .before .before .before .before .before .before .before .before .before .before .before .before .before .before .before .before .before .before .before .before .before .before .before .before .before .pre .1 .1) (c .before .before .before .before .before .before .before .before .before .before .before .before .before .before .before .before .before .before .before .before .before .before .before .before .before .before .before .pre .1 .2) in let w = down (c .before .before .before .before .before .before .before .before .before .before .before .before .before .before .before .before .before .before .before .before .before .before .before .before .before .before .before .args .s .now) (c .before .before .before .before .before .before .before .before .before .before .before .before .before .before .before .before .before .before .before .before .before .before .before .before .before .before .before .args .path .now) (c .before .before .before .before .before .before .before .before .before .before .before .before .before .before .before .before .before .before .before .before .before .before .before .before .before .before .before .args .total) (c .before .before .before .before .before .before .before .before .before .before .before .before .before .before .before .before .before .before .before .before .before .before .before .before .before .before .before .args .part) (c .before .before .before .before .before .before .before .before .before .before .before .before .before .before .before .before .before .before .before .before .before .before .before .before .before .before .before .args .way) (c .before .before .before .before .before .before .before .before .before .before .before .before .before .before .before .before .before .before .before .before .before .before .before .before .before .before .before .args .allowance) (octets-of (c .before .before .before .before .before .before .before .before .before .before .before .before .before .before .before .before .before .before .before .before .before .before .before .before .before .before .before .args .s .now) (λ i. omega (arith, c .before .before .before .before .before .before .before .before .before .before .before .before .before .before .before .before .before .before .before .before .before .before .before .before .before .before .shared-slice-known .given i))) (c .before .before .before .before .before .before .before .before .before .before .before .before .before .before .before .before .before .before .before .before .before .before .before .before .before .before .before .pre .1 .0) (c .before .before .before .before .before .before .before .before .before .before .before .before .before .before .before .before .before .before .before .before .before .before .before .before .before .before .before .pre .1 .1) (c .before .before .before .before .before .before .before .before .before .before .before .before .before .before .before .before .before .before .before .before .before .before .before .before .before .before .before .pre .1 .2) in let f0 = child-short (c .before .before .before .before .before .before .before .before .before .before .before .before .before .before .before .before .before .before .before .before .before .before .before .before .before .before .before .args .s .now) (c .before .before .before .before .before .before .before .before .before .before .before .before .before .before .before .before .before .before .before .before .before .before .before .before .before .before .before .args .path .now) (c .before .before .before .before .before .before .before .before .before .before .before .before .before .before .before .before .before .before .before .before .before .before .before .before .before .before .before .args .total) (c .before .before .before .before .before .before .before .before .before .before .before .before .before .before .before .before .before .before .before .before .before .before .before .before .before .before .before .args .part) (c .before .before .before .before .before .before .before .before .before .before .before .before .before .before .before .before .before .before .before .before .before .before .before .before .before .before .before .args .way) (c .before .before .before .before .before .before .before .before .before .before .before .before .before .before .before .before .before .before .before .before .before .before .before .before .before .before .before .args .allowance) (octets-of (c .before .before .before .before .before .before .before .before .before .before .before .before .before .before .before .before .before .before .before .before .before .before .before .before .before .before .before .args .s .now) (λ i. omega (arith, c .before .before .before .before .before .before .before .before .before .before .before .before .before .before .before .before .before .before .before .before .before .before .before .before .before .before .shared-slice-known .given i))) (c .before .before .before .before .before .before .before .before .before .before .before .before .before .before .before .before .before .before .before .before .before .before .before .before .before .before .before .pre .1 .0) (c .before .before .before .before .before .before .before .before .before .before .before .before .before .before .before .before .before .before .before .before .before .before .before .before .before .before .before .pre .1 .1) (c .before .before .before .before .before .before .before .before .before .before .before .before .before .before .before .before .before .before .before .before .before .before .before .before .before .before .before .pre .1 .2) _ _ (c .before .before .before .before .before .before .before .before .before .before .before .before .before .before .before .before .before .before .before .before .before .before .before .part-behind .ensures) (c .before .before .before .before .before .before .before .before .before .before .before .way-behind .ensures) _ _ _ _ (c .before .before .before .before .before .before .before .before .before .put-deleted .ensures) in let f1 = ap (λ (x : Cursor). x .jentry) (c .before .before .before .before .before .before .before .before .before .before .before .before .before .before .before .put-run .ensures .0) in let f2 = ap (λ (x : Cursor). x .place) (c .before .before .before .before .before .before .before .before .before .before .before .before .before .before .before .put-run .ensures .0) in omega (arith, d .table, d .short, d .count, d .place, d .size, d .end, w .allowed, c .before .before .before .before .before .before .before .before .before .before .before .before .before .before .before .before .before .before .before .before .before .before .before .before .before .before .before .pre .1 .0 .allowed, c .before .before .before .before .before .before .before .before .before .before .before .before .before .before .before .before .before .before .before .before .before .before .before .before .before .before .before .pre .1 .3, c .before .before .before .before .before .before .before .before .before .before .before .before .before .before .before .before .before .before .before .before .before .before .before .before .before .before .before .pre .0, f0, f1, f2)
 
--- src/delete.rt:322:9
 put-part-anew-put-run-requires-2 : (t : ℕ) → put-part-anew-lts.Need-put-run-requires-2 (put-part-anew-claims t) (put-part-anew-at t) put-part-anew.Post
 put-part-anew-put-run-requires-2 t c κs = let d = here (c .before .before .before .before .before .before .before .before .before .before .before .before .before .before .before .before .before .before .before .before .before .before .before .before .before .before .before .before .args .s .now) (c .before .before .before .before .before .before .before .before .before .before .before .before .before .before .before .before .before .before .before .before .before .before .before .before .before .before .before .before .args .path .now) (c .before .before .before .before .before .before .before .before .before .before .before .before .before .before .before .before .before .before .before .before .before .before .before .before .before .before .before .before .args .total) (c .before .before .before .before .before .before .before .before .before .before .before .before .before .before .before .before .before .before .before .before .before .before .before .before .before .before .before .before .args .part) (c .before .before .before .before .before .before .before .before .before .before .before .before .before .before .before .before .before .before .before .before .before .before .before .before .before .before .before .before .args .way) (c .before .before .before .before .before .before .before .before .before .before .before .before .before .before .before .before .before .before .before .before .before .before .before .before .before .before .before .before .args .allowance) (octets-of (c .before .before .before .before .before .before .before .before .before .before .before .before .before .before .before .before .before .before .before .before .before .before .before .before .before .before .before .before .args .s .now) (λ i. omega (arith, c .before .before .before .before .before .before .before .before .before .before .before .before .before .before .before .before .before .before .before .before .before .before .before .before .before .before .before .shared-slice-known .given i))) (c .before .before .before .before .before .before .before .before .before .before .before .before .before .before .before .before .before .before .before .before .before .before .before .before .before .before .before .before .pre .1 .0) (c .before .before .before .before .before .before .before .before .before .before .before .before .before .before .before .before .before .before .before .before .before .before .before .before .before .before .before .before .pre .1 .1) (c .before .before .before .before .before .before .before .before .before .before .before .before .before .before .before .before .before .before .before .before .before .before .before .before .before .before .before .before .pre .1 .2) in let w = down (c .before .before .before .before .before .before .before .before .before .before .before .before .before .before .before .before .before .before .before .before .before .before .before .before .before .before .before .before .args .s .now) (c .before .before .before .before .before .before .before .before .before .before .before .before .before .before .before .before .before .before .before .before .before .before .before .before .before .before .before .before .args .path .now) (c .before .before .before .before .before .before .before .before .before .before .before .before .before .before .before .before .before .before .before .before .before .before .before .before .before .before .before .before .args .total) (c .before .before .before .before .before .before .before .before .before .before .before .before .before .before .before .before .before .before .before .before .before .before .before .before .before .before .before .before .args .part) (c .before .before .before .before .before .before .before .before .before .before .before .before .before .before .before .before .before .before .before .before .before .before .before .before .before .before .before .before .args .way) (c .before .before .before .before .before .before .before .before .before .before .before .before .before .before .before .before .before .before .before .before .before .before .before .before .before .before .before .before .args .allowance) (octets-of (c .before .before .before .before .before .before .before .before .before .before .before .before .before .before .before .before .before .before .before .before .before .before .before .before .before .before .before .before .args .s .now) (λ i. omega (arith, c .before .before .before .before .before .before .before .before .before .before .before .before .before .before .before .before .before .before .before .before .before .before .before .before .before .before .before .shared-slice-known .given i))) (c .before .before .before .before .before .before .before .before .before .before .before .before .before .before .before .before .before .before .before .before .before .before .before .before .before .before .before .before .pre .1 .0) (c .before .before .before .before .before .before .before .before .before .before .before .before .before .before .before .before .before .before .before .before .before .before .before .before .before .before .before .before .pre .1 .1) (c .before .before .before .before .before .before .before .before .before .before .before .before .before .before .before .before .before .before .before .before .before .before .before .before .before .before .before .before .pre .1 .2) in let f0 = child-short (c .before .before .before .before .before .before .before .before .before .before .before .before .before .before .before .before .before .before .before .before .before .before .before .before .before .before .before .before .args .s .now) (c .before .before .before .before .before .before .before .before .before .before .before .before .before .before .before .before .before .before .before .before .before .before .before .before .before .before .before .before .args .path .now) (c .before .before .before .before .before .before .before .before .before .before .before .before .before .before .before .before .before .before .before .before .before .before .before .before .before .before .before .before .args .total) (c .before .before .before .before .before .before .before .before .before .before .before .before .before .before .before .before .before .before .before .before .before .before .before .before .before .before .before .before .args .part) (c .before .before .before .before .before .before .before .before .before .before .before .before .before .before .before .before .before .before .before .before .before .before .before .before .before .before .before .before .args .way) (c .before .before .before .before .before .before .before .before .before .before .before .before .before .before .before .before .before .before .before .before .before .before .before .before .before .before .before .before .args .allowance) (octets-of (c .before .before .before .before .before .before .before .before .before .before .before .before .before .before .before .before .before .before .before .before .before .before .before .before .before .before .before .before .args .s .now) (λ i. omega (arith, c .before .before .before .before .before .before .before .before .before .before .before .before .before .before .before .before .before .before .before .before .before .before .before .before .before .before .before .shared-slice-known .given i))) (c .before .before .before .before .before .before .before .before .before .before .before .before .before .before .before .before .before .before .before .before .before .before .before .before .before .before .before .before .pre .1 .0) (c .before .before .before .before .before .before .before .before .before .before .before .before .before .before .before .before .before .before .before .before .before .before .before .before .before .before .before .before .pre .1 .1) (c .before .before .before .before .before .before .before .before .before .before .before .before .before .before .before .before .before .before .before .before .before .before .before .before .before .before .before .before .pre .1 .2) _ _ (c .before .before .before .before .before .before .before .before .before .before .before .before .before .before .before .before .before .before .before .before .before .before .before .before .part-behind .ensures) (c .before .before .before .before .before .before .before .before .before .before .before .before .way-behind .ensures) _ _ _ _ (c .before .before .before .before .before .before .before .before .before .before .put-deleted .ensures) in let f1 = ap (λ (x : PartAt). x .index) (c .before .before .before .before .before .before .before .before .before .before .before .before .before .before .before .before .before .before .before .before .before .before .before .before .part-behind .ensures) in let f2 = ap (λ (x : PartAt). x .place) (c .before .before .before .before .before .before .before .before .before .before .before .before .before .before .before .before .before .before .before .before .before .before .before .before .part-behind .ensures) in let f3 = ap (λ (x : Cursor). x .jentry) (c .before .before .before .before .before .before .before .before .before .before .before .before .before .before .before .before .put-run .ensures .0) in let f4 = ap (λ (x : Cursor). x .place) (c .before .before .before .before .before .before .before .before .before .before .before .before .before .before .before .before .put-run .ensures .0) in (omega (arith, d .table, d .short, d .count, d .place, d .size, d .end, w .allowed, c .before .before .before .before .before .before .before .before .before .before .before .before .before .before .before .before .before .before .before .before .before .before .before .before .before .before .before .before .pre .1 .0 .allowed, c .before .before .before .before .before .before .before .before .before .before .before .before .before .before .before .before .before .before .before .before .before .before .before .before .before .before .before .before .pre .1 .3, c .before .before .before .before .before .before .before .before .before .before .before .before .before .before .before .before .before .before .before .before .before .before .before .before .before .before .before .before .pre .0, f0, f1, f2, f3, f4), omega (arith, d .table, d .short, d .count, d .place, d .size, d .end, w .allowed, c .before .before .before .before .before .before .before .before .before .before .before .before .before .before .before .before .before .before .before .before .before .before .before .before .before .before .before .before .pre .1 .0 .allowed, c .before .before .before .before .before .before .before .before .before .before .before .before .before .before .before .before .before .before .before .before .before .before .before .before .before .before .before .before .pre .1 .3, c .before .before .before .before .before .before .before .before .before .before .before .before .before .before .before .before .before .before .before .before .before .before .before .before .before .before .before .before .pre .0, f0, f1, f2, f3, f4), omega (arith, d .table, d .short, d .count, d .place, d .size, d .end, w .allowed, c .before .before .before .before .before .before .before .before .before .before .before .before .before .before .before .before .before .before .before .before .before .before .before .before .before .before .before .before .pre .1 .0 .allowed, c .before .before .before .before .before .before .before .before .before .before .before .before .before .before .before .before .before .before .before .before .before .before .before .before .before .before .before .before .pre .1 .3, c .before .before .before .before .before .before .before .before .before .before .before .before .before .before .before .before .before .before .before .before .before .before .before .before .before .before .before .before .pre .0, f0, f1, f2, f3, f4), omega (arith, d .table, d .short, d .count, d .place, d .size, d .end, w .allowed, c .before .before .before .before .before .before .before .before .before .before .before .before .before .before .before .before .before .before .before .before .before .before .before .before .before .before .before .before .pre .1 .0 .allowed, c .before .before .before .before .before .before .before .before .before .before .before .before .before .before .before .before .before .before .before .before .before .before .before .before .before .before .before .before .pre .1 .3, c .before .before .before .before .before .before .before .before .before .before .before .before .before .before .before .before .before .before .before .before .before .before .before .before .before .before .before .before .pre .0, f0, f1, f2, f3, f4), omega (arith, d .table, d .short, d .count, d .place, d .size, d .end, w .allowed, c .before .before .before .before .before .before .before .before .before .before .before .before .before .before .before .before .before .before .before .before .before .before .before .before .before .before .before .before .pre .1 .0 .allowed, c .before .before .before .before .before .before .before .before .before .before .before .before .before .before .before .before .before .before .before .before .before .before .before .before .before .before .before .before .pre .1 .3, c .before .before .before .before .before .before .before .before .before .before .before .before .before .before .before .before .before .before .before .before .before .before .before .before .before .before .before .before .pre .0, f0, f1, f2, f3, f4), omega (arith, d .table, d .short, d .count, d .place, d .size, d .end, w .allowed, c .before .before .before .before .before .before .before .before .before .before .before .before .before .before .before .before .before .before .before .before .before .before .before .before .before .before .before .before .pre .1 .0 .allowed, c .before .before .before .before .before .before .before .before .before .before .before .before .before .before .before .before .before .before .before .before .before .before .before .before .before .before .before .before .pre .1 .3, c .before .before .before .before .before .before .before .before .before .before .before .before .before .before .before .before .before .before .before .before .before .before .before .before .before .before .before .before .pre .0, f0, f1, f2, f3, f4))
 
--- src/delete.rt:323:5
 put-part-anew-sub-result : (t : ℕ) → put-part-anew-lts.Need-sub-result (put-part-anew-claims t) (put-part-anew-at t) put-part-anew.Post
 put-part-anew-sub-result t c = let d = here (c .before .before .before .before .before .before .before .before .before .before .before .before .before .before .before .before .before .before .before .before .before .before .before .before .before .before .before .before .before .before .before .before .args .s .now) (c .before .before .before .before .before .before .before .before .before .before .before .before .before .before .before .before .before .before .before .before .before .before .before .before .before .before .before .before .before .before .before .before .args .path .now) (c .before .before .before .before .before .before .before .before .before .before .before .before .before .before .before .before .before .before .before .before .before .before .before .before .before .before .before .before .before .before .before .before .args .total) (c .before .before .before .before .before .before .before .before .before .before .before .before .before .before .before .before .before .before .before .before .before .before .before .before .before .before .before .before .before .before .before .before .args .part) (c .before .before .before .before .before .before .before .before .before .before .before .before .before .before .before .before .before .before .before .before .before .before .before .before .before .before .before .before .before .before .before .before .args .way) (c .before .before .before .before .before .before .before .before .before .before .before .before .before .before .before .before .before .before .before .before .before .before .before .before .before .before .before .before .before .before .before .before .args .allowance) (octets-of (c .before .before .before .before .before .before .before .before .before .before .before .before .before .before .before .before .before .before .before .before .before .before .before .before .before .before .before .before .before .before .before .before .args .s .now) (λ i. omega (arith, c .before .before .before .before .before .before .before .before .before .before .before .before .before .before .before .before .before .before .before .before .before .before .before .before .before .before .before .before .before .before .before .shared-slice-known .given i))) (c .before .before .before .before .before .before .before .before .before .before .before .before .before .before .before .before .before .before .before .before .before .before .before .before .before .before .before .before .before .before .before .before .pre .1 .0) (c .before .before .before .before .before .before .before .before .before .before .before .before .before .before .before .before .before .before .before .before .before .before .before .before .before .before .before .before .before .before .before .before .pre .1 .1) (c .before .before .before .before .before .before .before .before .before .before .before .before .before .before .before .before .before .before .before .before .before .before .before .before .before .before .before .before .before .before .before .before .pre .1 .2) in let w = down (c .before .before .before .before .before .before .before .before .before .before .before .before .before .before .before .before .before .before .before .before .before .before .before .before .before .before .before .before .before .before .before .before .args .s .now) (c .before .before .before .before .before .before .before .before .before .before .before .before .before .before .before .before .before .before .before .before .before .before .before .before .before .before .before .before .before .before .before .before .args .path .now) (c .before .before .before .before .before .before .before .before .before .before .before .before .before .before .before .before .before .before .before .before .before .before .before .before .before .before .before .before .before .before .before .before .args .total) (c .before .before .before .before .before .before .before .before .before .before .before .before .before .before .before .before .before .before .before .before .before .before .before .before .before .before .before .before .before .before .before .before .args .part) (c .before .before .before .before .before .before .before .before .before .before .before .before .before .before .before .before .before .before .before .before .before .before .before .before .before .before .before .before .before .before .before .before .args .way) (c .before .before .before .before .before .before .before .before .before .before .before .before .before .before .before .before .before .before .before .before .before .before .before .before .before .before .before .before .before .before .before .before .args .allowance) (octets-of (c .before .before .before .before .before .before .before .before .before .before .before .before .before .before .before .before .before .before .before .before .before .before .before .before .before .before .before .before .before .before .before .before .args .s .now) (λ i. omega (arith, c .before .before .before .before .before .before .before .before .before .before .before .before .before .before .before .before .before .before .before .before .before .before .before .before .before .before .before .before .before .before .before .shared-slice-known .given i))) (c .before .before .before .before .before .before .before .before .before .before .before .before .before .before .before .before .before .before .before .before .before .before .before .before .before .before .before .before .before .before .before .before .pre .1 .0) (c .before .before .before .before .before .before .before .before .before .before .before .before .before .before .before .before .before .before .before .before .before .before .before .before .before .before .before .before .before .before .before .before .pre .1 .1) (c .before .before .before .before .before .before .before .before .before .before .before .before .before .before .before .before .before .before .before .before .before .before .before .before .before .before .before .before .before .before .before .before .pre .1 .2) in let f0 = child-short (c .before .before .before .before .before .before .before .before .before .before .before .before .before .before .before .before .before .before .before .before .before .before .before .before .before .before .before .before .before .before .before .before .args .s .now) (c .before .before .before .before .before .before .before .before .before .before .before .before .before .before .before .before .before .before .before .before .before .before .before .before .before .before .before .before .before .before .before .before .args .path .now) (c .before .before .before .before .before .before .before .before .before .before .before .before .before .before .before .before .before .before .before .before .before .before .before .before .before .before .before .before .before .before .before .before .args .total) (c .before .before .before .before .before .before .before .before .before .before .before .before .before .before .before .before .before .before .before .before .before .before .before .before .before .before .before .before .before .before .before .before .args .part) (c .before .before .before .before .before .before .before .before .before .before .before .before .before .before .before .before .before .before .before .before .before .before .before .before .before .before .before .before .before .before .before .before .args .way) (c .before .before .before .before .before .before .before .before .before .before .before .before .before .before .before .before .before .before .before .before .before .before .before .before .before .before .before .before .before .before .before .before .args .allowance) (octets-of (c .before .before .before .before .before .before .before .before .before .before .before .before .before .before .before .before .before .before .before .before .before .before .before .before .before .before .before .before .before .before .before .before .args .s .now) (λ i. omega (arith, c .before .before .before .before .before .before .before .before .before .before .before .before .before .before .before .before .before .before .before .before .before .before .before .before .before .before .before .before .before .before .before .shared-slice-known .given i))) (c .before .before .before .before .before .before .before .before .before .before .before .before .before .before .before .before .before .before .before .before .before .before .before .before .before .before .before .before .before .before .before .before .pre .1 .0) (c .before .before .before .before .before .before .before .before .before .before .before .before .before .before .before .before .before .before .before .before .before .before .before .before .before .before .before .before .before .before .before .before .pre .1 .1) (c .before .before .before .before .before .before .before .before .before .before .before .before .before .before .before .before .before .before .before .before .before .before .before .before .before .before .before .before .before .before .before .before .pre .1 .2) _ _ (c .before .before .before .before .before .before .before .before .before .before .before .before .before .before .before .before .before .before .before .before .before .before .before .before .before .before .before .before .part-behind .ensures) (c .before .before .before .before .before .before .before .before .before .before .before .before .before .before .before .before .way-behind .ensures) _ _ _ _ (c .before .before .before .before .before .before .before .before .before .before .before .before .before .before .put-deleted .ensures) in let f1 = ap (λ (x : PartAt). x .index) (c .before .before .before .before .before .before .before .before .before .before .before .before .before .before .before .before .before .before .before .before .before .before .before .before .before .before .before .before .part-behind .ensures) in let f2 = ap (λ (x : PartAt). x .place) (c .before .before .before .before .before .before .before .before .before .before .before .before .before .before .before .before .before .before .before .before .before .before .before .before .before .before .before .before .part-behind .ensures) in let f3 = ap (λ (x : Cursor). x .jentry) (c .before .before .before .before .before .before .before .before .before .before .before .before .before .before .before .before .before .before .before .before .put-run .ensures .0) in let f4 = ap (λ (x : Cursor). x .place) (c .before .before .before .before .before .before .before .before .before .before .before .before .before .before .before .before .before .before .before .before .put-run .ensures .0) in let f5 = ap (λ (x : Cursor). x .jentry) (c .before .before .before .put-run2 .ensures .0) in let f6 = ap (λ (x : Cursor). x .place) (c .before .before .before .put-run2 .ensures .0) in omega (arith, d .table, d .short, d .count, d .place, d .size, d .end, w .allowed, c .before .before .before .before .before .before .before .before .before .before .before .before .before .before .before .before .before .before .before .before .before .before .before .before .before .before .before .before .before .before .before .before .pre .1 .0 .allowed, c .before .before .before .before .before .before .before .before .before .before .before .before .before .before .before .before .before .before .before .before .before .before .before .before .before .before .before .before .before .before .before .before .pre .1 .3, c .before .before .before .before .before .before .before .before .before .before .before .before .before .before .before .before .before .before .before .before .before .before .before .before .before .before .before .before .before .before .before .before .pre .0, f0, f1, f2, f3, f4, f5, f6)
 
--- src/delete.rt:287:1
 put-part-anew-same-length : (t : ℕ) → put-part-anew-lts.Need-same-length (put-part-anew-claims t) (put-part-anew-at t) put-part-anew.Post
 put-part-anew-same-length t c = left-length (part-anew-stored (c .before .before .before .before .before .before .before .before .before .before .before .before .before .before .before .before .before .before .before .before .before .before .before .before .before .before .before .before .before .before .before .before .args .s .now) (c .before .before .before .before .before .before .before .before .before .before .before .before .before .before .before .before .before .before .before .before .before .before .before .before .before .before .before .before .before .before .before .before .args .path .now) (c .before .before .before .before .before .before .before .before .before .before .before .before .before .before .before .before .before .before .before .before .before .before .before .before .before .before .before .before .before .before .before .before .args .total) (c .before .before .before .before .before .before .before .before .before .before .before .before .before .before .before .before .before .before .before .before .before .before .before .before .before .before .before .before .before .before .before .before .args .part) (c .before .before .before .before .before .before .before .before .before .before .before .before .before .before .before .before .before .before .before .before .before .before .before .before .before .before .before .before .before .before .before .before .args .way) (c .before .before .before .before .before .before .before .before .before .before .before .before .before .before .before .before .before .before .before .before .before .before .before .before .before .before .before .before .before .before .before .before .args .allowance) (octets-of (c .before .before .before .before .before .before .before .before .before .before .before .before .before .before .before .before .before .before .before .before .before .before .before .before .before .before .before .before .before .before .before .before .args .s .now) (λ i. omega (arith, c .before .before .before .before .before .before .before .before .before .before .before .before .before .before .before .before .before .before .before .before .before .before .before .before .before .before .before .before .before .before .before .shared-slice-known .given i))) (c .before .before .before .before .before .before .before .before .before .before .before .before .before .before .before .before .before .before .before .before .before .before .before .before .before .before .before .before .before .before .before .before .pre .1 .0) (c .before .before .before .before .before .before .before .before .before .before .before .before .before .before .before .before .before .before .before .before .before .before .before .before .before .before .before .before .before .before .before .before .pre .1 .1) (c .before .before .before .before .before .before .before .before .before .before .before .before .before .before .before .before .before .before .before .before .before .before .before .before .before .before .before .before .before .before .before .before .pre .1 .2) _ _ (c .before .before .before .before .before .before .before .before .before .before .before .before .before .before .before .before .before .before .before .before .before .before .before .before .before .before .before .before .part-behind .ensures) (c .before .before .before .before .before .before .before .before .before .before .before .before .before .before .before .before .way-behind .ensures) _ _ _ _ _ _ _ _ _ _ _ _ _ _ (c .before .before .before .before .before .before .before .before .before .before .before .before .before .before .before .before .before .before .before .before .before .before .before .before .before .read-u32 .ensures) (c .before .before .before .before .before .before .before .before .before .before .before .before .before .before .before .before .before .before .before .before .before .before .before .before .put-u32 .ensures) refl refl (c .before .before .before .before .before .before .before .before .before .before .before .before .before .before .before .before .before .before .before .before .put-run .ensures) (c .before .before .before .before .before .before .before .before .before .before .before .before .before .before .put-deleted .ensures) (c .before .before .before .before .before .before .before .before .before .before .encoded .ensures) (c .before .before .before .before .before .before .before .before .before .put-u322 .ensures) refl refl (c .before .before .before .put-run2 .ensures))
 
--- src/delete.rt:287:1
 put-part-anew-returns : (t : ℕ) → put-part-anew-lts.Need-returns (put-part-anew-claims t) (put-part-anew-at t) put-part-anew.Post
 put-part-anew-returns t c = part-anew-stored (c .before .before .before .before .before .before .before .before .before .before .before .before .before .before .before .before .before .before .before .before .before .before .before .before .before .before .before .before .before .before .before .before .args .s .now) (c .before .before .before .before .before .before .before .before .before .before .before .before .before .before .before .before .before .before .before .before .before .before .before .before .before .before .before .before .before .before .before .before .args .path .now) (c .before .before .before .before .before .before .before .before .before .before .before .before .before .before .before .before .before .before .before .before .before .before .before .before .before .before .before .before .before .before .before .before .args .total) (c .before .before .before .before .before .before .before .before .before .before .before .before .before .before .before .before .before .before .before .before .before .before .before .before .before .before .before .before .before .before .before .before .args .part) (c .before .before .before .before .before .before .before .before .before .before .before .before .before .before .before .before .before .before .before .before .before .before .before .before .before .before .before .before .before .before .before .before .args .way) (c .before .before .before .before .before .before .before .before .before .before .before .before .before .before .before .before .before .before .before .before .before .before .before .before .before .before .before .before .before .before .before .before .args .allowance) (octets-of (c .before .before .before .before .before .before .before .before .before .before .before .before .before .before .before .before .before .before .before .before .before .before .before .before .before .before .before .before .before .before .before .before .args .s .now) (λ i. omega (arith, c .before .before .before .before .before .before .before .before .before .before .before .before .before .before .before .before .before .before .before .before .before .before .before .before .before .before .before .before .before .before .before .shared-slice-known .given i))) (c .before .before .before .before .before .before .before .before .before .before .before .before .before .before .before .before .before .before .before .before .before .before .before .before .before .before .before .before .before .before .before .before .pre .1 .0) (c .before .before .before .before .before .before .before .before .before .before .before .before .before .before .before .before .before .before .before .before .before .before .before .before .before .before .before .before .before .before .before .before .pre .1 .1) (c .before .before .before .before .before .before .before .before .before .before .before .before .before .before .before .before .before .before .before .before .before .before .before .before .before .before .before .before .before .before .before .before .pre .1 .2) _ _ (c .before .before .before .before .before .before .before .before .before .before .before .before .before .before .before .before .before .before .before .before .before .before .before .before .before .before .before .before .part-behind .ensures) (c .before .before .before .before .before .before .before .before .before .before .before .before .before .before .before .before .way-behind .ensures) _ _ _ _ _ _ _ _ _ _ _ _ _ _ (c .before .before .before .before .before .before .before .before .before .before .before .before .before .before .before .before .before .before .before .before .before .before .before .before .before .read-u32 .ensures) (c .before .before .before .before .before .before .before .before .before .before .before .before .before .before .before .before .before .before .before .before .before .before .before .before .put-u32 .ensures) refl refl (c .before .before .before .before .before .before .before .before .before .before .before .before .before .before .before .before .before .before .before .before .put-run .ensures) (c .before .before .before .before .before .before .before .before .before .before .before .before .before .before .put-deleted .ensures) (c .before .before .before .before .before .before .before .before .before .before .encoded .ensures) (c .before .before .before .before .before .before .before .before .before .put-u322 .ensures) refl refl (c .before .before .before .put-run2 .ensures)
 
@@ -430,19 +295,15 @@ put-sorted-anew-Inv-loop s n path out₀ at allowance from name next to₀ last�
 abbrev put-sorted-anew-μ-loop : put-sorted-anew-lts.MeasureT-loop
 put-sorted-anew-μ-loop s n path out₀ at allowance from name next to₀ last₀ i₀ out to last i = n - i
 
--- src/delete.rt:370:9
 put-sorted-anew-members-of-requires : (t : ℕ) → put-sorted-anew-lts.Need-members-of-requires (put-sorted-anew-claims t) (put-sorted-anew-at t) put-sorted-anew.Post put-sorted-anew-Inv-loop put-sorted-anew-μ-loop
 put-sorted-anew-members-of-requires t c κs = let v = at-value (c .before .before .before .args .s .now) (c .before .before .before .args .path .now) (c .before .before .before .args .n) (c .before .before .before .args .val) (c .before .before .before .args .way) (c .before .before .before .args .allowance) (octets-of (c .before .before .before .args .s .now) (λ i. omega (arith, c .before .before .shared-slice-known .given i))) (c .before .before .before .pre .1 .0) (c .before .before .before .pre .1 .1) (c .before .before .before .pre .1 .2) in omega (arith, v .table, v .short)
 
--- src/delete.rt:371:30
 put-sorted-anew-sub-name-of : (t : ℕ) → put-sorted-anew-lts.Need-sub-name-of (put-sorted-anew-claims t) (put-sorted-anew-at t) put-sorted-anew.Post put-sorted-anew-Inv-loop put-sorted-anew-μ-loop
 put-sorted-anew-sub-name-of t c = let v = at-value (c .before .before .before .before .before .args .s .now) (c .before .before .before .before .before .args .path .now) (c .before .before .before .before .before .args .n) (c .before .before .before .before .before .args .val) (c .before .before .before .before .before .args .way) (c .before .before .before .before .before .args .allowance) (octets-of (c .before .before .before .before .before .args .s .now) (λ i. omega (arith, c .before .before .before .before .shared-slice-known .given i))) (c .before .before .before .before .before .pre .1 .0) (c .before .before .before .before .before .pre .1 .1) (c .before .before .before .before .before .pre .1 .2) in omega (arith, v .index)
 
--- src/delete.rt:371:9
 put-sorted-anew-name-of-requires : (t : ℕ) → put-sorted-anew-lts.Need-name-of-requires (put-sorted-anew-claims t) (put-sorted-anew-at t) put-sorted-anew.Post put-sorted-anew-Inv-loop put-sorted-anew-μ-loop
 put-sorted-anew-name-of-requires t c κs = let v = at-value (c .before .before .before .before .before .args .s .now) (c .before .before .before .before .before .args .path .now) (c .before .before .before .before .before .args .n) (c .before .before .before .before .before .args .val) (c .before .before .before .before .before .args .way) (c .before .before .before .before .before .args .allowance) (octets-of (c .before .before .before .before .before .args .s .now) (λ i. omega (arith, c .before .before .before .before .shared-slice-known .given i))) (c .before .before .before .before .before .pre .1 .0) (c .before .before .before .before .before .pre .1 .1) (c .before .before .before .before .before .pre .1 .2) in (omega (arith, v .table, v .short), omega (arith, v .index, v .below))
 
--- src/delete.rt:372:9
 put-sorted-anew-way-behind-requires : (t : ℕ) → put-sorted-anew-lts.Need-way-behind-requires (put-sorted-anew-claims t) (put-sorted-anew-at t) put-sorted-anew.Post put-sorted-anew-Inv-loop put-sorted-anew-μ-loop
 put-sorted-anew-way-behind-requires t c κs = (omega (arith, c .before .before .before .before .before .before .pre .1 .0 .more, c .before .before .before .before .before .before .pre .1 .0 .few), omega (arith, c .before .before .before .before .before .before .pre .1 .0 .near, c .before .before .before .before .before .before .pre .1 .0 .more, c .before .before .before .before .before .before .pre .1 .0 .few))
 
@@ -472,51 +333,27 @@ put-sorted-anew-measure-members-requires :
     ) (put-sorted-anew-at t) put-sorted-anew.Post put-sorted-anew-Inv-loop put-sorted-anew-μ-loop
 put-sorted-anew-measure-members-requires t c κs = let v = at-value (c .before .before .before .before .before .before .before .args .s .now) (c .before .before .before .before .before .before .before .args .path .now) (c .before .before .before .before .before .before .before .args .n) (c .before .before .before .before .before .before .before .args .val) (c .before .before .before .before .before .before .before .args .way) (c .before .before .before .before .before .before .before .args .allowance) (octets-of (c .before .before .before .before .before .before .before .args .s .now) (λ i. omega (arith, c .before .before .before .before .before .before .shared-slice-known .given i))) (c .before .before .before .before .before .before .before .pre .1 .0) (c .before .before .before .before .before .before .before .pre .1 .1) (c .before .before .before .before .before .before .before .pre .1 .2) in let f0 = ap (λ (x : Places). x .«key_jentry») (c .before .before .before .members-of .ensures) in let f1 = ap (λ (x : Places). x .«val_jentry») (c .before .before .before .members-of .ensures) in let f2 = ap (λ (x : Places). x .key) (c .before .before .before .members-of .ensures) in let f3 = ap (λ (x : Places). x .val) (c .before .before .before .members-of .ensures) in (omega (arith, v .table, v .short), omega (arith, f0), omega (arith, f1, v .table, v .short), omega (arith, f2, v .table, v .short), omega (arith, f3, v .values, v .short))
 
--- src/delete.rt:374:9
 put-sorted-anew-places-for-requires : (t : ℕ) → put-sorted-anew-lts.Need-places-for-requires (put-sorted-anew-claims t) (put-sorted-anew-at t) put-sorted-anew.Post put-sorted-anew-Inv-loop put-sorted-anew-μ-loop
 put-sorted-anew-places-for-requires t c κs = let g = anew-room (c .before .before .before .before .before .before .before .before .args .s .now) (c .before .before .before .before .before .before .before .before .args .path .now) (c .before .before .before .before .before .before .before .before .args .n) (c .before .before .before .before .before .before .before .before .args .val) (c .before .before .before .before .before .before .before .before .args .way) (c .before .before .before .before .before .before .before .before .args .allowance) (octets-of (c .before .before .before .before .before .before .before .before .args .s .now) (λ i. omega (arith, c .before .before .before .before .before .before .before .shared-slice-known .given i))) (c .before .before .before .before .before .before .before .before .pre .1 .0) (c .before .before .before .before .before .before .before .before .pre .1 .1) (c .before .before .before .before .before .before .before .before .pre .1 .2) _ _ _ _ (c .before .before .before .before .members-of .ensures) (c .measure-members .ensures) (c .before .way-behind .ensures) (c .before .before .name-of .ensures) in (omega (arith, g), omega (arith, g), omega (arith, c .before .before .before .before .before .before .before .before .pre .1 .3, c .before .before .before .before .before .before .before .before .pre .1 .0 .allowed))
 
--- src/delete.rt:375:45
 put-sorted-anew-cast-put-u32 : (t : ℕ) → put-sorted-anew-lts.Need-cast-put-u32 (put-sorted-anew-claims t) (put-sorted-anew-at t) put-sorted-anew.Post put-sorted-anew-Inv-loop put-sorted-anew-μ-loop
 put-sorted-anew-cast-put-u32 t c = let g = anew-room (c .before .before .before .before .before .before .before .before .before .before .before .args .s .now) (c .before .before .before .before .before .before .before .before .before .before .before .args .path .now) (c .before .before .before .before .before .before .before .before .before .before .before .args .n) (c .before .before .before .before .before .before .before .before .before .before .before .args .val) (c .before .before .before .before .before .before .before .before .before .before .before .args .way) (c .before .before .before .before .before .before .before .before .before .before .before .args .allowance) (octets-of (c .before .before .before .before .before .before .before .before .before .before .before .args .s .now) (λ i. omega (arith, c .before .before .before .before .before .before .before .before .before .before .shared-slice-known .given i))) (c .before .before .before .before .before .before .before .before .before .before .before .pre .1 .0) (c .before .before .before .before .before .before .before .before .before .before .before .pre .1 .1) (c .before .before .before .before .before .before .before .before .before .before .before .pre .1 .2) _ _ _ _ (c .before .before .before .before .before .before .before .members-of .ensures) (c .before .before .before .measure-members .ensures) (c .before .before .before .before .way-behind .ensures) (c .before .before .before .before .before .name-of .ensures) in omega (arith, g)
 
--- src/delete.rt:375:5
-put-sorted-anew-put-u32-requires : (t : ℕ) → put-sorted-anew-lts.Need-put-u32-requires (put-sorted-anew-claims t) (put-sorted-anew-at t) put-sorted-anew.Post put-sorted-anew-Inv-loop put-sorted-anew-μ-loop
-put-sorted-anew-put-u32-requires t c κs = search needs
-
--- src/delete.rt:376:9
-put-sorted-anew-slice-requires : (t : ℕ) → put-sorted-anew-lts.Need-slice-requires (put-sorted-anew-claims t) (put-sorted-anew-at t) put-sorted-anew.Post put-sorted-anew-Inv-loop put-sorted-anew-μ-loop
-put-sorted-anew-slice-requires t c κs = search needs
-
--- src/delete.rt:378:5
 put-sorted-anew-loop-holds : (t : ℕ) → put-sorted-anew-lts.Need-loop-holds (put-sorted-anew-claims t) (put-sorted-anew-at t) put-sorted-anew.Post put-sorted-anew-Inv-loop put-sorted-anew-μ-loop
 put-sorted-anew-loop-holds t c = begins _ _ _ _ _ _ _
 
--- src/delete.rt:379:33
 put-sorted-anew-next-member-requires : (t : ℕ) → put-sorted-anew-lts.Need-next-member-requires (put-sorted-anew-claims t) (put-sorted-anew-at t) put-sorted-anew.Post put-sorted-anew-Inv-loop put-sorted-anew-μ-loop
 put-sorted-anew-next-member-requires t c κs = let v = at-value (c .before .before .before .before .before .before .before .before .before .before .before .before .before .before .before .before .before .args .s .now) (c .before .before .before .before .before .before .before .before .before .before .before .before .before .before .before .before .before .args .path .now) (c .before .before .before .before .before .before .before .before .before .before .before .before .before .before .before .before .before .args .n) (c .before .before .before .before .before .before .before .before .before .before .before .before .before .before .before .before .before .args .val) (c .before .before .before .before .before .before .before .before .before .before .before .before .before .before .before .before .before .args .way) (c .before .before .before .before .before .before .before .before .before .before .before .before .before .before .before .before .before .args .allowance) (octets-of (c .before .before .before .before .before .before .before .before .before .before .before .before .before .before .before .before .before .args .s .now) (λ i. omega (arith, c .before .before .before .before .before .before .before .before .before .before .before .before .before .before .before .before .shared-slice-known .given i))) (c .before .before .before .before .before .before .before .before .before .before .before .before .before .before .before .before .before .pre .1 .0) (c .before .before .before .before .before .before .before .before .before .before .before .before .before .before .before .before .before .pre .1 .1) (c .before .before .before .before .before .before .before .before .before .before .before .before .before .before .before .before .before .pre .1 .2) in let f0 = ap (λ (x : Places). x .«key_jentry») (c .before .before .before .before .before .before .before .before .before .before .before .before .before .members-of .ensures) in let f1 = ap (λ (x : Places). x .«val_jentry») (c .before .before .before .before .before .before .before .before .before .before .before .before .before .members-of .ensures) in let f2 = ap (λ (x : Places). x .key) (c .before .before .before .before .before .before .before .before .before .before .before .before .before .members-of .ensures) in let f3 = ap (λ (x : Places). x .val) (c .before .before .before .before .before .before .before .before .before .before .before .before .before .members-of .ensures) in (omega (arith, v .table, v .short), omega (arith, f0), omega (arith, f1, v .table, v .short), omega (arith, f2, v .table, v .short), omega (arith, f3, v .values, v .short))
 
--- src/delete.rt:379:23
-put-sorted-anew-enum-known-member : (t : ℕ) → put-sorted-anew-lts.Need-enum-known-member (put-sorted-anew-claims t) (put-sorted-anew-at t) put-sorted-anew.Post put-sorted-anew-Inv-loop put-sorted-anew-μ-loop
-put-sorted-anew-enum-known-member t c = search needs
-
--- src/delete.rt:380:20
-put-sorted-anew-enum-told : (t : ℕ) → put-sorted-anew-lts.Need-enum-told (put-sorted-anew-claims t) (put-sorted-anew-at t) put-sorted-anew.Post put-sorted-anew-Inv-loop put-sorted-anew-μ-loop
-put-sorted-anew-enum-told t c = search needs
-
--- src/delete.rt:380:20
 put-sorted-anew-sub-result : (t : ℕ) → put-sorted-anew-lts.Need-sub-result (put-sorted-anew-claims t) (put-sorted-anew-at t) put-sorted-anew.Post put-sorted-anew-Inv-loop put-sorted-anew-μ-loop
 put-sorted-anew-sub-result t c = let t0 = ap (λ (x : Places). x .«key_jentry») (c .before .before .before .before .before .before .before .before .before .before .before .before .places-for .ensures) in let t1 = ap (λ (x : Places). x .«val_jentry») (c .before .before .before .before .before .before .before .before .before .before .before .before .places-for .ensures) in let t2 = ap (λ (x : Places). x .key) (c .before .before .before .before .before .before .before .before .before .before .before .before .places-for .ensures) in let t3 = ap (λ (x : Places). x .val) (c .before .before .before .before .before .before .before .before .before .before .before .before .places-for .ensures) in omega (arith, c .before .before .before .before .before .loop .inv .val-on, t3)
 
--- src/delete.rt:380:13
 put-sorted-anew-same-length : (t : ℕ) → put-sorted-anew-lts.Need-same-length (put-sorted-anew-claims t) (put-sorted-anew-at t) put-sorted-anew.Post put-sorted-anew-Inv-loop put-sorted-anew-μ-loop
 put-sorted-anew-same-length t c = left-length (anew-left (c .before .before .before .before .before .before .before .before .before .before .before .before .before .before .before .before .before .before .before .before .before .args .s .now) (c .before .before .before .before .before .before .before .before .before .before .before .before .before .before .before .before .before .before .before .before .before .args .path .now) (c .before .before .before .before .before .before .before .before .before .before .before .before .before .before .before .before .before .before .before .before .before .args .n) (c .before .before .before .before .before .before .before .before .before .before .before .before .before .before .before .before .before .before .before .before .before .args .val) (c .before .before .before .before .before .before .before .before .before .before .before .before .before .before .before .before .before .before .before .before .before .args .way) (c .before .before .before .before .before .before .before .before .before .before .before .before .before .before .before .before .before .before .before .before .before .args .allowance) (octets-of (c .before .before .before .before .before .before .before .before .before .before .before .before .before .before .before .before .before .before .before .before .before .args .s .now) (λ i. omega (arith, c .before .before .before .before .before .before .before .before .before .before .before .before .before .before .before .before .before .before .before .before .shared-slice-known .given i))) (c .before .before .before .before .before .before .before .before .before .before .before .before .before .before .before .before .before .before .before .before .before .pre .1 .0) (c .before .before .before .before .before .before .before .before .before .before .before .before .before .before .before .before .before .before .before .before .before .pre .1 .1) (c .before .before .before .before .before .before .before .before .before .before .before .before .before .before .before .before .before .before .before .before .before .pre .1 .2) _ _ _ _ (c .before .before .before .before .before .before .before .before .before .before .before .before .before .before .before .before .before .members-of .ensures) (c .before .before .before .before .before .before .before .before .before .before .before .before .before .measure-members .ensures) (c .before .before .before .before .before .before .before .before .before .before .before .before .before .before .way-behind .ensures) (c .before .before .before .before .before .before .before .before .before .before .before .before .before .before .before .name-of .ensures) _ _ _ _ _ _ _ (c .before .before .before .before .before .before .before .before .before .before .before .before .places-for .ensures) refl (c .before .before .before .before .before .before .before .before .before .put-u32 .ensures) (ends-early _ _ _ _ _ _ _ _ _ _ (c .before .before .before .before .before .loop .inv) _ (c .before .before .before .next-member .ensures) (c .before .enum-told .given .1)) (ends-val _ _ _ _ _ _ _ _ _ _ (c .before .before .before .before .before .loop .inv) (sought-end (name-in (c .before .before .before .before .before .before .before .before .before .before .before .before .before .before .before .before .before .before .before .before .before .args .s .now)) _ _ _ (c .before .before .before .before .before .loop .inv .sought) _ (c .before .before .before .next-member .ensures) (c .before .enum-told .given .1))))
 
--- src/delete.rt:380:13
 put-sorted-anew-returns : (t : ℕ) → put-sorted-anew-lts.Need-returns (put-sorted-anew-claims t) (put-sorted-anew-at t) put-sorted-anew.Post put-sorted-anew-Inv-loop put-sorted-anew-μ-loop
 put-sorted-anew-returns t c = anew-left (c .before .before .before .before .before .before .before .before .before .before .before .before .before .before .before .before .before .before .before .before .before .args .s .now) (c .before .before .before .before .before .before .before .before .before .before .before .before .before .before .before .before .before .before .before .before .before .args .path .now) (c .before .before .before .before .before .before .before .before .before .before .before .before .before .before .before .before .before .before .before .before .before .args .n) (c .before .before .before .before .before .before .before .before .before .before .before .before .before .before .before .before .before .before .before .before .before .args .val) (c .before .before .before .before .before .before .before .before .before .before .before .before .before .before .before .before .before .before .before .before .before .args .way) (c .before .before .before .before .before .before .before .before .before .before .before .before .before .before .before .before .before .before .before .before .before .args .allowance) (octets-of (c .before .before .before .before .before .before .before .before .before .before .before .before .before .before .before .before .before .before .before .before .before .args .s .now) (λ i. omega (arith, c .before .before .before .before .before .before .before .before .before .before .before .before .before .before .before .before .before .before .before .before .shared-slice-known .given i))) (c .before .before .before .before .before .before .before .before .before .before .before .before .before .before .before .before .before .before .before .before .before .pre .1 .0) (c .before .before .before .before .before .before .before .before .before .before .before .before .before .before .before .before .before .before .before .before .before .pre .1 .1) (c .before .before .before .before .before .before .before .before .before .before .before .before .before .before .before .before .before .before .before .before .before .pre .1 .2) _ _ _ _ (c .before .before .before .before .before .before .before .before .before .before .before .before .before .before .before .before .before .members-of .ensures) (c .before .before .before .before .before .before .before .before .before .before .before .before .before .measure-members .ensures) (c .before .before .before .before .before .before .before .before .before .before .before .before .before .before .way-behind .ensures) (c .before .before .before .before .before .before .before .before .before .before .before .before .before .before .before .name-of .ensures) _ _ _ _ _ _ _ (c .before .before .before .before .before .before .before .before .before .before .before .before .places-for .ensures) refl (c .before .before .before .before .before .before .before .before .before .put-u32 .ensures) (ends-early _ _ _ _ _ _ _ _ _ _ (c .before .before .before .before .before .loop .inv) _ (c .before .before .before .next-member .ensures) (c .before .enum-told .given .1)) (ends-val _ _ _ _ _ _ _ _ _ _ (c .before .before .before .before .before .loop .inv) (sought-end (name-in (c .before .before .before .before .before .before .before .before .before .before .before .before .before .before .before .before .before .before .before .before .before .args .s .now)) _ _ _ (c .before .before .before .before .before .loop .inv .sought) _ (c .before .before .before .next-member .ensures) (c .before .enum-told .given .1)))
 
--- src/delete.rt:382:68
 put-sorted-anew-sub-put-member-anew : (t : ℕ) → put-sorted-anew-lts.Need-sub-put-member-anew (put-sorted-anew-claims t) (put-sorted-anew-at t) put-sorted-anew.Post put-sorted-anew-Inv-loop put-sorted-anew-μ-loop
 put-sorted-anew-sub-put-member-anew t c = let a = allows (c .before .before .before .before .before .before .before .before .before .before .before .before .before .before .before .before .before .before .before .before .before .before .args .s .now) (c .before .before .before .before .before .before .before .before .before .before .before .before .before .before .before .before .before .before .before .before .before .before .args .path .now) (c .before .before .before .before .before .before .before .before .before .before .before .before .before .before .before .before .before .before .before .before .before .before .args .n) (c .before .before .before .before .before .before .before .before .before .before .before .before .before .before .before .before .before .before .before .before .before .before .args .val) (c .before .before .before .before .before .before .before .before .before .before .before .before .before .before .before .before .before .before .before .before .before .before .args .way) (c .before .before .before .before .before .before .before .before .before .before .before .before .before .before .before .before .before .before .before .before .before .before .args .allowance) (octets-of (c .before .before .before .before .before .before .before .before .before .before .before .before .before .before .before .before .before .before .before .before .before .before .args .s .now) (λ i. omega (arith, c .before .before .before .before .before .before .before .before .before .before .before .before .before .before .before .before .before .before .before .before .before .shared-slice-known .given i))) (c .before .before .before .before .before .before .before .before .before .before .before .before .before .before .before .before .before .before .before .before .before .before .pre .1 .0) (c .before .before .before .before .before .before .before .before .before .before .before .before .before .before .before .before .before .before .before .before .before .before .pre .1 .1) (c .before .before .before .before .before .before .before .before .before .before .before .before .before .before .before .before .before .before .before .before .before .before .pre .1 .2) in omega (arith, a)
 
@@ -546,31 +383,18 @@ put-sorted-anew-put-member-anew-requires :
     ) (put-sorted-anew-at t) put-sorted-anew.Post put-sorted-anew-Inv-loop put-sorted-anew-μ-loop
 put-sorted-anew-put-member-anew-requires t c κs = let v = at-value (c .before .before .before .before .before .before .before .before .before .before .before .before .before .before .before .before .before .before .before .before .before .before .args .s .now) (c .before .before .before .before .before .before .before .before .before .before .before .before .before .before .before .before .before .before .before .before .before .before .args .path .now) (c .before .before .before .before .before .before .before .before .before .before .before .before .before .before .before .before .before .before .before .before .before .before .args .n) (c .before .before .before .before .before .before .before .before .before .before .before .before .before .before .before .before .before .before .before .before .before .before .args .val) (c .before .before .before .before .before .before .before .before .before .before .before .before .before .before .before .before .before .before .before .before .before .before .args .way) (c .before .before .before .before .before .before .before .before .before .before .before .before .before .before .before .before .before .before .before .before .before .before .args .allowance) (octets-of (c .before .before .before .before .before .before .before .before .before .before .before .before .before .before .before .before .before .before .before .before .before .before .args .s .now) (λ i. omega (arith, c .before .before .before .before .before .before .before .before .before .before .before .before .before .before .before .before .before .before .before .before .before .shared-slice-known .given i))) (c .before .before .before .before .before .before .before .before .before .before .before .before .before .before .before .before .before .before .before .before .before .before .pre .1 .0) (c .before .before .before .before .before .before .before .before .before .before .before .before .before .before .before .before .before .before .before .before .before .before .pre .1 .1) (c .before .before .before .before .before .before .before .before .before .before .before .before .before .before .before .before .before .before .before .before .before .before .pre .1 .2) in let g = anew-room (c .before .before .before .before .before .before .before .before .before .before .before .before .before .before .before .before .before .before .before .before .before .before .args .s .now) (c .before .before .before .before .before .before .before .before .before .before .before .before .before .before .before .before .before .before .before .before .before .before .args .path .now) (c .before .before .before .before .before .before .before .before .before .before .before .before .before .before .before .before .before .before .before .before .before .before .args .n) (c .before .before .before .before .before .before .before .before .before .before .before .before .before .before .before .before .before .before .before .before .before .before .args .val) (c .before .before .before .before .before .before .before .before .before .before .before .before .before .before .before .before .before .before .before .before .before .before .args .way) (c .before .before .before .before .before .before .before .before .before .before .before .before .before .before .before .before .before .before .before .before .before .before .args .allowance) (octets-of (c .before .before .before .before .before .before .before .before .before .before .before .before .before .before .before .before .before .before .before .before .before .before .args .s .now) (λ i. omega (arith, c .before .before .before .before .before .before .before .before .before .before .before .before .before .before .before .before .before .before .before .before .before .shared-slice-known .given i))) (c .before .before .before .before .before .before .before .before .before .before .before .before .before .before .before .before .before .before .before .before .before .before .pre .1 .0) (c .before .before .before .before .before .before .before .before .before .before .before .before .before .before .before .before .before .before .before .before .before .before .pre .1 .1) (c .before .before .before .before .before .before .before .before .before .before .before .before .before .before .before .before .before .before .before .before .before .before .pre .1 .2) _ _ _ _ (c .before .before .before .before .before .before .before .before .before .before .before .before .before .before .before .before .before .before .members-of .ensures) (c .before .before .before .before .before .before .before .before .before .before .before .before .before .before .measure-members .ensures) (c .before .before .before .before .before .before .before .before .before .before .before .before .before .before .before .way-behind .ensures) (c .before .before .before .before .before .before .before .before .before .before .before .before .before .before .before .before .name-of .ensures) in let t0 = ap (λ (x : Places). x .«key_jentry») (c .before .before .before .before .before .before .before .before .before .before .before .before .before .places-for .ensures) in let t1 = ap (λ (x : Places). x .«val_jentry») (c .before .before .before .before .before .before .before .before .before .before .before .before .before .places-for .ensures) in let t2 = ap (λ (x : Places). x .key) (c .before .before .before .before .before .before .before .before .before .before .before .before .before .places-for .ensures) in let t3 = ap (λ (x : Places). x .val) (c .before .before .before .before .before .before .before .before .before .before .before .before .before .places-for .ensures) in let a = allows (c .before .before .before .before .before .before .before .before .before .before .before .before .before .before .before .before .before .before .before .before .before .before .args .s .now) (c .before .before .before .before .before .before .before .before .before .before .before .before .before .before .before .before .before .before .before .before .before .before .args .path .now) (c .before .before .before .before .before .before .before .before .before .before .before .before .before .before .before .before .before .before .before .before .before .before .args .n) (c .before .before .before .before .before .before .before .before .before .before .before .before .before .before .before .before .before .before .before .before .before .before .args .val) (c .before .before .before .before .before .before .before .before .before .before .before .before .before .before .before .before .before .before .before .before .before .before .args .way) (c .before .before .before .before .before .before .before .before .before .before .before .before .before .before .before .before .before .before .before .before .before .before .args .allowance) (octets-of (c .before .before .before .before .before .before .before .before .before .before .before .before .before .before .before .before .before .before .before .before .before .before .args .s .now) (λ i. omega (arith, c .before .before .before .before .before .before .before .before .before .before .before .before .before .before .before .before .before .before .before .before .before .shared-slice-known .given i))) (c .before .before .before .before .before .before .before .before .before .before .before .before .before .before .before .before .before .before .before .before .before .before .pre .1 .0) (c .before .before .before .before .before .before .before .before .before .before .before .before .before .before .before .before .before .before .before .before .before .before .pre .1 .1) (c .before .before .before .before .before .before .before .before .before .before .before .before .before .before .before .before .before .before .before .before .before .before .pre .1 .2) in let k = anew-count (c .before .before .before .before .before .before .before .before .before .before .before .before .before .before .before .before .before .before .before .before .before .before .args .s .now) (c .before .before .before .before .before .before .before .before .before .before .before .before .before .before .before .before .before .before .before .before .before .before .args .path .now) (c .before .before .before .before .before .before .before .before .before .before .before .before .before .before .before .before .before .before .before .before .before .before .args .n) (c .before .before .before .before .before .before .before .before .before .before .before .before .before .before .before .before .before .before .before .before .before .before .args .val) (c .before .before .before .before .before .before .before .before .before .before .before .before .before .before .before .before .before .before .before .before .before .before .args .way) (c .before .before .before .before .before .before .before .before .before .before .before .before .before .before .before .before .before .before .before .before .before .before .args .allowance) (octets-of (c .before .before .before .before .before .before .before .before .before .before .before .before .before .before .before .before .before .before .before .before .before .before .args .s .now) (λ i. omega (arith, c .before .before .before .before .before .before .before .before .before .before .before .before .before .before .before .before .before .before .before .before .before .shared-slice-known .given i))) (c .before .before .before .before .before .before .before .before .before .before .before .before .before .before .before .before .before .before .before .before .before .before .pre .1 .0) (c .before .before .before .before .before .before .before .before .before .before .before .before .before .before .before .before .before .before .before .before .before .before .pre .1 .1) (c .before .before .before .before .before .before .before .before .before .before .before .before .before .before .before .before .before .before .before .before .before .before .pre .1 .2) _ _ _ _ (c .before .before .before .before .before .before .before .before .before .before .before .before .before .before .before .before .before .before .members-of .ensures) (c .before .before .before .before .before .before .before .before .before .before .before .before .before .before .measure-members .ensures) (c .before .before .before .before .before .before .before .before .before .before .before .before .before .before .before .way-behind .ensures) (c .before .before .before .before .before .before .before .before .before .before .before .before .before .before .before .before .name-of .ensures) _ _ (sought-nth (name-in (c .before .before .before .before .before .before .before .before .before .before .before .before .before .before .before .before .before .before .before .before .before .before .args .s .now)) _ _ _ (c .before .before .before .before .before .before .loop .inv .sought) _ (c .before .before .before .before .next-member .ensures) _ (c .before .before .member .given .1)) in (omega (arith, a, c .before .before .before .before .before .before .before .before .before .before .before .before .before .before .before .before .before .before .before .before .before .before .pre .0), (omega (arith, c .before .before .before .before .before .before .loop .inv .near-key-jentry, c .before .before .before .before .before .before .loop .inv .val-jentry, c .before .before .before .before .before .before .loop .inv .near-key, c .before .before .before .before .before .before .loop .inv .near-val, c .before .before .before .before .before .before .loop .inv .key-on, c .before .before .before .before .before .before .loop .inv .val-on, c .before .before .before .before .before .before .loop .inv .val-rest, t0, k, g, c .before .before .before .before .before .before .before .before .before .before .before .before .before .before .before .before .before .before .before .before .before .before .pre .1 .3, c .before .before .before .before .before .before .before .before .before .before .before .before .before .before .before .before .before .before .before .before .before .before .pre .1 .0 .allowed), omega (arith, c .before .before .before .before .before .before .loop .inv .near-key-jentry, c .before .before .before .before .before .before .loop .inv .val-jentry, c .before .before .before .before .before .before .loop .inv .near-key, c .before .before .before .before .before .before .loop .inv .near-val, c .before .before .before .before .before .before .loop .inv .key-on, c .before .before .before .before .before .before .loop .inv .val-on, c .before .before .before .before .before .before .loop .inv .val-rest, t2, k, g, c .before .before .before .before .before .before .before .before .before .before .before .before .before .before .before .before .before .before .before .before .before .before .pre .1 .3, c .before .before .before .before .before .before .before .before .before .before .before .before .before .before .before .before .before .before .before .before .before .before .pre .1 .0 .allowed), omega (arith, c .before .before .before .before .before .before .loop .inv .near-key-jentry, c .before .before .before .before .before .before .loop .inv .val-jentry, c .before .before .before .before .before .before .loop .inv .near-key, c .before .before .before .before .before .before .loop .inv .near-val, c .before .before .before .before .before .before .loop .inv .key-on, c .before .before .before .before .before .before .loop .inv .val-on, c .before .before .before .before .before .before .loop .inv .val-rest, t3, k, g, c .before .before .before .before .before .before .before .before .before .before .before .before .before .before .before .before .before .before .before .before .before .before .pre .1 .3, c .before .before .before .before .before .before .before .before .before .before .before .before .before .before .before .before .before .before .before .before .before .before .pre .1 .0 .allowed), omega (arith, c .before .before .before .before .before .before .loop .inv .near-key-jentry, c .before .before .before .before .before .before .loop .inv .val-jentry, c .before .before .before .before .before .before .loop .inv .near-key, c .before .before .before .before .before .before .loop .inv .near-val, c .before .before .before .before .before .before .loop .inv .key-on, c .before .before .before .before .before .before .loop .inv .val-on, c .before .before .before .before .before .before .loop .inv .val-rest, t1, t2, k), omega (arith, c .before .before .before .before .before .before .loop .inv .near-key-jentry, c .before .before .before .before .before .before .loop .inv .val-jentry, c .before .before .before .before .before .before .loop .inv .near-key, c .before .before .before .before .before .before .loop .inv .near-val, c .before .before .before .before .before .before .loop .inv .key-on, c .before .before .before .before .before .before .loop .inv .val-on, c .before .before .before .before .before .before .loop .inv .val-rest, t1, t3, k), λ q. (anew-cuts (c .before .before .before .before .before .before .before .before .before .before .before .before .before .before .before .before .before .before .before .before .before .before .args .s .now) (c .before .before .before .before .before .before .before .before .before .before .before .before .before .before .before .before .before .before .before .before .before .before .args .path .now) (c .before .before .before .before .before .before .before .before .before .before .before .before .before .before .before .before .before .before .before .before .before .before .args .n) (c .before .before .before .before .before .before .before .before .before .before .before .before .before .before .before .before .before .before .before .before .before .before .args .val) (c .before .before .before .before .before .before .before .before .before .before .before .before .before .before .before .before .before .before .before .before .before .before .args .way) (c .before .before .before .before .before .before .before .before .before .before .before .before .before .before .before .before .before .before .before .before .before .before .args .allowance) (octets-of (c .before .before .before .before .before .before .before .before .before .before .before .before .before .before .before .before .before .before .before .before .before .before .args .s .now) (λ i. omega (arith, c .before .before .before .before .before .before .before .before .before .before .before .before .before .before .before .before .before .before .before .before .before .shared-slice-known .given i))) (c .before .before .before .before .before .before .before .before .before .before .before .before .before .before .before .before .before .before .before .before .before .before .pre .1 .0) (c .before .before .before .before .before .before .before .before .before .before .before .before .before .before .before .before .before .before .before .before .before .before .pre .1 .1) (c .before .before .before .before .before .before .before .before .before .before .before .before .before .before .before .before .before .before .before .before .before .before .pre .1 .2) _ _ _ _ (c .before .before .before .before .before .before .before .before .before .before .before .before .before .before .before .before .before .before .members-of .ensures) (c .before .before .before .before .before .before .before .before .before .before .before .before .before .before .measure-members .ensures) (c .before .before .before .before .before .before .before .before .before .before .before .before .before .before .before .way-behind .ensures) (c .before .before .before .before .before .before .before .before .before .before .before .before .before .before .before .before .name-of .ensures) _ _ (sought-nth (name-in (c .before .before .before .before .before .before .before .before .before .before .before .before .before .before .before .before .before .before .before .before .before .before .args .s .now)) _ _ _ (c .before .before .before .before .before .before .loop .inv .sought) _ (c .before .before .before .before .next-member .ensures) _ (c .before .before .member .given .1)) q, omega (arith, c .before .before .before .before .before .before .loop .inv .near-key-jentry, c .before .before .before .before .before .before .loop .inv .val-jentry, c .before .before .before .before .before .before .loop .inv .near-key, c .before .before .before .before .before .before .loop .inv .near-val, c .before .before .before .before .before .before .loop .inv .key-on, c .before .before .before .before .before .before .loop .inv .val-on, c .before .before .before .before .before .before .loop .inv .val-rest, t3, g, a, c .before .before .before .before .before .before .before .before .before .before .before .before .before .before .before .before .before .before .before .before .before .before .pre .1 .3, c .before .before .before .before .before .before .before .before .before .before .before .before .before .before .before .before .before .before .before .before .before .before .pre .1 .0 .allowed))))
 
--- src/delete.rt:383:9
-put-sorted-anew-payload-at-requires : (t : ℕ) → put-sorted-anew-lts.Need-payload-at-requires (put-sorted-anew-claims t) (put-sorted-anew-at t) put-sorted-anew.Post put-sorted-anew-Inv-loop put-sorted-anew-μ-loop
-put-sorted-anew-payload-at-requires t c κs = search needs
-
--- src/delete.rt:384:9
 put-sorted-anew-add-i : (t : ℕ) → put-sorted-anew-lts.Need-add-i (put-sorted-anew-claims t) (put-sorted-anew-at t) put-sorted-anew.Post put-sorted-anew-Inv-loop put-sorted-anew-μ-loop
 put-sorted-anew-add-i t c = let v = at-value (c .before .before .before .before .before .before .before .before .before .before .before .before .before .before .before .before .before .before .before .before .before .before .before .before .before .before .args .s .now) (c .before .before .before .before .before .before .before .before .before .before .before .before .before .before .before .before .before .before .before .before .before .before .before .before .before .before .args .path .now) (c .before .before .before .before .before .before .before .before .before .before .before .before .before .before .before .before .before .before .before .before .before .before .before .before .before .before .args .n) (c .before .before .before .before .before .before .before .before .before .before .before .before .before .before .before .before .before .before .before .before .before .before .before .before .before .before .args .val) (c .before .before .before .before .before .before .before .before .before .before .before .before .before .before .before .before .before .before .before .before .before .before .before .before .before .before .args .way) (c .before .before .before .before .before .before .before .before .before .before .before .before .before .before .before .before .before .before .before .before .before .before .before .before .before .before .args .allowance) (octets-of (c .before .before .before .before .before .before .before .before .before .before .before .before .before .before .before .before .before .before .before .before .before .before .before .before .before .before .args .s .now) (λ i. omega (arith, c .before .before .before .before .before .before .before .before .before .before .before .before .before .before .before .before .before .before .before .before .before .before .before .before .before .shared-slice-known .given i))) (c .before .before .before .before .before .before .before .before .before .before .before .before .before .before .before .before .before .before .before .before .before .before .before .before .before .before .pre .1 .0) (c .before .before .before .before .before .before .before .before .before .before .before .before .before .before .before .before .before .before .before .before .before .before .before .before .before .before .pre .1 .1) (c .before .before .before .before .before .before .before .before .before .before .before .before .before .before .before .before .before .before .before .before .before .before .before .before .before .before .pre .1 .2) in omega (arith, c .before .before .before .before .before .before .before .before .before .loop-test .taken, v .table, v .short)
 
--- src/delete.rt:378:5
-put-sorted-anew-loop-less : (t : ℕ) → put-sorted-anew-lts.Need-loop-less (put-sorted-anew-claims t) (put-sorted-anew-at t) put-sorted-anew.Post put-sorted-anew-Inv-loop put-sorted-anew-μ-loop
-put-sorted-anew-loop-less t c = search needs
-
--- src/delete.rt:378:5
 put-sorted-anew-loop-again : (t : ℕ) → put-sorted-anew-lts.Need-loop-again (put-sorted-anew-claims t) (put-sorted-anew-at t) put-sorted-anew.Post put-sorted-anew-Inv-loop put-sorted-anew-μ-loop
 put-sorted-anew-loop-again t c = goes _ _ _ _ _ _ _ _ _ _ (c .before .before .before .before .before .before .before .before .before .before .loop .inv) _ (c .before .before .before .before .before .before .before .before .next-member .ensures) _ _ _ _ (c .before .before .before .before .before .before .member .given .1) (c .before .before .before .put-member-anew .ensures) (c .payload-at .ensures) (bytes-short (c .before .before .before .before .before .before .before .before .before .before .before .before .before .before .before .before .before .before .before .before .before .before .before .before .before .before .args .s .now) (c .before .before .before .before .before .before .member .given .0 .0 .key)) (value-anew-short (c .before .before .before .before .before .before .before .before .before .before .before .before .before .before .before .before .before .before .before .before .before .before .before .before .before .before .args .s .now) (c .before .before .before .before .before .before .before .before .before .before .before .before .before .before .before .before .before .before .before .before .before .before .before .before .before .before .args .path .now) (c .before .before .before .before .before .before .before .before .before .before .before .before .before .before .before .before .before .before .before .before .before .before .before .before .before .before .args .n) (c .before .before .before .before .before .before .before .before .before .before .before .before .before .before .before .before .before .before .before .before .before .before .before .before .before .before .args .val) (c .before .before .before .before .before .before .before .before .before .before .before .before .before .before .before .before .before .before .before .before .before .before .before .before .before .before .args .way) (c .before .before .before .before .before .before .before .before .before .before .before .before .before .before .before .before .before .before .before .before .before .before .before .before .before .before .args .allowance) (octets-of (c .before .before .before .before .before .before .before .before .before .before .before .before .before .before .before .before .before .before .before .before .before .before .before .before .before .before .args .s .now) (λ i. omega (arith, c .before .before .before .before .before .before .before .before .before .before .before .before .before .before .before .before .before .before .before .before .before .before .before .before .before .shared-slice-known .given i))) (c .before .before .before .before .before .before .before .before .before .before .before .before .before .before .before .before .before .before .before .before .before .before .before .before .before .before .pre .1 .0) (c .before .before .before .before .before .before .before .before .before .before .before .before .before .before .before .before .before .before .before .before .before .before .before .before .before .before .pre .1 .1) (c .before .before .before .before .before .before .before .before .before .before .before .before .before .before .before .before .before .before .before .before .before .before .before .before .before .before .pre .1 .2) _ _ _ _ (c .before .before .before .before .before .before .before .before .before .before .before .before .before .before .before .before .before .before .before .before .before .before .members-of .ensures) (c .before .before .before .before .before .before .before .before .before .before .before .before .before .before .before .before .before .before .measure-members .ensures) (c .before .before .before .before .before .before .before .before .before .before .before .before .before .before .before .before .before .before .before .way-behind .ensures) (c .before .before .before .before .before .before .before .before .before .before .before .before .before .before .before .before .before .before .before .before .name-of .ensures) _ _ (sought-nth (name-in (c .before .before .before .before .before .before .before .before .before .before .before .before .before .before .before .before .before .before .before .before .before .before .before .before .before .before .args .s .now)) _ _ _ (c .before .before .before .before .before .before .before .before .before .before .loop .inv .sought) _ (c .before .before .before .before .before .before .before .before .next-member .ensures) _ (c .before .before .before .before .before .before .member .given .1)))
 
--- src/delete.rt:386:5
 put-sorted-anew-sub-result-2 : (t : ℕ) → put-sorted-anew-lts.Need-sub-result-2 (put-sorted-anew-claims t) (put-sorted-anew-at t) put-sorted-anew.Post put-sorted-anew-Inv-loop put-sorted-anew-μ-loop
 put-sorted-anew-sub-result-2 t c = let t0 = ap (λ (x : Places). x .«key_jentry») (c .before .before .before .before .before .before .before .before .before .places-for .ensures) in let t1 = ap (λ (x : Places). x .«val_jentry») (c .before .before .before .before .before .before .before .before .before .places-for .ensures) in let t2 = ap (λ (x : Places). x .key) (c .before .before .before .before .before .before .before .before .before .places-for .ensures) in let t3 = ap (λ (x : Places). x .val) (c .before .before .before .before .before .before .before .before .before .places-for .ensures) in omega (arith, c .before .before .loop .inv .val-on, t3)
 
--- src/delete.rt:365:1
 put-sorted-anew-same-length-2 : (t : ℕ) → put-sorted-anew-lts.Need-same-length-2 (put-sorted-anew-claims t) (put-sorted-anew-at t) put-sorted-anew.Post put-sorted-anew-Inv-loop put-sorted-anew-μ-loop
 put-sorted-anew-same-length-2 t c = left-length (anew-left (c .before .before .before .before .before .before .before .before .before .before .before .before .before .before .before .before .before .before .args .s .now) (c .before .before .before .before .before .before .before .before .before .before .before .before .before .before .before .before .before .before .args .path .now) (c .before .before .before .before .before .before .before .before .before .before .before .before .before .before .before .before .before .before .args .n) (c .before .before .before .before .before .before .before .before .before .before .before .before .before .before .before .before .before .before .args .val) (c .before .before .before .before .before .before .before .before .before .before .before .before .before .before .before .before .before .before .args .way) (c .before .before .before .before .before .before .before .before .before .before .before .before .before .before .before .before .before .before .args .allowance) (octets-of (c .before .before .before .before .before .before .before .before .before .before .before .before .before .before .before .before .before .before .args .s .now) (λ i. omega (arith, c .before .before .before .before .before .before .before .before .before .before .before .before .before .before .before .before .before .shared-slice-known .given i))) (c .before .before .before .before .before .before .before .before .before .before .before .before .before .before .before .before .before .before .pre .1 .0) (c .before .before .before .before .before .before .before .before .before .before .before .before .before .before .before .before .before .before .pre .1 .1) (c .before .before .before .before .before .before .before .before .before .before .before .before .before .before .before .before .before .before .pre .1 .2) _ _ _ _ (c .before .before .before .before .before .before .before .before .before .before .before .before .before .before .members-of .ensures) (c .before .before .before .before .before .before .before .before .before .before .measure-members .ensures) (c .before .before .before .before .before .before .before .before .before .before .before .way-behind .ensures) (c .before .before .before .before .before .before .before .before .before .before .before .before .name-of .ensures) _ _ _ _ _ _ _ (c .before .before .before .before .before .before .before .before .before .places-for .ensures) refl (c .before .before .before .before .before .before .put-u32 .ensures) (ends-full _ _ _ _ _ _ _ _ _ _ (c .before .before .loop .inv) _ (few-searched _ _ _ _ _) (c .before .loop-test .left)) (ends-val _ _ _ _ _ _ _ _ _ _ (c .before .before .loop .inv) (sought-all (name-in (c .before .before .before .before .before .before .before .before .before .before .before .before .before .before .before .before .before .before .args .s .now)) _ _ _ (few-searched _ _ _ _ _) (c .before .loop-test .left))))
 
--- src/delete.rt:365:1
 put-sorted-anew-returns-2 : (t : ℕ) → put-sorted-anew-lts.Need-returns-2 (put-sorted-anew-claims t) (put-sorted-anew-at t) put-sorted-anew.Post put-sorted-anew-Inv-loop put-sorted-anew-μ-loop
 put-sorted-anew-returns-2 t c = anew-left (c .before .before .before .before .before .before .before .before .before .before .before .before .before .before .before .before .before .before .args .s .now) (c .before .before .before .before .before .before .before .before .before .before .before .before .before .before .before .before .before .before .args .path .now) (c .before .before .before .before .before .before .before .before .before .before .before .before .before .before .before .before .before .before .args .n) (c .before .before .before .before .before .before .before .before .before .before .before .before .before .before .before .before .before .before .args .val) (c .before .before .before .before .before .before .before .before .before .before .before .before .before .before .before .before .before .before .args .way) (c .before .before .before .before .before .before .before .before .before .before .before .before .before .before .before .before .before .before .args .allowance) (octets-of (c .before .before .before .before .before .before .before .before .before .before .before .before .before .before .before .before .before .before .args .s .now) (λ i. omega (arith, c .before .before .before .before .before .before .before .before .before .before .before .before .before .before .before .before .before .shared-slice-known .given i))) (c .before .before .before .before .before .before .before .before .before .before .before .before .before .before .before .before .before .before .pre .1 .0) (c .before .before .before .before .before .before .before .before .before .before .before .before .before .before .before .before .before .before .pre .1 .1) (c .before .before .before .before .before .before .before .before .before .before .before .before .before .before .before .before .before .before .pre .1 .2) _ _ _ _ (c .before .before .before .before .before .before .before .before .before .before .before .before .before .before .members-of .ensures) (c .before .before .before .before .before .before .before .before .before .before .measure-members .ensures) (c .before .before .before .before .before .before .before .before .before .before .before .way-behind .ensures) (c .before .before .before .before .before .before .before .before .before .before .before .before .name-of .ensures) _ _ _ _ _ _ _ (c .before .before .before .before .before .before .before .before .before .places-for .ensures) refl (c .before .before .before .before .before .before .put-u32 .ensures) (ends-full _ _ _ _ _ _ _ _ _ _ (c .before .before .loop .inv) _ (few-searched _ _ _ _ _) (c .before .loop-test .left)) (ends-val _ _ _ _ _ _ _ _ _ _ (c .before .before .loop .inv) (sought-all (name-in (c .before .before .before .before .before .before .before .before .before .before .before .before .before .before .before .before .before .before .args .s .now)) _ _ _ (few-searched _ _ _ _ _) (c .before .loop-test .left)))
 
@@ -585,26 +409,26 @@ pub +put-deleted+put-member-anew+put-part-anew+put-sorted-anew-spec : {M : Type 
     (put-deleted-at t)
     put-deleted.Post
     (put-deleted-read-jentry-requires t)
-    (put-deleted-payload-len-requires t)
-    (put-deleted-cast-slice t)
-    (put-deleted-slice-requires t)
-    (put-deleted-find-step-requires t)
-    (put-deleted-enum-known-part t)
-    (put-deleted-enum-told t)
+    (λ c κs. search needs)
+    (λ c. search needs)
+    (λ c κs. search needs)
+    (λ c κs. search needs)
+    (λ c. search needs)
+    (λ c. search needs)
     (put-deleted-returns t)
     (put-deleted-add-if1 t)
     (put-deleted-put-without-requires t)
     (put-deleted-same-length t)
     (put-deleted-returns-2 t)
-    (put-deleted-manner-of-requires t)
-    (put-deleted-enum-known-n t)
+    (λ c κs. search needs)
+    (λ c. search needs)
     (put-deleted-put-part-anew-requires t)
-    (put-deleted-enum-known-n-2 t)
+    (λ c. search needs)
     (put-deleted-add-put-part-anew t)
     (put-deleted-put-part-anew-requires-2 t)
-    (put-deleted-enum-known-n-3 t)
+    (λ c. search needs)
     (put-deleted-put-sorted-anew-requires t)
-    (put-deleted-enum-told-2 t)
+    (λ c. search needs)
     (put-deleted-same-length-2 t)
     (put-deleted-returns-3 t)
     (put-deleted-same-length-3 t)
@@ -615,15 +439,15 @@ pub +put-deleted+put-member-anew+put-part-anew+put-sorted-anew-spec : {M : Type 
     (λ t. put-member-anew-lts.spec (put-member-anew-claims t)
     (put-member-anew-at t)
     put-member-anew.Post
-    (put-member-anew-payload-at-requires t)
-    (put-member-anew-is-same-requires t)
-    (put-member-anew-put-u32-requires t)
-    (put-member-anew-copy-requires t)
-    (put-member-anew-payload-at-requires-2 t)
+    (λ c κs. search needs)
+    (λ c κs. search needs)
+    (λ c κs. search needs)
+    (λ c κs. search needs)
+    (λ c κs. search needs)
     (put-member-anew-put-deleted-requires t)
     (put-member-anew-cast-encoded t)
-    (put-member-anew-encoded-requires t)
-    (put-member-anew-put-u32-requires-2 t)
+    (λ c κs. search needs)
+    (λ c κs. search needs)
     (put-member-anew-add-t24 t)
     (put-member-anew-add-t25 t)
     (put-member-anew-add-t27 t)
@@ -641,8 +465,8 @@ pub +put-deleted+put-member-anew+put-part-anew+put-sorted-anew-spec : {M : Type 
     (put-part-anew-part-behind-requires t)
     (put-part-anew-add-put-deleted-2 t)
     (put-part-anew-add-t19 t)
-    (put-part-anew-read-u32-requires t)
-    (put-part-anew-put-u32-requires t)
+    (λ c κs. search needs)
+    (λ c κs. search needs)
     (put-part-anew-put-run-requires t)
     (put-part-anew-sub-put-deleted t)
     (put-part-anew-part-put-deleted-start t)
@@ -651,8 +475,8 @@ pub +put-deleted+put-member-anew+put-part-anew+put-sorted-anew-spec : {M : Type 
     (put-part-anew-sub-put-deleted-2 t)
     (put-part-anew-put-deleted-requires t)
     (put-part-anew-cast-encoded t)
-    (put-part-anew-encoded-requires t)
-    (put-part-anew-put-u32-requires-2 t)
+    (λ c κs. search needs)
+    (λ c κs. search needs)
     (put-part-anew-add-t19-2 t)
     (put-part-anew-add-t20 t)
     (put-part-anew-put-run-requires-2 t)
@@ -671,20 +495,20 @@ pub +put-deleted+put-member-anew+put-part-anew+put-sorted-anew-spec : {M : Type 
     (put-sorted-anew-measure-members-requires t)
     (put-sorted-anew-places-for-requires t)
     (put-sorted-anew-cast-put-u32 t)
-    (put-sorted-anew-put-u32-requires t)
-    (put-sorted-anew-slice-requires t)
+    (λ c κs. search needs)
+    (λ c κs. search needs)
     (put-sorted-anew-loop-holds t)
     (put-sorted-anew-next-member-requires t)
-    (put-sorted-anew-enum-known-member t)
-    (put-sorted-anew-enum-told t)
+    (λ c. search needs)
+    (λ c. search needs)
     (put-sorted-anew-sub-result t)
     (put-sorted-anew-same-length t)
     (put-sorted-anew-returns t)
     (put-sorted-anew-sub-put-member-anew t)
     (put-sorted-anew-put-member-anew-requires t)
-    (put-sorted-anew-payload-at-requires t)
+    (λ c κs. search needs)
     (put-sorted-anew-add-i t)
-    (put-sorted-anew-loop-less t)
+    (λ c. search needs)
     (put-sorted-anew-loop-again t)
     (put-sorted-anew-sub-result-2 t)
     (put-sorted-anew-same-length-2 t)

@@ -5,64 +5,31 @@ use Rattle.layout.proofs.Checks.{told-object}
 use borrow.Author.Needs.{needs}
 use Rattle.edits.proofs.delete.manner_of.Statement.{statement}
 use Rattle.edits.proofs.delete.manner_of.Tie as tie
-use Rattle.edits.proofs.delete.manner_of.Reads as reads
-use Rattle.edits.proofs.delete.manner_of.Lts as lts
-use Rattle.layout.proofs.sound.is_rising.Reads as is-rising-reads
-use Rattle.layout.proofs.util.read_header.Reads as read-header-reads
 
--- src/delete.rt:90:11
-read-header-requires : tie.Need-read-header-requires
-read-header-requires c κs = search needs
-
--- src/delete.rt:91:23
-enum-known-n : tie.Need-enum-known-n
-enum-known-n c = search needs
-
--- src/delete.rt:92:24
-enum-known-n-2 : tie.Need-enum-known-n-2
-enum-known-n-2 c = search needs
-
--- src/delete.rt:93:61
 add-is-rising : tie.Need-add-is-rising
 add-is-rising c = omega (arith, (told-object _ _ (c .before .before .before .read-header .ensures) _ (c .before .n2 .given .1) .1))
 
--- src/delete.rt:93:46
 mul-is-rising : tie.Need-mul-is-rising
 mul-is-rising c = omega (arith, (told-object _ _ (c .before .before .before .read-header .ensures) _ (c .before .n2 .given .1) .1))
 
--- src/delete.rt:93:32
 add-is-rising-2 : tie.Need-add-is-rising-2
 add-is-rising-2 c = omega (arith, (told-object _ _ (c .before .before .before .read-header .ensures) _ (c .before .n2 .given .1) .1))
 
--- src/delete.rt:93:16
 is-rising-requires : tie.Need-is-rising-requires
 is-rising-requires c κs = let l = (told-object _ _ (c .before .before .before .read-header .ensures) _ (c .before .n2 .given .1) .1) in (omega arith, omega arith)
 
--- src/delete.rt:94:17
 returns : tie.Need-returns
 returns c = manner-rising _ _ (c .before .before .before .before .before .read-header .ensures) _ _ (c .before .is-rising .ensures) (c .before .before .before .n2 .given .1) (c .if1 .taken)
 
--- src/delete.rt:98:30
-enum-told : tie.Need-enum-told
-enum-told c = search needs
-
--- src/delete.rt:99:31
-enum-told-2 : tie.Need-enum-told-2
-enum-told-2 c = search needs
-
--- src/delete.rt:87:1
 returns-2 : tie.Need-returns-2
 returns-2 c = manner-items _ _ (c .before .before .before .read-header .ensures) _ (c .before .n .given .1)
 
--- src/delete.rt:87:1
 returns-3 : tie.Need-returns-3
 returns-3 c = manner-unsorted _ _ (c .before .before .before .before .before .read-header .ensures) _ _ (c .before .is-rising .ensures) (c .before .before .before .n2 .given .1) (c .if1 .left)
 
--- src/delete.rt:87:1
 returns-4 : tie.Need-returns-4
 returns-4 c = manner-scalar _ _ (c .before .before .read-header .ensures) _ (c .enum-told .given .1)
 
--- src/delete.rt:87:1
 returns-5 : tie.Need-returns-5
 returns-5 c = manner-refused _ _ (c .before .before .read-header .ensures) _ (c .enum-told2 .given .1)
 
@@ -70,16 +37,16 @@ pub manner-of-spec : {M : Type 1} → statement M
 manner-of-spec =
     tie.close
     (tie.spec
-    read-header-requires
-    enum-known-n
-    enum-known-n-2
+    (λ c κs. search needs)
+    (λ c. search needs)
+    (λ c. search needs)
     add-is-rising
     mul-is-rising
     add-is-rising-2
     is-rising-requires
     returns
-    enum-told
-    enum-told-2
+    (λ c. search needs)
+    (λ c. search needs)
     returns-2
     returns-3
     returns-4

@@ -1,0 +1,109 @@
+-- What a result of look-up and of delete is: it reads as the edited tree, is sound where the record was, and is no longer than it.
+use Prim.Native.Nat.{ℕ, _≤_}
+use native.Mathlib.Omega.{arith}
+use mathlib.Core.Path.{_≡_, refl, ap, sym, _∙_}
+use mathlib.Core.Bool.{Bool, true, false, cond}
+use mathlib.Core.List.{List}
+use mathlib.Core.Option.{Option, none as nothing, some}
+use lib.Dec.{ltb}
+use lib.ListN.{length}
+use Rattle.layout.specs.Bytes.{Bytes, Octets}
+use Rattle.layout.specs.Answer.{Answer, gives, refused, _>>=_}
+use Rattle.layout.specs.Tree.{Tree, null, boolean, number, string, extension, array, object}
+use Rattle.layout.specs.Encode.{encode}
+use Rattle.layout.specs.Read.{read}
+use Rattle.layout.specs.Sound.{Sound}
+use Rattle.layout.specs.Ended.{result, refusal, into}
+use Rattle.layout.specs.declared.refusal.Refusal.the-variants.{Buffer}
+use Rattle.layout.proofs.Answers.{from-bind, gives-inj, refused-gives}
+use Rattle.layout.proofs.Decoding.{read-sound}
+use Rattle.layout.proofs.Encoding.{read-encode}
+use Rattle.layout.proofs.Readables.{length-encode}
+use Rattle.edits.specs.Path.{Step, path-of}
+use Rattle.edits.specs.Find.{look-up}
+use Rattle.edits.specs.Delete.{delete, deletable}
+use Rattle.edits.specs.Keypath.{get-by, delete-by, found, on-path}
+use Rattle.edits.proofs.Deletes.{some-inj}
+use Rattle.edits.proofs.Kept.{NoMore, look-up-kept, delete-kept}
+
+into-result : (room : ℕ) (x b : Bytes) → into room x ≡ result b → b ≡ x
+unfolding into
+into-result room x b = go (ltb room (length x))
+  where
+    go : (t : Bool) → cond t (refusal Buffer) (result x) ≡ result b → b ≡ x
+    go true q = let z : _≡_ {A = ℕ} 0 1 = cc in let w : ⊥ = omega arith in absurd w
+    go false q = cc
+
+found-result : (room : ℕ) (m : Answer (Option Tree)) (b : Bytes) → found room m ≡ result b → (v : Tree) × (m ≡ gives (some v)) × (b ≡ encode v)
+found-result room (refused r) b e = let z : _≡_ {A = ℕ} 0 1 = cc in let w : ⊥ = omega arith in absurd w
+found-result room (gives nothing) b e = let z : _≡_ {A = ℕ} 0 1 = cc in let w : ⊥ = omega arith in absurd w
+found-result room (gives (some v)) b e = (v, refl, into-result room (encode v) b e)
+
+on-path-is : (edit : List Step → Tree → Answer (Option Tree)) (target path : Bytes) (room : ℕ)
+    → on-path edit target path room ≡ found room (read target >>= λ t. path-of path >>= λ p. edit p t)
+unfolding on-path
+on-path-is edit target path room = refl
+
+pub record PathMade (edit : List Step → Tree → Answer (Option Tree)) (target path b : Bytes) : Type 0 where
+  pub tree : Tree
+  pub steps : List Step
+  pub made : Tree
+  pub target-reads : read target ≡ gives tree
+  pub path-reads : path-of path ≡ gives steps
+  pub edited : edit steps tree ≡ gives (some made)
+  pub bytes : b ≡ encode made
+  pub reads : read b ≡ gives made
+  pub stays-sound : Sound tree → Sound made
+  pub no-longer : length b ≤ length target
+  pub short : length b ≤ 65536
+
+-- An edit whose trees are no more than those that it is given.
+path-made : (edit : List Step → Tree → Answer (Option Tree)) → ((p : List Step) (t v : Tree) → edit p t ≡ gives (some v) → NoMore v t)
+    → (target path b : Bytes) (room : ℕ) → Octets target → on-path edit target path room ≡ result b → PathMade edit target path b
+path-made edit keeps target path b room o e =
+    let w = found-result room _ b (sym (on-path-is edit target path room) ∙ e) in
+    from-bind (w .1) λ t ht e₁. from-bind e₁ λ p hp e₂.
+    let s = read-sound target t o ht in
+    let k = keeps p t (w .0) e₂ in
+    let lt = length-encode t in
+    let lv = length-encode (w .0) in
+    let l : length (encode (w .0)) ≤ length target = omega (arith, ap length (s .0 .bytes), k .long) in
+    let lb : length b ≡ length (encode (w .0)) = ap length (w .2) in
+    record {
+      tree = t;
+      steps = p;
+      made = w .0;
+      target-reads = ht;
+      path-reads = hp;
+      edited = e₂;
+      bytes = w .2;
+      reads = ap read (w .2) ∙ read-encode (w .0) (k .valid (s .0 .valid)) (omega (arith, k .deep, s .0 .deep)) (omega (arith, l, s .1));
+      stays-sound = k .sound;
+      no-longer = omega (arith, l, lb);
+      short = omega (arith, l, lb, s .1);
+    }
+
+pub get-made : (target path b : Bytes) (room : ℕ) → Octets target → on-path get-by target path room ≡ result b → PathMade get-by target path b
+get-made = path-made get-by (λ p t v e. look-up-kept p t v (gives-inj (sym (get-is p t) ∙ e)))
+  where
+    get-is : (p : List Step) (t : Tree) → get-by p t ≡ gives (look-up p t)
+    get-is p t = unfold get-by in refl
+
+deletable-same : (t u : Tree) → deletable t ≡ gives u → t ≡ u
+deletable-same null u e = refused-gives e
+deletable-same (boolean x) u e = refused-gives e
+deletable-same (number b) u e = refused-gives e
+deletable-same (string b) u e = refused-gives e
+deletable-same (extension b) u e = gives-inj e
+deletable-same (array ts) u e = gives-inj e
+deletable-same (object ms) u e = gives-inj e
+
+delete-gives : (p : List Step) (t v : Tree) → delete-by p t ≡ gives (some v) → delete p t ≡ v
+delete-gives p t v e =
+    from-bind (sym (delete-is p t) ∙ e) λ u hu e₁. ap (delete p) (deletable-same t u hu) ∙ some-inj (gives-inj e₁)
+  where
+    delete-is : (p : List Step) (t : Tree) → delete-by p t ≡ (deletable t >>= λ u. gives (some (delete p u)))
+    delete-is p t = unfold delete-by in refl
+
+pub delete-made : (target path b : Bytes) (room : ℕ) → Octets target → on-path delete-by target path room ≡ result b → PathMade delete-by target path b
+delete-made = path-made delete-by (λ p t v e. rw (← delete-gives p t v e) (delete-kept p t))
