@@ -1,4 +1,5 @@
--- A container without an item, or with one written anew, as the code of delete stores it. proofs/Cuts.antt ties it to `left`.
+-- A container without an item, or with one written anew, as the code of delete stores it. `array-led` and `rising-led` of
+-- proofs/Leds.antt, `gone` of proofs/Sorteds.antt and `below` of proofs/Onwards.antt tie it to `left`.
 use Prim.Native.Nat.{ℕ, suc, _+_, _*_, _-_, _^_, _≤_, _<_}
 use mathlib.Core.Path.{_≡_}
 use mathlib.Core.Logic.{_⊎_}

@@ -84,6 +84,7 @@ pub struct Sizes {
     pub vals: usize,
 }
 
+// The manner of a record's container; a scalar, or what is no record, has none.
 fn manner_of(s: &[u8]) -> Manner
     ensures { λ r. ⌜ r ≡ mannerOf (header (now (s .entry))) (now (s .entry)) ⌝ }
 {
@@ -321,10 +322,10 @@ fn put_part_anew(
     };
     put_u32(out, at, read_u32(s, 0));
     let here = put_run(s, first, part, out, start);
-    let start_of = part.place;
-    let end_of = next.place;
+    let from = part.place;
+    let to = next.place;
     let len = put_deleted(
-        &s[start_of..end_of],
+        &s[from..to],
         path,
         way_behind(path, way),
         out,
