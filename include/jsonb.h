@@ -2,7 +2,8 @@
  * JSONB records for the flight computer: the check and the edits.
  *
  * The functions are those of the static library that `rt staticlib edits` makes, target/staticlib/libedits.a, for x86-64 Linux.
- * Each is proved to answer what crates/edits/specs/C.antt defines, on every record, path and buffer, and to end. They keep nothing
+ * Each is proved to end, and to answer what crates/edits/specs/Keypath.antt and crates/builders/specs/Build.antt define (the check:
+ * crates/layout/specs/Read.antt) as a number by crates/edits/specs/C.antt, on every record, path and buffer. They keep nothing
  * between calls, take no memory but the stack, and may be called from several threads at once.
  *
  * A record, a path and a buffer are each a pointer and a length in bytes. What the caller owes:
@@ -78,15 +79,17 @@ uint64_t jsonb_check(const uint8_t *record, size_t record_length);
 
 /*
  * Looks up what a path finds in a record. A path is an array record: its strings are names, its integers are indexes, of which
- * the negative ones count back from the end of an array. A scalar that is found is written as a scalar record; an empty path
- * finds the record itself.
+ * the negative ones count back from the end of an array. An index is from -2^31 to 2^31-1, any other number gives 6; on an object
+ * it stands for its decimal text, and a name on an array finds nothing. A scalar that is found is written as a scalar record; an
+ * empty path finds the record itself.
  */
 uint64_t jsonb_get_by_keypath(const uint8_t *target, size_t target_length, const uint8_t *path, size_t path_length,
                               uint8_t *out, size_t out_length);
 
 /*
- * Deletes what a path finds in a record. An empty path, and one that finds nothing, give the record as it is. Every container
- * above what is deleted is written anew, its objects in byte order of the names, of repeated names the first.
+ * Deletes what a path finds in a record, of a repeated name the first member. An empty path, and one that finds nothing, give the
+ * record as it is. Every container above what is deleted is written anew, its objects in byte order of the names; of names that
+ * are still repeated there the first is kept.
  */
 uint64_t jsonb_delete_by_keypath(const uint8_t *target, size_t target_length, const uint8_t *path, size_t path_length,
                                  uint8_t *out, size_t out_length);

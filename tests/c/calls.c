@@ -263,6 +263,17 @@ static void test_build(void) {
     ends("build of damaged values", jsonb_build_object, A, "400000", JSONB_SHORT);
 }
 
+/* Records and paths may be the same bytes: [0] looked up by itself, whose one step is the index 0, and appended to itself. */
+static void test_same_bytes(void) {
+    spell("80000001 20000001 00", &left_record);
+    spell("20000000 20000001 00", &wanted);
+    uint64_t answer = jsonb_get_by_keypath(left_record.bytes, left_record.length, left_record.bytes, left_record.length, buffer, ROOM);
+    expect(answer == wanted.length && memcmp(buffer, wanted.bytes, wanted.length) == 0, "get", "one slice as record and path");
+    spell("80000002 20000001 50000009 00 80000001 20000001 00", &wanted);
+    answer = jsonb_append(left_record.bytes, left_record.length, left_record.bytes, left_record.length, buffer, ROOM);
+    expect(answer == wanted.length && memcmp(buffer, wanted.bytes, wanted.length) == 0, "append", "one slice as both records");
+}
+
 int main(void) {
     test_numbers();
     test_check();
@@ -270,6 +281,7 @@ int main(void) {
     test_delete();
     test_append();
     test_build();
+    test_same_bytes();
     printf("%d right, %d wrong\n", right, wrong);
     return wrong == 0 ? 0 : 1;
 }

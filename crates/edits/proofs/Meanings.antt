@@ -1,12 +1,14 @@
 -- What delete means, said by what each path finds before and after it.
-use Prim.Native.Nat.{ℕ, suc, _<_, _≤_}
+use Prim.Native.Nat.{ℕ, suc, _+_, _-_, _<_, _≤_}
+use native.Mathlib.Omega.{arith}
 use mathlib.Core.Path.{_≡_, refl, ap, sym, _∙_}
 use mathlib.Core.Logic.{⊎-elim}
 use mathlib.Core.Bool.{Bool, true, false, not, cond}
 use mathlib.Core.List.{List, [], _∷_, _++_}
 use mathlib.Core.Option.{Option, none as nothing, some}
 use lib.Dec.{T, ltb, nltb→le}
-use lib.IntN.{pos}
+use lib.IntN.{pos, negsuc}
+use borrow.Author.Tests.{lt-ltb}
 use Rattle.layout.specs.Tree.{Tree, null, boolean, number, string, extension, array, object, Items, item, Members, names}
 use Rattle.layout.specs.Sound.{Rising, Sound}
 use Rattle.layout.specs.Value.{Taken}
@@ -183,6 +185,10 @@ index-finds j ts = go (ltb j (count ts)) (nltb→le j (count ts))
 index-look-up : (j : ℕ) (q : List Step) (ts : Items) → look-up (index (pos j) ∷ q) (array ts) ≡ (item-at ts j then look-up q)
 index-look-up j q ts = ap (λ (o : Option Tree). o then look-up q) (index-finds j ts)
 
+back-finds : (k : ℕ) (ts : Items) → k < count ts → step-into (index (negsuc k)) (array ts) ≡ item-at ts (count ts - suc k)
+unfolding place
+back-finds k ts h = rw (lt-ltb k (count ts) h)
+
 module _ (ts : Items) (s : Step) where
   array-found : (p : List Step) (i : ℕ) (v : Tree) → step-place s (count ts) ≡ some i → look-up (s ∷ p) (array ts) ≡ some v
       → (c : Tree) × (item-at ts i ≡ some c) × (delete (s ∷ p) (array ts) ≡ array (change-item (left p c) i ts))
@@ -251,6 +257,20 @@ module _ (r : List Step) (t : Tree) (ts : Items) (e : look-up r t ≡ some (arra
         ∙ index-look-up j q (change-item nothing i ts)
         ∙ ap (λ (o : Option Tree). o then look-up q) (item-behind i j ts l)
         ∙ sym (index-look-up (suc j) q ts))
+
+    -- Counted from the end, those behind it keep their places.
+    pub deleted-item-from-end : (k : ℕ) (q : List Step) → i + suc k < count ts
+        → look-up (r ++ (index (negsuc k) ∷ q)) (delete (r ++ (s ∷ [])) t) ≡ look-up (r ++ (index (negsuc k) ∷ q)) t
+    deleted-item-from-end k q l =
+        let c = count-gone i ts (step-below s (count ts) i h) in
+        let n : suc (count (change-item nothing i ts) - suc k) ≡ count ts - suc k = omega (arith, c, l) in
+        as-before r t (array ts) e s [] (index (negsuc k) ∷ q) (index (negsuc k) ∷ q)
+        (ap (look-up (index (negsuc k) ∷ q)) (item-gone ts s i h)
+        ∙ ap (λ (o : Option Tree). o then look-up q)
+        (back-finds k (change-item nothing i ts) (omega (arith, c, l))
+        ∙ item-behind i (count (change-item nothing i ts) - suc k) ts (omega (arith, c, l))
+        ∙ ap (item-at ts) n
+        ∙ sym (back-finds k ts (omega (arith, l)))))
 
     -- The array then has every item but that one, in their order.
     pub deleted-item : (front back : Items) × (v : Tree) × (ts ≡ join front (item v back)) × (count front ≡ i)

@@ -98,7 +98,7 @@ deletable-same (extension b) u e = gives-inj e
 deletable-same (array ts) u e = gives-inj e
 deletable-same (object ms) u e = gives-inj e
 
-delete-gives : (p : List Step) (t v : Tree) → delete-by p t ≡ gives (some v) → delete p t ≡ v
+pub delete-gives : (p : List Step) (t v : Tree) → delete-by p t ≡ gives (some v) → delete p t ≡ v
 delete-gives p t v e =
     from-bind (sym (delete-is p t) ∙ e) λ u hu e₁. ap (delete p) (deletable-same t u hu) ∙ some-inj (gives-inj e₁)
   where

@@ -86,7 +86,7 @@ pub record Left (r : ℕ) (before after : Bytes) (at : ℕ) (b : Bytes) : Type 0
   pub length-is : r ≡ length b
   pub stored : after ≡ patch before at b
 
--- The same where the item itself goes: a part that a step leads to.
+-- A part that some step leads to; and what is stored of the container without it, for each such step.
 abbrev pub LedTo : Bytes → PartAt → Type 0
 LedTo s a = (p : Step) × (spot (header s) s p ≡ At a)
 
@@ -104,7 +104,7 @@ abbrev pub run-behind : PartAt → PartAt → Cursor → Cursor
 run-behind a b at =
     record { jentry = at .jentry + 4 * (b .index - a .index); place = at .place + (b .place - a .place) }
 
--- A readable container of `n` parts, names and values each counting as one; and its part `p`.
+-- How many parts a container has, names and values each counting as one; a readable container of `n`; and its part `p`.
 abbrev pub count-parts : Header → ℕ
 count-parts (Array n) = n
 count-parts (Object n) = n + n

@@ -49,7 +49,8 @@ anew o s (extension b) = extension b
 anew o s (array ts) = array (change-at o (step-place s (count ts)) ts)
 anew o s (object ms) = object (in-order (change-member o (step-name s) ms))
 
--- What is left of a tree without the item that a path finds in it: nothing, where that is the tree itself.
+-- What is left of a tree without the item that a path finds in it: nothing, where that is the tree itself. It means something
+-- only where the path finds one.
 abbrev pub left : List Step → Tree → Option Tree
 left [] t = nothing
 left (s ∷ p) t = some (anew (step-into s t then left p) s t)
@@ -58,7 +59,7 @@ abbrev pub or-same : Tree → Option Tree → Tree
 or-same t nothing = t
 or-same t (some u) = u
 
--- What `left` gives where the path finds an item.
+-- What `left` gives where the path finds an item; the tree itself where it finds none, and for the empty path.
 abbrev pub delete : List Step → Tree → Tree
 delete p t = or-same t (look-up p t then λ _. left p t)
 

@@ -1,4 +1,5 @@
--- Items of a record that stand for trees, as the code of look-up goes from one to the next.
+-- Items of a record that stand for trees, as the code of look-up goes from one to the next. `finding-is` of proofs/Lookups.antt
+-- and `held-written` of proofs/Helds.antt tie it to `look-up` and to `encode`.
 use Prim.Native.Nat.{_+_, _^_, _≤_}
 use mathlib.Core.Path.{_≡_}
 use mathlib.Core.Bool.{cond}

@@ -72,11 +72,12 @@ path-of b = do
   t ← or-path (read b)
   path-in t
 
--- "On an object an index stands for its decimal text": the digits of a number below 10 ^ `most`, a minus sign before them.
+-- "On an object an index stands for its decimal text": the digits of a number below 10 ^ `most`.
 unfoldable pub decimal : ℕ → ℕ → Bytes
 decimal zero v = []
 decimal (suc most) v = cond (ltb v 10) ((48 + v) ∷ []) (decimal most (v / 10) ++ ((48 + v % 10) ∷ []))
 
+-- A minus sign before those of a negative one; `negsuc k` is −k − 1.
 unfoldable pub index-text : ℤ → Bytes
 unfolding decimal
 index-text (pos k) = decimal 10 k

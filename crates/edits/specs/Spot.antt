@@ -24,7 +24,7 @@ abbrev pub place-told : Option ℕ → Place
 place-told nothing = NoPlace
 place-told (some k) = AtPlace k
 
--- A place among `n` items.
+-- A sum, which may be negative, as a place among `n` items.
 unfoldable pub inside : ℤ → ℕ → Option ℕ
 inside (pos k) n = cond (ltb k n) (some k) nothing
 inside (negsuc k) n = nothing

@@ -69,7 +69,8 @@ pub struct Way {
     pub count: usize,
 }
 
-// How a container is written anew: an array and an object of n, whose names rise or not.
+// How a container is written anew: an array of n items, an object of n members whose names rise, or one whose names do not.
+// What is no container is written in neither way.
 pub enum Manner {
     Items(usize),
     Rising(usize),

@@ -44,7 +44,7 @@ pub enum KeyPath {
     Other,
 }
 
-// How many steps a path has; or it is none.
+// How many steps a path has; or that it is no path.
 pub enum Steps {
     Count(usize),
     Refused,
