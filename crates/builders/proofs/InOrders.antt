@@ -19,7 +19,7 @@ use Rattle.layout.specs.Value.{Taken, SameMembers}
 use Rattle.layout.specs.declared.order.Ordering.{Ordering}
 use Rattle.layout.specs.declared.order.Ordering.the-variants.{Less, Equal, Greater}
 use Rattle.layout.proofs.Values.{≺-irrefl, ≺-trans, In, rising-tail, rising-all, same-refl}
-use Rattle.builders.specs.Order.{by, insert, insert-all, in-order, find, same, has, distinct}
+use Rattle.builders.specs.Order.{by, insert, insert-all, in-order, find, same, has, distinct, follow}
 use Rattle.builders.proofs.Orderings.{order-cases, by-order, order-less, order-greater, order-refl}
 
 unlike : (a b : Bytes) → a ≺ b → a ≡ b → ⊥
@@ -96,10 +96,6 @@ pub in-order-rising : (ms : Members) → Rising (names (in-order ms))
 in-order-rising ms = all-rising ms empty tt
 
 -- ---- names that rise already
-
-abbrev follow : Members → Members → Members
-follow empty ms = ms
-follow (member n t done) ms = member n t (follow done ms)
 
 follow-empty : (done : Members) → follow done empty ≡ done
 follow-empty empty = refl

@@ -31,6 +31,11 @@ insert-all (member n t ms) done = insert-all ms (insert n t done)
 abbrev pub in-order : Members → Members
 in-order ms = insert-all ms empty
 
+-- The members of one, then those of the other.
+abbrev pub follow : Members → Members → Members
+follow empty ms = ms
+follow (member n t done) ms = member n t (follow done ms)
+
 -- The value of "the first member whose name has equal bytes". It says what `in-order` keeps: `find-in-order` of
 -- proofs/InOrders.antt.
 abbrev pub find : Bytes → Members → Option Tree

@@ -5,6 +5,8 @@ pub mod Path
 pub mod Find
 pub mod Delete
 pub mod Keypath
+pub mod Concat
+pub mod Strip
 pub mod C
 -- Forms that follow the code, for the contracts inside the crate; theorems of proofs/ tie each to the definitions above.
 pub mod Steps
