@@ -247,7 +247,7 @@ one-fewer false m ms n h = omega arith
 pub length-kept : (k : Kept) (i : ℕ) (ms : List MemberAt) → length (kept-of k i ms) ≤ length ms
 unfolding kept-of
 length-kept k i [] = omega arith
-length-kept k i (m ∷ ms) = one-fewer (is-kept k i) m (kept-of k (i + 1) ms) (length ms) (length-kept k (i + 1) ms)
+length-kept k i (m ∷ ms) = one-fewer (is-kept k i m) m (kept-of k (i + 1) ms) (length ms) (length-kept k (i + 1) ms)
 
 pub kept-all : (i : ℕ) (ms : List MemberAt) → kept-of All i ms ≡ ms
 unfolding kept-of is-kept

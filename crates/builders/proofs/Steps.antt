@@ -8,14 +8,14 @@ use mathlib.Core.List.{List, _∷_}
 use lib.Dec.{eqb}
 use lib.ListN.{take, drop}
 use Rattle.layout.specs.Bytes.{Bytes}
-use Rattle.layout.specs.Entry.{length-of}
+use Rattle.layout.specs.Entry.{code-of, length-of}
 use Rattle.layout.specs.Order.{before}
 use Rattle.builders.specs.Search.{bytes-at, name-in, member-at, members-from, members-at, is-kept, kept-of, Bound, bound, over, better, step, turn, least}
 use Rattle.builders.specs.declared.search.ItemAt.{ItemAt}
 use Rattle.builders.specs.declared.search.MemberAt.{MemberAt}
 use Rattle.builders.specs.declared.search.Places.{Places}
 use Rattle.builders.specs.declared.search.Kept.{Kept}
-use Rattle.builders.specs.declared.search.Kept.the-variants.{All, But}
+use Rattle.builders.specs.declared.search.Kept.the-variants.{All, But, NonNull}
 use Rattle.builders.specs.declared.search.Found.{Found}
 use Rattle.builders.specs.declared.search.Found.the-variants.{Nothing, At}
 
@@ -63,14 +63,18 @@ module _ (key : MemberAt → Bytes) (best : Found) (m : MemberAt) where
   unfolding turn
   turn-left-out last g t = rw t
 
-module _ (k : Kept) (i : ℕ) where
-  pub kept-always : k ≡ All → true ≡ is-kept k i
+module _ (k : Kept) (i : ℕ) (m : MemberAt) where
+  pub kept-always : k ≡ All → true ≡ is-kept k i m
   unfolding is-kept
   kept-always e = rw e
 
-  pub kept-unless : (j : ℕ) → k ≡ But j → not (eqb i j) ≡ is-kept k i
+  pub kept-unless : (j : ℕ) → k ≡ But j → not (eqb i j) ≡ is-kept k i m
   unfolding is-kept
   kept-unless j e = rw e
+
+  pub kept-if-full : (c : ℕ) → k ≡ NonNull → c ≡ code-of (m .val .jentry) → not (eqb c 0) ≡ is-kept k i m
+  unfolding is-kept
+  kept-if-full c e h = rw (e, h)
 
 -- A member that is searched, or left out, and the rest.
 least-kept : (key : MemberAt → Bytes) (last : Bound) (best : Found) (g : Bool) (m : MemberAt) (ms : List MemberAt)
@@ -94,7 +98,7 @@ module _ (ks vs : Bytes) (kept : Kept) (last : Bound) (best : Found) (at : Place
 
     pub search-turns : (m : MemberAt) (g : Bool) (next : Found) (kl vl : ℕ) → i < n
         → m ≡ member-at ks vs (at .«key_jentry») (at .«val_jentry») (at .key) (at .val)
-        → g ≡ is-kept kept i → next ≡ turn (name-in ks) last g best m
+        → g ≡ is-kept kept i m → next ≡ turn (name-in ks) last g best m
         → kl ≡ length-of (m .key .jentry) → vl ≡ length-of (m .val .jentry)
         → from-here i (n - i)
         ≡ least (name-in ks) last next
@@ -107,4 +111,4 @@ module _ (ks vs : Bytes) (kept : Kept) (last : Bound) (best : Found) (at : Place
     unfolding members-at members-from kept-of
     search-turns m g next kl vl h e t s k v =
         let q : n - i ≡ suc (n - (i + 1)) = omega arith in
-        rw (q, s, k, v, e, t) (least-kept (name-in ks) last best (is-kept kept i) _ _)
+        rw (q, s, k, v, t, e) (least-kept (name-in ks) last best (is-kept kept i _) _ _)

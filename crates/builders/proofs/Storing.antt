@@ -92,12 +92,13 @@ module _ (name value : MemberAt → Bytes) (entry : MemberAt → ℕ) (searched 
 
   pub record Stored (out last : Bytes) (at : Places) (i : ℕ) : Type 0 where
     pub sought : Sought name searched last i
-    pub near-key-jentry : at .«key_jentry» ≤ to .«key_jentry» + 4 * i
+    pub key-jentry : at .«key_jentry» ≡ to .«key_jentry» + 4 * i
     pub val-jentry : at .«val_jentry» ≡ to .«val_jentry» + 4 * i
     pub near-key : at .key ≤ to .key + 2 ^ 28 * i
     pub near-val : at .val ≤ to .val + 2 ^ 28 * i
     pub key-on : to .key ≤ at .key
     pub val-on : to .val ≤ at .val
+    pub key-rest : at .key + length (column name (drop i all)) ≡ to .key + length (column name all)
     pub val-rest : at .val + length (column value (drop i all)) ≡ to .val + length (column value all)
     pub run : weave o to all ≡ weave out at (drop i all)
     pub as-long : length out ≡ length o
@@ -106,12 +107,13 @@ module _ (name value : MemberAt → Bytes) (entry : MemberAt → ℕ) (searched 
   begins last =
       record {
         sought = sought-none name searched last;
-        near-key-jentry = omega arith;
+        key-jentry = omega arith;
         val-jentry = omega arith;
         near-key = omega arith;
         near-val = omega arith;
         key-on = omega arith;
         val-on = omega arith;
+        key-rest = refl;
         val-rest = refl;
         run = refl;
         as-long = refl;
@@ -126,6 +128,14 @@ module _ (name value : MemberAt → Bytes) (entry : MemberAt → ℕ) (searched 
     ends-val h =
         let z : length (column value (drop i all)) ≡ 0 = rw (drop-of-length-le all h) (column-none value) in
         omega (arith, now .val-rest)
+
+    pub ends-key : length all ≤ i → at .key ≡ to .key + length (column name all)
+    ends-key h =
+        let z : length (column name (drop i all)) ≡ 0 = rw (drop-of-length-le all h) (column-none name) in
+        omega (arith, now .key-rest)
+
+    pub ends-count : length all ≤ i → at .«key_jentry» ≡ to .«key_jentry» + 4 * length all
+    ends-count h = omega (arith, now .key-jentry, now .sought .count)
 
     pub ends-full : (n : ℕ) → length searched ≤ n → n ≤ i → out ≡ weave o to all
     ends-full n l h = ended (sought-all name searched n i l h)
@@ -143,12 +153,13 @@ module _ (name value : MemberAt → Bytes) (entry : MemberAt → ℕ) (searched 
           let cut : drop i all ≡ m ∷ drop (suc i) all = sought-cut name searched last i (now .sought) found hf m q in
           record {
             sought = sought-more name searched last i (now .sought) found hf m q next hn;
-            near-key-jentry = rw (h .0) (omega (arith, now .near-key-jentry));
+            key-jentry = rw (h .0) (omega (arith, now .key-jentry));
             val-jentry = rw (h .0) (omega (arith, now .val-jentry));
             near-key = rw (h .0) (omega (arith, now .near-key, ln));
             near-val = rw (h .0) (omega (arith, now .near-val, lv));
             key-on = rw (h .0) (omega (arith, now .key-on));
             val-on = rw (h .0) (omega (arith, now .val-on));
+            key-rest = rw (h .0, add-one i) (omega (arith, now .key-rest, ap (λ (l : List MemberAt). length (column name l)) cut, column-cons name m (drop (suc i) all)));
             val-rest = rw (h .0, add-one i) (omega (arith, now .val-rest, ap (λ (l : List MemberAt). length (column value l)) cut, column-cons value m (drop (suc i) all)));
             run = now .run ∙ rw (cut, add-one i, h .0, h .1);
             as-long = ap length (h .1) ∙ length-stored ∙ now .as-long;

@@ -20,7 +20,7 @@ use Rattle.builders.specs.declared.search.ItemAt.{ItemAt}
 use Rattle.builders.specs.declared.search.MemberAt.{MemberAt}
 use Rattle.builders.specs.declared.search.Places.{Places}
 use Rattle.builders.specs.declared.search.Kept.{Kept}
-use Rattle.builders.specs.declared.search.Kept.the-variants.{All, But}
+use Rattle.builders.specs.declared.search.Kept.the-variants.{All, But, NonNull}
 use Rattle.builders.specs.declared.search.Found.{Found}
 use Rattle.builders.specs.declared.search.Found.the-variants.{Nothing, At}
 
@@ -61,13 +61,14 @@ unfoldable pub members-at : Bytes → Bytes → Places → ℕ → List MemberAt
 members-at ks vs w k = members-from ks vs (w .«key_jentry») (w .«val_jentry») (w .key) (w .val) k
 
 -- Members some of which are left out, where the first of them stands behind `i` others.
-unfoldable pub is-kept : Kept → ℕ → Bool
-is-kept All i = true
-is-kept (But k) i = not (eqb i k)
+unfoldable pub is-kept : Kept → ℕ → MemberAt → Bool
+is-kept All i m = true
+is-kept (But k) i m = not (eqb i k)
+is-kept NonNull i m = not (eqb (code-of (m .val .jentry)) 0)
 
 unfoldable pub kept-of : Kept → ℕ → List MemberAt → List MemberAt
 kept-of k i [] = []
-kept-of k i (m ∷ ms) = cond (is-kept k i) (m ∷ kept-of k (i + 1) ms) (kept-of k (i + 1) ms)
+kept-of k i (m ∷ ms) = cond (is-kept k i m) (m ∷ kept-of k (i + 1) ms) (kept-of k (i + 1) ms)
 
 -- Names above the last one taken; at first, all.
 pub data Bound : Type 0 where

@@ -29,7 +29,7 @@ pub enum Given {
 }
 
 // What a record is as one item: a scalar is taken out of its record, a container goes in whole.
-pub(crate) fn as_item(s: &[u8]) -> Given
+pub fn as_item(s: &[u8]) -> Given
     ensures { λ r. ⌜ r ≡ asOne (header (now (s .entry))) ⌝ }
 {
     if let Header::Scalar(_) = read_header(s) {
@@ -39,7 +39,7 @@ pub(crate) fn as_item(s: &[u8]) -> Given
 }
 
 // How many items are given.
-fn given_count(given: Given) -> usize
+pub fn given_count(given: Given) -> usize
     ensures { λ r. ⌜ r ≡ givenCount given ⌝ }
 {
     match given {
@@ -98,7 +98,7 @@ fn put_joined(header: u32, left: &[u8], l: Given, right: &[u8], r: Given, out: &
 }
 
 // Stores that container and gives its length, where there is room for it; else nothing is stored.
-pub(crate) fn write_joined(
+pub fn write_joined(
     header: u32,
     left: &[u8],
     l: Given,

@@ -60,7 +60,7 @@ fn is_among(name: &[u8], s: &[u8], from: usize, n: usize, start: usize) -> bool
 }
 
 // Whether no name is there twice.
-pub(crate) fn is_distinct(s: &[u8], n: usize, start: usize) -> bool
+pub fn is_distinct(s: &[u8], n: usize, start: usize) -> bool
     requires { ⌜ (n < 2 ^ 29) × (start < 2 ^ 33) ⌝ }
     ensures { λ r. ⌜ r ≡ distinct (texts (partsAt (now (s .entry)) 0 start n)) ⌝ }
 {

@@ -10,7 +10,7 @@ pub enum Room {
 }
 
 // Whether a buffer of `room` bytes serves for a result of `len`.
-pub(crate) fn check_room(len: usize, room: usize) -> Room
+pub fn check_room(len: usize, room: usize) -> Room
     ensures { λ r. ⌜ r ≡ roomFor len room ⌝ }
 {
     if RECORD_LIMIT < len {

@@ -1,7 +1,9 @@
 // Members by their places, and the search for the next name in byte order. It stands in for the Rust's BTreeMap of members: no
 // work buffer is lent, so each name is searched for anew.
 use layout::constants::JENTRY_SIZE;
+use layout::constants::NULL_CODE;
 use layout::jentry::payload_len;
+use layout::jentry::type_code;
 use layout::order::is_before;
 use layout::util::read_u32;
 use layout::util::slice;
@@ -35,10 +37,11 @@ pub struct Places {
     pub val: usize,
 }
 
-// Which members are searched: all, or all but one, told by how many stand before it.
+// Which members are searched: all, all but one, told by how many stand before it, or those whose value is not null.
 pub enum Kept {
     All,
     But(usize),
+    NonNull,
 }
 
 // What the search has found.
@@ -55,7 +58,7 @@ pub fn payload_at(s: &[u8], item: ItemAt) -> &[u8]
 }
 
 // The member at these places.
-fn read_member(keys: &[u8], vals: &[u8], at: Places) -> MemberAt
+pub fn read_member(keys: &[u8], vals: &[u8], at: Places) -> MemberAt
     ensures { λ r. ⌜ r
         ≡ memberAt (now (keys .entry)) (now (vals .entry)) (at .«key_jentry») (at .«val_jentry») (at .key) (at .val) ⌝ }
 {
@@ -97,12 +100,13 @@ fn better_of(keys: &[u8], best: Found, member: MemberAt) -> Found
 }
 
 // Whether the member behind `i` others is searched.
-fn is_kept(kept: Kept, i: usize) -> bool
-    ensures { λ r. ⌜ r ≡ isKept kept i ⌝ }
+pub fn is_kept(kept: Kept, i: usize, member: MemberAt) -> bool
+    ensures { λ r. ⌜ r ≡ isKept kept i member ⌝ }
 {
     match kept {
         Kept::All => true,
         Kept::But(k) => i != k,
+        Kept::NonNull => type_code(member.val.jentry) != NULL_CODE,
     }
 }
 
@@ -153,7 +157,7 @@ pub fn next_member(
     let mut i = 0;
     while i < count {
         let member = read_member(keys, vals, at);
-        best = turn_of(keys, is_kept(kept, i), is_first, last, best, member);
+        best = turn_of(keys, is_kept(kept, i, member), is_first, last, best, member);
         at = Places {
             key_jentry: at.key_jentry + JENTRY_SIZE,
             val_jentry: at.val_jentry + JENTRY_SIZE,

@@ -14,8 +14,8 @@ use Rattle.builders.specs.declared.search.Found.{Found}
 use Rattle.builders.specs.declared.search.Found.the-variants.{Nothing, At}
 use Rattle.builders.proofs.Searches.{bytes-short}
 use Rattle.builders.proofs.Storing.{column-cons, column-none, Sought, sought-none, sought-all, sought-end, sought-cut, sought-more}
-use Rattle.edits.specs.Cut.{sizes-of}
-use Rattle.edits.specs.declared.delete.Sizes.{Sizes}
+use Rattle.edits.specs.Members.{sizes-of}
+use Rattle.edits.specs.declared.members.Sizes.{Sizes}
 
 sizes-are : (z : Sizes) (a b c : ℕ) → z .count ≡ a → z .keys ≡ b → z .vals ≡ c → z ≡ record { count = a; keys = b; vals = c }
 sizes-are z a b c ea eb ec = rw (← ea, ← eb, ← ec)

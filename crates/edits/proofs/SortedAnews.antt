@@ -41,10 +41,11 @@ use Rattle.builders.proofs.Stands.{Stands, Stand, stand-sorted}
 use Rattle.edits.specs.Path.{Step}
 use Rattle.edits.specs.Find.{step-name, step-into}
 use Rattle.edits.specs.Delete.{change-member, anew}
-use Rattle.edits.specs.Cut.{Left, Cuts, Onward, left-of, step-at, steps-from, way-behind, members-of, places-for, name-of, in-turn, sizes-of, anew-value, anew-entry}
+use Rattle.edits.specs.Cut.{Left, Cuts, Onward, left-of, step-at, steps-from, way-behind, name-of, anew-value, anew-entry}
+use Rattle.edits.specs.Members.{members-of, places-for, in-turn, sizes-of}
 use Rattle.edits.specs.declared.find.PartAt.{PartAt}
 use Rattle.edits.specs.declared.delete.Way.{Way}
-use Rattle.edits.specs.declared.delete.Sizes.{Sizes}
+use Rattle.edits.specs.declared.members.Sizes.{Sizes}
 use Rattle.edits.proofs.Deletes.{some-inj, nothing-some, change-in-order}
 use Rattle.edits.proofs.Splits.{member-split}
 use Rattle.edits.proofs.Rows.{row-bytes}

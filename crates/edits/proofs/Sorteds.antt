@@ -38,10 +38,11 @@ use Rattle.edits.specs.Path.{Step}
 use Rattle.edits.specs.Find.{step-name}
 use Rattle.edits.specs.Delete.{change-member, delete}
 use Rattle.edits.specs.Spot.{first, one-more, nth-part, spot}
-use Rattle.edits.specs.Cut.{Left, members-of, places-for, in-turn, sizes-of, left-of}
+use Rattle.edits.specs.Cut.{Left, left-of}
+use Rattle.edits.specs.Members.{members-of, places-for, in-turn, sizes-of}
 use Rattle.edits.specs.declared.find.PartAt.{PartAt}
 use Rattle.edits.specs.declared.find.Spot.the-variants.{At}
-use Rattle.edits.specs.declared.delete.Sizes.{Sizes}
+use Rattle.edits.specs.declared.members.Sizes.{Sizes}
 use Rattle.edits.proofs.Tables.{Contains, contains, an-object}
 use Rattle.edits.proofs.Splits.{member-split}
 use Rattle.edits.proofs.Spots.{object-spot}

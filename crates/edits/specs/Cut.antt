@@ -36,7 +36,7 @@ use Rattle.edits.specs.declared.delete.Cursor.{Cursor}
 use Rattle.edits.specs.declared.delete.Way.{Way}
 use Rattle.edits.specs.declared.delete.Manner.{Manner}
 use Rattle.edits.specs.declared.delete.Manner.the-variants.{Items, Rising, Unsorted, Neither}
-use Rattle.edits.specs.declared.delete.Sizes.{Sizes}
+use Rattle.edits.specs.declared.members.Sizes.{Sizes}
 
 -- The bytes of what is left of a container, by its bytes.
 abbrev pub left-payload : Option Tree → Bytes
@@ -136,33 +136,6 @@ manner-of (Array n) s = Items n
 manner-of (Object n) s = cond (rising-parts (parts-at s 0 (4 + 4 * (n + n)) n)) (Rising n) (Unsorted n)
 manner-of (Scalar n) s = Neither
 manner-of (Refused r) s = Neither
-
--- Members in byte order, and their sizes.
-abbrev pub in-turn : Bytes → Places → ℕ → Kept → List MemberAt
-in-turn s from n kept = sorted (name-in s) (kept-of kept 0 (members-at s s from n))
-
-abbrev pub sizes-of : Bytes → List MemberAt → Sizes
-sizes-of s xs =
-    record { count = length xs; keys = length (column (name-in s) xs); vals = length (column (value-in s) xs) }
-
--- The places of the members of an object, in its record and in one that is written anew.
-abbrev pub members-of : Bytes → ℕ → Places
-members-of s n =
-    record {
-      «key_jentry» = 4;
-      «val_jentry» = 4 + 4 * n;
-      key = 4 + 4 * (n + n);
-      val = 4 + 4 * (n + n) + lengths s 0 n;
-    }
-
-abbrev pub places-for : Sizes → ℕ → Places
-places-for z at =
-    record {
-      «key_jentry» = at + 4;
-      «val_jentry» = at + 4 + 4 * z .count;
-      key = at + 4 + 4 * z .count + 4 * z .count;
-      val = at + 4 + 4 * z .count + 4 * z .count + z .keys;
-    }
 
 -- The name of member `k`.
 abbrev pub name-of : Bytes → ℕ → ℕ → Bytes

@@ -12,4 +12,8 @@ pub mod C
 pub mod Steps
 pub mod Spot
 pub mod Held
+pub mod Members
 pub mod Cut
+pub mod Stripping
+pub mod Joining
+pub mod Merge

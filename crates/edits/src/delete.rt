@@ -5,6 +5,9 @@ use crate::find::Spot;
 use crate::find::find_step;
 use crate::find::part_behind;
 use crate::find::place_after;
+use crate::members::measure_members;
+use crate::members::members_of;
+use crate::members::places_for;
 use builders::names::is_same;
 use builders::search::Found;
 use builders::search::Kept;
@@ -53,9 +56,9 @@ ghost use Rattle.edits.specs.Held.{finding};
 ghost use Rattle.edits.specs.Cut.{Left, LedTo, LeftBy, Cuts, Onward, InRuns, Table, PartOf, without, «without-member» as withoutMember};
 ghost use Rattle.edits.specs.Cut.{«left-of» as leftOf, «steps-from» as stepsFrom, «parts-of» as partsOf};
 ghost use Rattle.edits.specs.Cut.{«run-entries» as runEntries, «run-payloads» as runPayloads, «run-behind» as runBehind};
-ghost use Rattle.edits.specs.Cut.{«members-of» as membersOf, «places-for» as placesFor, «name-of» as nameOf};
+ghost use Rattle.edits.specs.Cut.{«name-of» as nameOf};
 ghost use Rattle.edits.specs.Cut.{«way-behind» as wayBehind, «anew-value» as anewValue, «anew-entry» as anewEntry};
-ghost use Rattle.edits.specs.Cut.{«manner-of» as mannerOf, «in-turn» as inTurn, «sizes-of» as sizesOf};
+ghost use Rattle.edits.specs.Cut.{«manner-of» as mannerOf};
 
 // The places of the entry and of the payload that are stored next.
 pub struct Cursor {
@@ -76,13 +79,6 @@ pub enum Manner {
     Rising(usize),
     Unsorted(usize),
     Neither,
-}
-
-// How many members are written anew, and how long their names and values are.
-pub struct Sizes {
-    pub count: usize,
-    pub keys: usize,
-    pub vals: usize,
 }
 
 // The manner of a record's container; a scalar, or what is no record, has none.
@@ -178,51 +174,6 @@ fn put_object_without(s: &[u8], n: usize, val: PartAt, out: &mut [u8], at: usize
     end.place - at
 }
 
-// The places of the members of an object.
-fn members_of(s: &[u8], n: usize) -> Places
-    requires { ⌜ n < 2 ^ 29 ⌝ }
-    ensures { λ r. ⌜ r ≡ membersOf (now (s .entry)) n ⌝ }
-{
-    let first = PartAt {
-        index: 0,
-        place: HEADER_SIZE + JENTRY_SIZE * (n + n),
-    };
-    Places {
-        key_jentry: HEADER_SIZE,
-        val_jentry: HEADER_SIZE + JENTRY_SIZE * n,
-        key: first.place,
-        val: place_after(s, first, n),
-    }
-}
-
-// The sizes of the members in byte order, those left out aside, of equal names the first.
-fn measure_members(s: &[u8], from: Places, n: usize, kept: Kept) -> Sizes
-    requires { ⌜ (n < 2 ^ 29)
-        × (from .«key_jentry» < 2 ^ 32) × (from .«val_jentry» < 2 ^ 32) × (from .key < 2 ^ 32) × (from .val < 2 ^ 32) ⌝ }
-    ensures { λ r. ⌜ r ≡ sizesOf (now (s .entry)) (inTurn (now (s .entry)) from n kept) ⌝ }
-{
-    let mut last = slice(s, 0, 0);
-    let mut sizes = Sizes {
-        count: 0,
-        keys: 0,
-        vals: 0,
-    };
-    let mut i = 0;
-    while i < n {
-        let Found::At(member) = next_member(s, s, from, n, kept, i == 0, last) else {
-            return sizes;
-        };
-        last = payload_at(s, member.key);
-        sizes = Sizes {
-            count: sizes.count + 1,
-            keys: sizes.keys + last.len(),
-            vals: sizes.vals + payload_at(s, member.val).len(),
-        };
-        i += 1;
-    }
-    sizes
-}
-
 // The name of member k of n.
 fn name_of(s: &[u8], n: usize, k: usize) -> &[u8]
     requires { ⌜ (n < 2 ^ 29) × (k < n) ⌝ }
@@ -237,20 +188,6 @@ fn name_of(s: &[u8], n: usize, k: usize) -> &[u8]
         place_after(s, first, k),
         payload_len(read_jentry(s, k)) as usize,
     )
-}
-
-// Where an object of these sizes stores its members.
-fn places_for(sizes: Sizes, at: usize) -> Places
-    requires { ⌜ (sizes .count < 2 ^ 29) × (sizes .keys < 2 ^ 60) × (at ≤ 2 ^ 23) ⌝ }
-    ensures { λ r. ⌜ r ≡ placesFor sizes at ⌝ }
-{
-    let start = at + HEADER_SIZE + JENTRY_SIZE * sizes.count;
-    Places {
-        key_jentry: at + HEADER_SIZE,
-        val_jentry: start,
-        key: start + JENTRY_SIZE * sizes.count,
-        val: start + JENTRY_SIZE * sizes.count + sizes.keys,
-    }
 }
 
 // Stores an object of n members in byte order of the names, without the member with this value, and gives its length.

@@ -1,6 +1,10 @@
-// The edits: look-up and delete by a path, and the functions for C.
+// The edits: look-up and delete by a path, concat, strip, and the functions for C.
 pub mod c;
 pub mod delete;
 pub mod find;
 pub mod keypath;
+pub mod members;
+pub mod merge;
+pub mod operator;
 pub mod path;
+pub mod strip;

@@ -87,7 +87,7 @@ fn find_path(s: &[u8], path: &[u8], n: usize) -> Item
 }
 
 // Stores bytes as they are, where there is room for them.
-fn write_copy(s: &[u8], out: &mut [u8]) -> Ending
+pub(crate) fn write_copy(s: &[u8], out: &mut [u8]) -> Ending
     ensures { λ e. ⌜ Ended e (now (out .entry)) (now (out .exit)) (into (length (now (out .entry))) (now (s .entry))) ⌝ }
 {
     if out.len() < s.len() {

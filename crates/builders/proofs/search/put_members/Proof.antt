@@ -25,7 +25,7 @@ returns : tie.Need-returns Inv-loop μ-loop
 returns c = ends-early _ _ _ _ _ _ _ _ _ _ (c .before .before .before .before .loop .inv) _ (c .before .before .next-member .ensures) (c .enum-told .given .1)
 
 put-member-requires : tie.Need-put-member-requires Inv-loop μ-loop
-put-member-requires c κs = let l = c .before .before .before .before .before .before .loop .inv in omega (arith, l .near-key-jentry, l .val-jentry, l .near-key, l .near-val, c .before .before .before .before .before .before .before .before .before .before .before .pre, c .before .before .before .before .before .loop-test .taken)
+put-member-requires c κs = let l = c .before .before .before .before .before .before .loop .inv in omega (arith, l .key-jentry, l .val-jentry, l .near-key, l .near-val, c .before .before .before .before .before .before .before .before .before .before .before .pre, c .before .before .before .before .before .loop-test .taken)
 
 add-i : tie.Need-add-i Inv-loop μ-loop
 add-i c = omega (arith, c .before .before .before .before .before .before .before .before .before .before .before .before .before .before .before .pre, c .before .before .before .before .before .before .before .before .before .loop-test .taken)

@@ -44,10 +44,10 @@ use Rattle.builders.proofs.search.next_member.Reads as next-member-reads
 use Rattle.builders.proofs.search.payload_at.Reads as payload-at-reads
 use Rattle.builders.proofs.search.put_member.Reads as put-member-reads
 use Rattle.edits.proofs.delete.manner_of.Reads as manner-of-reads
-use Rattle.edits.proofs.delete.measure_members.Reads as measure-members-reads
-use Rattle.edits.proofs.delete.members_of.Reads as members-of-reads
+use Rattle.edits.proofs.members.measure_members.Reads as measure-members-reads
+use Rattle.edits.proofs.members.members_of.Reads as members-of-reads
 use Rattle.edits.proofs.delete.name_of.Reads as name-of-reads
-use Rattle.edits.proofs.delete.places_for.Reads as places-for-reads
+use Rattle.edits.proofs.members.places_for.Reads as places-for-reads
 use Rattle.edits.proofs.delete.put_run.Reads as put-run-reads
 use Rattle.edits.proofs.delete.put_without.Reads as put-without-reads
 use Rattle.edits.proofs.delete.way_behind.Reads as way-behind-reads
@@ -381,7 +381,7 @@ put-sorted-anew-put-member-anew-requires :
       payload-at-reads.Asked,
       payload-at-reads.Learnt,
     ) (put-sorted-anew-at t) put-sorted-anew.Post put-sorted-anew-Inv-loop put-sorted-anew-μ-loop
-put-sorted-anew-put-member-anew-requires t c κs = let v = at-value (c .before .before .before .before .before .before .before .before .before .before .before .before .before .before .before .before .before .before .before .before .before .before .args .s .now) (c .before .before .before .before .before .before .before .before .before .before .before .before .before .before .before .before .before .before .before .before .before .before .args .path .now) (c .before .before .before .before .before .before .before .before .before .before .before .before .before .before .before .before .before .before .before .before .before .before .args .n) (c .before .before .before .before .before .before .before .before .before .before .before .before .before .before .before .before .before .before .before .before .before .before .args .val) (c .before .before .before .before .before .before .before .before .before .before .before .before .before .before .before .before .before .before .before .before .before .before .args .way) (c .before .before .before .before .before .before .before .before .before .before .before .before .before .before .before .before .before .before .before .before .before .before .args .allowance) (octets-of (c .before .before .before .before .before .before .before .before .before .before .before .before .before .before .before .before .before .before .before .before .before .before .args .s .now) (λ i. omega (arith, c .before .before .before .before .before .before .before .before .before .before .before .before .before .before .before .before .before .before .before .before .before .shared-slice-known .given i))) (c .before .before .before .before .before .before .before .before .before .before .before .before .before .before .before .before .before .before .before .before .before .before .pre .1 .0) (c .before .before .before .before .before .before .before .before .before .before .before .before .before .before .before .before .before .before .before .before .before .before .pre .1 .1) (c .before .before .before .before .before .before .before .before .before .before .before .before .before .before .before .before .before .before .before .before .before .before .pre .1 .2) in let g = anew-room (c .before .before .before .before .before .before .before .before .before .before .before .before .before .before .before .before .before .before .before .before .before .before .args .s .now) (c .before .before .before .before .before .before .before .before .before .before .before .before .before .before .before .before .before .before .before .before .before .before .args .path .now) (c .before .before .before .before .before .before .before .before .before .before .before .before .before .before .before .before .before .before .before .before .before .before .args .n) (c .before .before .before .before .before .before .before .before .before .before .before .before .before .before .before .before .before .before .before .before .before .before .args .val) (c .before .before .before .before .before .before .before .before .before .before .before .before .before .before .before .before .before .before .before .before .before .before .args .way) (c .before .before .before .before .before .before .before .before .before .before .before .before .before .before .before .before .before .before .before .before .before .before .args .allowance) (octets-of (c .before .before .before .before .before .before .before .before .before .before .before .before .before .before .before .before .before .before .before .before .before .before .args .s .now) (λ i. omega (arith, c .before .before .before .before .before .before .before .before .before .before .before .before .before .before .before .before .before .before .before .before .before .shared-slice-known .given i))) (c .before .before .before .before .before .before .before .before .before .before .before .before .before .before .before .before .before .before .before .before .before .before .pre .1 .0) (c .before .before .before .before .before .before .before .before .before .before .before .before .before .before .before .before .before .before .before .before .before .before .pre .1 .1) (c .before .before .before .before .before .before .before .before .before .before .before .before .before .before .before .before .before .before .before .before .before .before .pre .1 .2) _ _ _ _ (c .before .before .before .before .before .before .before .before .before .before .before .before .before .before .before .before .before .before .members-of .ensures) (c .before .before .before .before .before .before .before .before .before .before .before .before .before .before .measure-members .ensures) (c .before .before .before .before .before .before .before .before .before .before .before .before .before .before .before .way-behind .ensures) (c .before .before .before .before .before .before .before .before .before .before .before .before .before .before .before .before .name-of .ensures) in let t0 = ap (λ (x : Places). x .«key_jentry») (c .before .before .before .before .before .before .before .before .before .before .before .before .before .places-for .ensures) in let t1 = ap (λ (x : Places). x .«val_jentry») (c .before .before .before .before .before .before .before .before .before .before .before .before .before .places-for .ensures) in let t2 = ap (λ (x : Places). x .key) (c .before .before .before .before .before .before .before .before .before .before .before .before .before .places-for .ensures) in let t3 = ap (λ (x : Places). x .val) (c .before .before .before .before .before .before .before .before .before .before .before .before .before .places-for .ensures) in let a = allows (c .before .before .before .before .before .before .before .before .before .before .before .before .before .before .before .before .before .before .before .before .before .before .args .s .now) (c .before .before .before .before .before .before .before .before .before .before .before .before .before .before .before .before .before .before .before .before .before .before .args .path .now) (c .before .before .before .before .before .before .before .before .before .before .before .before .before .before .before .before .before .before .before .before .before .before .args .n) (c .before .before .before .before .before .before .before .before .before .before .before .before .before .before .before .before .before .before .before .before .before .before .args .val) (c .before .before .before .before .before .before .before .before .before .before .before .before .before .before .before .before .before .before .before .before .before .before .args .way) (c .before .before .before .before .before .before .before .before .before .before .before .before .before .before .before .before .before .before .before .before .before .before .args .allowance) (octets-of (c .before .before .before .before .before .before .before .before .before .before .before .before .before .before .before .before .before .before .before .before .before .before .args .s .now) (λ i. omega (arith, c .before .before .before .before .before .before .before .before .before .before .before .before .before .before .before .before .before .before .before .before .before .shared-slice-known .given i))) (c .before .before .before .before .before .before .before .before .before .before .before .before .before .before .before .before .before .before .before .before .before .before .pre .1 .0) (c .before .before .before .before .before .before .before .before .before .before .before .before .before .before .before .before .before .before .before .before .before .before .pre .1 .1) (c .before .before .before .before .before .before .before .before .before .before .before .before .before .before .before .before .before .before .before .before .before .before .pre .1 .2) in let k = anew-count (c .before .before .before .before .before .before .before .before .before .before .before .before .before .before .before .before .before .before .before .before .before .before .args .s .now) (c .before .before .before .before .before .before .before .before .before .before .before .before .before .before .before .before .before .before .before .before .before .before .args .path .now) (c .before .before .before .before .before .before .before .before .before .before .before .before .before .before .before .before .before .before .before .before .before .before .args .n) (c .before .before .before .before .before .before .before .before .before .before .before .before .before .before .before .before .before .before .before .before .before .before .args .val) (c .before .before .before .before .before .before .before .before .before .before .before .before .before .before .before .before .before .before .before .before .before .before .args .way) (c .before .before .before .before .before .before .before .before .before .before .before .before .before .before .before .before .before .before .before .before .before .before .args .allowance) (octets-of (c .before .before .before .before .before .before .before .before .before .before .before .before .before .before .before .before .before .before .before .before .before .before .args .s .now) (λ i. omega (arith, c .before .before .before .before .before .before .before .before .before .before .before .before .before .before .before .before .before .before .before .before .before .shared-slice-known .given i))) (c .before .before .before .before .before .before .before .before .before .before .before .before .before .before .before .before .before .before .before .before .before .before .pre .1 .0) (c .before .before .before .before .before .before .before .before .before .before .before .before .before .before .before .before .before .before .before .before .before .before .pre .1 .1) (c .before .before .before .before .before .before .before .before .before .before .before .before .before .before .before .before .before .before .before .before .before .before .pre .1 .2) _ _ _ _ (c .before .before .before .before .before .before .before .before .before .before .before .before .before .before .before .before .before .before .members-of .ensures) (c .before .before .before .before .before .before .before .before .before .before .before .before .before .before .measure-members .ensures) (c .before .before .before .before .before .before .before .before .before .before .before .before .before .before .before .way-behind .ensures) (c .before .before .before .before .before .before .before .before .before .before .before .before .before .before .before .before .name-of .ensures) _ _ (sought-nth (name-in (c .before .before .before .before .before .before .before .before .before .before .before .before .before .before .before .before .before .before .before .before .before .before .args .s .now)) _ _ _ (c .before .before .before .before .before .before .loop .inv .sought) _ (c .before .before .before .before .next-member .ensures) _ (c .before .before .member .given .1)) in (omega (arith, a, c .before .before .before .before .before .before .before .before .before .before .before .before .before .before .before .before .before .before .before .before .before .before .pre .0), (omega (arith, c .before .before .before .before .before .before .loop .inv .near-key-jentry, c .before .before .before .before .before .before .loop .inv .val-jentry, c .before .before .before .before .before .before .loop .inv .near-key, c .before .before .before .before .before .before .loop .inv .near-val, c .before .before .before .before .before .before .loop .inv .key-on, c .before .before .before .before .before .before .loop .inv .val-on, c .before .before .before .before .before .before .loop .inv .val-rest, t0, k, g, c .before .before .before .before .before .before .before .before .before .before .before .before .before .before .before .before .before .before .before .before .before .before .pre .1 .3, c .before .before .before .before .before .before .before .before .before .before .before .before .before .before .before .before .before .before .before .before .before .before .pre .1 .0 .allowed), omega (arith, c .before .before .before .before .before .before .loop .inv .near-key-jentry, c .before .before .before .before .before .before .loop .inv .val-jentry, c .before .before .before .before .before .before .loop .inv .near-key, c .before .before .before .before .before .before .loop .inv .near-val, c .before .before .before .before .before .before .loop .inv .key-on, c .before .before .before .before .before .before .loop .inv .val-on, c .before .before .before .before .before .before .loop .inv .val-rest, t2, k, g, c .before .before .before .before .before .before .before .before .before .before .before .before .before .before .before .before .before .before .before .before .before .before .pre .1 .3, c .before .before .before .before .before .before .before .before .before .before .before .before .before .before .before .before .before .before .before .before .before .before .pre .1 .0 .allowed), omega (arith, c .before .before .before .before .before .before .loop .inv .near-key-jentry, c .before .before .before .before .before .before .loop .inv .val-jentry, c .before .before .before .before .before .before .loop .inv .near-key, c .before .before .before .before .before .before .loop .inv .near-val, c .before .before .before .before .before .before .loop .inv .key-on, c .before .before .before .before .before .before .loop .inv .val-on, c .before .before .before .before .before .before .loop .inv .val-rest, t3, k, g, c .before .before .before .before .before .before .before .before .before .before .before .before .before .before .before .before .before .before .before .before .before .before .pre .1 .3, c .before .before .before .before .before .before .before .before .before .before .before .before .before .before .before .before .before .before .before .before .before .before .pre .1 .0 .allowed), omega (arith, c .before .before .before .before .before .before .loop .inv .near-key-jentry, c .before .before .before .before .before .before .loop .inv .val-jentry, c .before .before .before .before .before .before .loop .inv .near-key, c .before .before .before .before .before .before .loop .inv .near-val, c .before .before .before .before .before .before .loop .inv .key-on, c .before .before .before .before .before .before .loop .inv .val-on, c .before .before .before .before .before .before .loop .inv .val-rest, t1, t2, k), omega (arith, c .before .before .before .before .before .before .loop .inv .near-key-jentry, c .before .before .before .before .before .before .loop .inv .val-jentry, c .before .before .before .before .before .before .loop .inv .near-key, c .before .before .before .before .before .before .loop .inv .near-val, c .before .before .before .before .before .before .loop .inv .key-on, c .before .before .before .before .before .before .loop .inv .val-on, c .before .before .before .before .before .before .loop .inv .val-rest, t1, t3, k), λ q. (anew-cuts (c .before .before .before .before .before .before .before .before .before .before .before .before .before .before .before .before .before .before .before .before .before .before .args .s .now) (c .before .before .before .before .before .before .before .before .before .before .before .before .before .before .before .before .before .before .before .before .before .before .args .path .now) (c .before .before .before .before .before .before .before .before .before .before .before .before .before .before .before .before .before .before .before .before .before .before .args .n) (c .before .before .before .before .before .before .before .before .before .before .before .before .before .before .before .before .before .before .before .before .before .before .args .val) (c .before .before .before .before .before .before .before .before .before .before .before .before .before .before .before .before .before .before .before .before .before .before .args .way) (c .before .before .before .before .before .before .before .before .before .before .before .before .before .before .before .before .before .before .before .before .before .before .args .allowance) (octets-of (c .before .before .before .before .before .before .before .before .before .before .before .before .before .before .before .before .before .before .before .before .before .before .args .s .now) (λ i. omega (arith, c .before .before .before .before .before .before .before .before .before .before .before .before .before .before .before .before .before .before .before .before .before .shared-slice-known .given i))) (c .before .before .before .before .before .before .before .before .before .before .before .before .before .before .before .before .before .before .before .before .before .before .pre .1 .0) (c .before .before .before .before .before .before .before .before .before .before .before .before .before .before .before .before .before .before .before .before .before .before .pre .1 .1) (c .before .before .before .before .before .before .before .before .before .before .before .before .before .before .before .before .before .before .before .before .before .before .pre .1 .2) _ _ _ _ (c .before .before .before .before .before .before .before .before .before .before .before .before .before .before .before .before .before .before .members-of .ensures) (c .before .before .before .before .before .before .before .before .before .before .before .before .before .before .measure-members .ensures) (c .before .before .before .before .before .before .before .before .before .before .before .before .before .before .before .way-behind .ensures) (c .before .before .before .before .before .before .before .before .before .before .before .before .before .before .before .before .name-of .ensures) _ _ (sought-nth (name-in (c .before .before .before .before .before .before .before .before .before .before .before .before .before .before .before .before .before .before .before .before .before .before .args .s .now)) _ _ _ (c .before .before .before .before .before .before .loop .inv .sought) _ (c .before .before .before .before .next-member .ensures) _ (c .before .before .member .given .1)) q, omega (arith, c .before .before .before .before .before .before .loop .inv .near-key-jentry, c .before .before .before .before .before .before .loop .inv .val-jentry, c .before .before .before .before .before .before .loop .inv .near-key, c .before .before .before .before .before .before .loop .inv .near-val, c .before .before .before .before .before .before .loop .inv .key-on, c .before .before .before .before .before .before .loop .inv .val-on, c .before .before .before .before .before .before .loop .inv .val-rest, t3, g, a, c .before .before .before .before .before .before .before .before .before .before .before .before .before .before .before .before .before .before .before .before .before .before .pre .1 .3, c .before .before .before .before .before .before .before .before .before .before .before .before .before .before .before .before .before .before .before .before .before .before .pre .1 .0 .allowed))))
+put-sorted-anew-put-member-anew-requires t c κs = let v = at-value (c .before .before .before .before .before .before .before .before .before .before .before .before .before .before .before .before .before .before .before .before .before .before .args .s .now) (c .before .before .before .before .before .before .before .before .before .before .before .before .before .before .before .before .before .before .before .before .before .before .args .path .now) (c .before .before .before .before .before .before .before .before .before .before .before .before .before .before .before .before .before .before .before .before .before .before .args .n) (c .before .before .before .before .before .before .before .before .before .before .before .before .before .before .before .before .before .before .before .before .before .before .args .val) (c .before .before .before .before .before .before .before .before .before .before .before .before .before .before .before .before .before .before .before .before .before .before .args .way) (c .before .before .before .before .before .before .before .before .before .before .before .before .before .before .before .before .before .before .before .before .before .before .args .allowance) (octets-of (c .before .before .before .before .before .before .before .before .before .before .before .before .before .before .before .before .before .before .before .before .before .before .args .s .now) (λ i. omega (arith, c .before .before .before .before .before .before .before .before .before .before .before .before .before .before .before .before .before .before .before .before .before .shared-slice-known .given i))) (c .before .before .before .before .before .before .before .before .before .before .before .before .before .before .before .before .before .before .before .before .before .before .pre .1 .0) (c .before .before .before .before .before .before .before .before .before .before .before .before .before .before .before .before .before .before .before .before .before .before .pre .1 .1) (c .before .before .before .before .before .before .before .before .before .before .before .before .before .before .before .before .before .before .before .before .before .before .pre .1 .2) in let g = anew-room (c .before .before .before .before .before .before .before .before .before .before .before .before .before .before .before .before .before .before .before .before .before .before .args .s .now) (c .before .before .before .before .before .before .before .before .before .before .before .before .before .before .before .before .before .before .before .before .before .before .args .path .now) (c .before .before .before .before .before .before .before .before .before .before .before .before .before .before .before .before .before .before .before .before .before .before .args .n) (c .before .before .before .before .before .before .before .before .before .before .before .before .before .before .before .before .before .before .before .before .before .before .args .val) (c .before .before .before .before .before .before .before .before .before .before .before .before .before .before .before .before .before .before .before .before .before .before .args .way) (c .before .before .before .before .before .before .before .before .before .before .before .before .before .before .before .before .before .before .before .before .before .before .args .allowance) (octets-of (c .before .before .before .before .before .before .before .before .before .before .before .before .before .before .before .before .before .before .before .before .before .before .args .s .now) (λ i. omega (arith, c .before .before .before .before .before .before .before .before .before .before .before .before .before .before .before .before .before .before .before .before .before .shared-slice-known .given i))) (c .before .before .before .before .before .before .before .before .before .before .before .before .before .before .before .before .before .before .before .before .before .before .pre .1 .0) (c .before .before .before .before .before .before .before .before .before .before .before .before .before .before .before .before .before .before .before .before .before .before .pre .1 .1) (c .before .before .before .before .before .before .before .before .before .before .before .before .before .before .before .before .before .before .before .before .before .before .pre .1 .2) _ _ _ _ (c .before .before .before .before .before .before .before .before .before .before .before .before .before .before .before .before .before .before .members-of .ensures) (c .before .before .before .before .before .before .before .before .before .before .before .before .before .before .measure-members .ensures) (c .before .before .before .before .before .before .before .before .before .before .before .before .before .before .before .way-behind .ensures) (c .before .before .before .before .before .before .before .before .before .before .before .before .before .before .before .before .name-of .ensures) in let t0 = ap (λ (x : Places). x .«key_jentry») (c .before .before .before .before .before .before .before .before .before .before .before .before .before .places-for .ensures) in let t1 = ap (λ (x : Places). x .«val_jentry») (c .before .before .before .before .before .before .before .before .before .before .before .before .before .places-for .ensures) in let t2 = ap (λ (x : Places). x .key) (c .before .before .before .before .before .before .before .before .before .before .before .before .before .places-for .ensures) in let t3 = ap (λ (x : Places). x .val) (c .before .before .before .before .before .before .before .before .before .before .before .before .before .places-for .ensures) in let a = allows (c .before .before .before .before .before .before .before .before .before .before .before .before .before .before .before .before .before .before .before .before .before .before .args .s .now) (c .before .before .before .before .before .before .before .before .before .before .before .before .before .before .before .before .before .before .before .before .before .before .args .path .now) (c .before .before .before .before .before .before .before .before .before .before .before .before .before .before .before .before .before .before .before .before .before .before .args .n) (c .before .before .before .before .before .before .before .before .before .before .before .before .before .before .before .before .before .before .before .before .before .before .args .val) (c .before .before .before .before .before .before .before .before .before .before .before .before .before .before .before .before .before .before .before .before .before .before .args .way) (c .before .before .before .before .before .before .before .before .before .before .before .before .before .before .before .before .before .before .before .before .before .before .args .allowance) (octets-of (c .before .before .before .before .before .before .before .before .before .before .before .before .before .before .before .before .before .before .before .before .before .before .args .s .now) (λ i. omega (arith, c .before .before .before .before .before .before .before .before .before .before .before .before .before .before .before .before .before .before .before .before .before .shared-slice-known .given i))) (c .before .before .before .before .before .before .before .before .before .before .before .before .before .before .before .before .before .before .before .before .before .before .pre .1 .0) (c .before .before .before .before .before .before .before .before .before .before .before .before .before .before .before .before .before .before .before .before .before .before .pre .1 .1) (c .before .before .before .before .before .before .before .before .before .before .before .before .before .before .before .before .before .before .before .before .before .before .pre .1 .2) in let k = anew-count (c .before .before .before .before .before .before .before .before .before .before .before .before .before .before .before .before .before .before .before .before .before .before .args .s .now) (c .before .before .before .before .before .before .before .before .before .before .before .before .before .before .before .before .before .before .before .before .before .before .args .path .now) (c .before .before .before .before .before .before .before .before .before .before .before .before .before .before .before .before .before .before .before .before .before .before .args .n) (c .before .before .before .before .before .before .before .before .before .before .before .before .before .before .before .before .before .before .before .before .before .before .args .val) (c .before .before .before .before .before .before .before .before .before .before .before .before .before .before .before .before .before .before .before .before .before .before .args .way) (c .before .before .before .before .before .before .before .before .before .before .before .before .before .before .before .before .before .before .before .before .before .before .args .allowance) (octets-of (c .before .before .before .before .before .before .before .before .before .before .before .before .before .before .before .before .before .before .before .before .before .before .args .s .now) (λ i. omega (arith, c .before .before .before .before .before .before .before .before .before .before .before .before .before .before .before .before .before .before .before .before .before .shared-slice-known .given i))) (c .before .before .before .before .before .before .before .before .before .before .before .before .before .before .before .before .before .before .before .before .before .before .pre .1 .0) (c .before .before .before .before .before .before .before .before .before .before .before .before .before .before .before .before .before .before .before .before .before .before .pre .1 .1) (c .before .before .before .before .before .before .before .before .before .before .before .before .before .before .before .before .before .before .before .before .before .before .pre .1 .2) _ _ _ _ (c .before .before .before .before .before .before .before .before .before .before .before .before .before .before .before .before .before .before .members-of .ensures) (c .before .before .before .before .before .before .before .before .before .before .before .before .before .before .measure-members .ensures) (c .before .before .before .before .before .before .before .before .before .before .before .before .before .before .before .way-behind .ensures) (c .before .before .before .before .before .before .before .before .before .before .before .before .before .before .before .before .name-of .ensures) _ _ (sought-nth (name-in (c .before .before .before .before .before .before .before .before .before .before .before .before .before .before .before .before .before .before .before .before .before .before .args .s .now)) _ _ _ (c .before .before .before .before .before .before .loop .inv .sought) _ (c .before .before .before .before .next-member .ensures) _ (c .before .before .member .given .1)) in (omega (arith, a, c .before .before .before .before .before .before .before .before .before .before .before .before .before .before .before .before .before .before .before .before .before .before .pre .0), (omega (arith, c .before .before .before .before .before .before .loop .inv .key-jentry, c .before .before .before .before .before .before .loop .inv .val-jentry, c .before .before .before .before .before .before .loop .inv .near-key, c .before .before .before .before .before .before .loop .inv .near-val, c .before .before .before .before .before .before .loop .inv .key-on, c .before .before .before .before .before .before .loop .inv .val-on, c .before .before .before .before .before .before .loop .inv .val-rest, t0, k, g, c .before .before .before .before .before .before .before .before .before .before .before .before .before .before .before .before .before .before .before .before .before .before .pre .1 .3, c .before .before .before .before .before .before .before .before .before .before .before .before .before .before .before .before .before .before .before .before .before .before .pre .1 .0 .allowed), omega (arith, c .before .before .before .before .before .before .loop .inv .key-jentry, c .before .before .before .before .before .before .loop .inv .val-jentry, c .before .before .before .before .before .before .loop .inv .near-key, c .before .before .before .before .before .before .loop .inv .near-val, c .before .before .before .before .before .before .loop .inv .key-on, c .before .before .before .before .before .before .loop .inv .val-on, c .before .before .before .before .before .before .loop .inv .val-rest, t2, k, g, c .before .before .before .before .before .before .before .before .before .before .before .before .before .before .before .before .before .before .before .before .before .before .pre .1 .3, c .before .before .before .before .before .before .before .before .before .before .before .before .before .before .before .before .before .before .before .before .before .before .pre .1 .0 .allowed), omega (arith, c .before .before .before .before .before .before .loop .inv .key-jentry, c .before .before .before .before .before .before .loop .inv .val-jentry, c .before .before .before .before .before .before .loop .inv .near-key, c .before .before .before .before .before .before .loop .inv .near-val, c .before .before .before .before .before .before .loop .inv .key-on, c .before .before .before .before .before .before .loop .inv .val-on, c .before .before .before .before .before .before .loop .inv .val-rest, t3, k, g, c .before .before .before .before .before .before .before .before .before .before .before .before .before .before .before .before .before .before .before .before .before .before .pre .1 .3, c .before .before .before .before .before .before .before .before .before .before .before .before .before .before .before .before .before .before .before .before .before .before .pre .1 .0 .allowed), omega (arith, c .before .before .before .before .before .before .loop .inv .key-jentry, c .before .before .before .before .before .before .loop .inv .val-jentry, c .before .before .before .before .before .before .loop .inv .near-key, c .before .before .before .before .before .before .loop .inv .near-val, c .before .before .before .before .before .before .loop .inv .key-on, c .before .before .before .before .before .before .loop .inv .val-on, c .before .before .before .before .before .before .loop .inv .val-rest, t1, t2, k), omega (arith, c .before .before .before .before .before .before .loop .inv .key-jentry, c .before .before .before .before .before .before .loop .inv .val-jentry, c .before .before .before .before .before .before .loop .inv .near-key, c .before .before .before .before .before .before .loop .inv .near-val, c .before .before .before .before .before .before .loop .inv .key-on, c .before .before .before .before .before .before .loop .inv .val-on, c .before .before .before .before .before .before .loop .inv .val-rest, t1, t3, k), λ q. (anew-cuts (c .before .before .before .before .before .before .before .before .before .before .before .before .before .before .before .before .before .before .before .before .before .before .args .s .now) (c .before .before .before .before .before .before .before .before .before .before .before .before .before .before .before .before .before .before .before .before .before .before .args .path .now) (c .before .before .before .before .before .before .before .before .before .before .before .before .before .before .before .before .before .before .before .before .before .before .args .n) (c .before .before .before .before .before .before .before .before .before .before .before .before .before .before .before .before .before .before .before .before .before .before .args .val) (c .before .before .before .before .before .before .before .before .before .before .before .before .before .before .before .before .before .before .before .before .before .before .args .way) (c .before .before .before .before .before .before .before .before .before .before .before .before .before .before .before .before .before .before .before .before .before .before .args .allowance) (octets-of (c .before .before .before .before .before .before .before .before .before .before .before .before .before .before .before .before .before .before .before .before .before .before .args .s .now) (λ i. omega (arith, c .before .before .before .before .before .before .before .before .before .before .before .before .before .before .before .before .before .before .before .before .before .shared-slice-known .given i))) (c .before .before .before .before .before .before .before .before .before .before .before .before .before .before .before .before .before .before .before .before .before .before .pre .1 .0) (c .before .before .before .before .before .before .before .before .before .before .before .before .before .before .before .before .before .before .before .before .before .before .pre .1 .1) (c .before .before .before .before .before .before .before .before .before .before .before .before .before .before .before .before .before .before .before .before .before .before .pre .1 .2) _ _ _ _ (c .before .before .before .before .before .before .before .before .before .before .before .before .before .before .before .before .before .before .members-of .ensures) (c .before .before .before .before .before .before .before .before .before .before .before .before .before .before .measure-members .ensures) (c .before .before .before .before .before .before .before .before .before .before .before .before .before .before .before .way-behind .ensures) (c .before .before .before .before .before .before .before .before .before .before .before .before .before .before .before .before .name-of .ensures) _ _ (sought-nth (name-in (c .before .before .before .before .before .before .before .before .before .before .before .before .before .before .before .before .before .before .before .before .before .before .args .s .now)) _ _ _ (c .before .before .before .before .before .before .loop .inv .sought) _ (c .before .before .before .before .next-member .ensures) _ (c .before .before .member .given .1)) q, omega (arith, c .before .before .before .before .before .before .loop .inv .key-jentry, c .before .before .before .before .before .before .loop .inv .val-jentry, c .before .before .before .before .before .before .loop .inv .near-key, c .before .before .before .before .before .before .loop .inv .near-val, c .before .before .before .before .before .before .loop .inv .key-on, c .before .before .before .before .before .before .loop .inv .val-on, c .before .before .before .before .before .before .loop .inv .val-rest, t3, g, a, c .before .before .before .before .before .before .before .before .before .before .before .before .before .before .before .before .before .before .before .before .before .before .pre .1 .3, c .before .before .before .before .before .before .before .before .before .before .before .before .before .before .before .before .before .before .before .before .before .before .pre .1 .0 .allowed))))
 
 put-sorted-anew-add-i : (t : ℕ) → put-sorted-anew-lts.Need-add-i (put-sorted-anew-claims t) (put-sorted-anew-at t) put-sorted-anew.Post put-sorted-anew-Inv-loop put-sorted-anew-μ-loop
 put-sorted-anew-add-i t c = let v = at-value (c .before .before .before .before .before .before .before .before .before .before .before .before .before .before .before .before .before .before .before .before .before .before .before .before .before .before .args .s .now) (c .before .before .before .before .before .before .before .before .before .before .before .before .before .before .before .before .before .before .before .before .before .before .before .before .before .before .args .path .now) (c .before .before .before .before .before .before .before .before .before .before .before .before .before .before .before .before .before .before .before .before .before .before .before .before .before .before .args .n) (c .before .before .before .before .before .before .before .before .before .before .before .before .before .before .before .before .before .before .before .before .before .before .before .before .before .before .args .val) (c .before .before .before .before .before .before .before .before .before .before .before .before .before .before .before .before .before .before .before .before .before .before .before .before .before .before .args .way) (c .before .before .before .before .before .before .before .before .before .before .before .before .before .before .before .before .before .before .before .before .before .before .before .before .before .before .args .allowance) (octets-of (c .before .before .before .before .before .before .before .before .before .before .before .before .before .before .before .before .before .before .before .before .before .before .before .before .before .before .args .s .now) (λ i. omega (arith, c .before .before .before .before .before .before .before .before .before .before .before .before .before .before .before .before .before .before .before .before .before .before .before .before .before .shared-slice-known .given i))) (c .before .before .before .before .before .before .before .before .before .before .before .before .before .before .before .before .before .before .before .before .before .before .before .before .before .before .pre .1 .0) (c .before .before .before .before .before .before .before .before .before .before .before .before .before .before .before .before .before .before .before .before .before .before .before .before .before .before .pre .1 .1) (c .before .before .before .before .before .before .before .before .before .before .before .before .before .before .before .before .before .before .before .before .before .before .before .before .before .before .pre .1 .2) in omega (arith, c .before .before .before .before .before .before .before .before .before .loop-test .taken, v .table, v .short)

@@ -1,12 +1,12 @@
--- `edits::delete::measure_members` meets its contract.
+-- `edits::members::measure_members` meets its contract.
 use Prim.Native.Nat.{_-_}
 use native.Mathlib.Omega.{arith}
 use borrow.Author.Needs.{needs}
 use Rattle.builders.specs.Search.{members-at, kept-of}
 use Rattle.builders.proofs.Storing.{payload-short, few-searched}
 use Rattle.edits.proofs.Measures.{Measured, measured-none, measured-early, measured-full, measured-more}
-use Rattle.edits.proofs.delete.measure_members.Statement.{statement}
-use Rattle.edits.proofs.delete.measure_members.Tie as tie
+use Rattle.edits.proofs.members.measure_members.Statement.{statement}
+use Rattle.edits.proofs.members.measure_members.Tie as tie
 
 abbrev Inv-loop : tie.InvT-loop
 Inv-loop s from n kept last₀ sizes₀ i₀ last sizes i = Measured s (kept-of kept 0 (members-at s s from n)) last sizes i

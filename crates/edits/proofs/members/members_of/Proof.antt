@@ -1,8 +1,8 @@
--- `edits::delete::members_of` meets its contract.
+-- `edits::members::members_of` meets its contract.
 use Rattle.edits.proofs.Manners.{members-places}
 use borrow.Author.Needs.{needs}
-use Rattle.edits.proofs.delete.members_of.Statement.{statement}
-use Rattle.edits.proofs.delete.members_of.Tie as tie
+use Rattle.edits.proofs.members.members_of.Statement.{statement}
+use Rattle.edits.proofs.members.members_of.Tie as tie
 
 returns : tie.Need-returns
 returns c = members-places _ _ _ (c .place-after .ensures)

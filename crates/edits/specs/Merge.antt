@@ -1,0 +1,94 @@
+-- Two objects' members taken in turn, as the code of concat goes. proofs/Merges.antt ties it to `concat`.
+use Prim.Native.Nat.{ℕ, _+_, _*_, _≤_}
+use mathlib.Core.Path.{_≡_}
+use mathlib.Core.Bool.{false}
+use mathlib.Core.List.{List, [], _∷_, _++_}
+use lib.ListN.{length}
+use Rattle.layout.specs.Bytes.{Bytes}
+use Rattle.layout.specs.Read.{header, nested}
+use Rattle.layout.specs.Check.{checked}
+use Rattle.layout.specs.Order.{order}
+use Rattle.layout.specs.declared.check.Check.the-variants.{Readable}
+use Rattle.layout.specs.declared.util.Header.the-variants.{Object}
+use Rattle.builders.specs.Order.{by}
+use Rattle.builders.specs.Search.{bytes-at, name-in, value-in, members-at, Bound, start, after, sorted}
+use Rattle.builders.specs.Weave.{column}
+use Rattle.builders.specs.declared.search.ItemAt.{ItemAt}
+use Rattle.builders.specs.declared.search.Kept.the-variants.{All}
+use Rattle.builders.specs.declared.search.MemberAt.{MemberAt}
+use Rattle.builders.specs.declared.search.Places.{Places}
+use Rattle.edits.specs.Members.{members-of, Near, Next}
+use Rattle.edits.specs.declared.members.Ahead.{Ahead}
+use Rattle.edits.specs.declared.members.Taken.{Taken}
+use Rattle.edits.specs.declared.members.Taken.the-variants.{End as NoMember, Member}
+use Rattle.edits.specs.declared.merge.Sides.{Sides}
+use Rattle.edits.specs.declared.merge.Last.{Last}
+use Rattle.edits.specs.declared.merge.Last.the-variants.{Left as LastLeft, Right as LastRight, Nothing}
+use Rattle.edits.specs.declared.merge.Turn.{Turn}
+use Rattle.edits.specs.declared.merge.Turn.the-variants.{Left, Right, End}
+
+-- The bound that the last name taken sets.
+abbrev pub last-bound : Bytes → Bytes → Last → Bound
+last-bound l r (LastLeft k) = after (bytes-at l k)
+last-bound l r (LastRight k) = after (bytes-at r k)
+last-bound l r Nothing = start
+
+-- Which of the next members of both sides is taken.
+abbrev pub chosen : Bytes → Bytes → Sides → Taken → Taken → Turn
+chosen l r z NoMember NoMember = End
+chosen l r z NoMember (Member k b) = Right k (record { left = z .left; right = b })
+chosen l r z (Member m a) NoMember = Left m (record { left = a; right = z .right })
+chosen l r z (Member m a) (Member k b) =
+    by (order (name-in l m) (name-in r k))
+    (Left m (record { left = a; right = z .right }))
+    (Right k (record { left = a; right = b }))
+    (Right k (record { left = z .left; right = b }))
+
+pub record NextOf (l r : Bytes) (last : Last) (z : Sides) (t : Turn) : Type 0 where
+  pub left : Taken
+  pub right : Taken
+  pub left-next : Next l All (last-bound l r last) (z .left) left
+  pub right-next : Next r All (last-bound l r last) (z .right) right
+  pub is : t ≡ chosen l r z left right
+
+-- What a step asks of a side.
+abbrev pub Ready : Ahead → Type 0
+Ready a = Near a × (a .«is_rising» ≡ false → a .index ≡ 0)
+
+-- Readable objects of `m` and `n` members.
+pub record Objects (l : Bytes) (m : ℕ) (r : Bytes) (n : ℕ) : Type 0 where
+  pub left-readable : checked (nested 64 l) ≡ Readable
+  pub right-readable : checked (nested 64 r) ≡ Readable
+  pub left-short : length l ≤ 65536
+  pub right-short : length r ≤ 65536
+  pub left-object : header l ≡ Object m
+  pub right-object : header r ≡ Object n
+
+-- The members of both in one row, the right ones first. They stand in the bytes of the right one and those of the left one behind
+-- them.
+abbrev pub moved : ℕ → ItemAt → ItemAt
+moved k x = record { jentry = x .jentry; place = x .place + k }
+
+abbrev pub moved-member : ℕ → MemberAt → MemberAt
+moved-member k m = record { key = moved k (m .key); val = moved k (m .val) }
+
+abbrev pub moved-all : ℕ → List MemberAt → List MemberAt
+moved-all k [] = []
+moved-all k (m ∷ ms) = moved-member k m ∷ moved-all k ms
+
+abbrev pub in-a-row : Bytes → ℕ → Bytes → ℕ → List MemberAt
+in-a-row l m r n = members-at r r (members-of r n) n ++ moved-all (length r) (members-at l l (members-of l m) m)
+
+-- In byte order, of equal names the right one's.
+abbrev pub merged : Bytes → ℕ → Bytes → ℕ → List MemberAt
+merged l m r n = sorted (name-in (r ++ l)) (in-a-row l m r n)
+
+-- The places behind all of them.
+abbrev pub behind-all : Bytes → ℕ → Bytes → ℕ → Places → Places
+behind-all l m r n to =
+    record {
+      «key_jentry» = to .«key_jentry» + 4 * length (merged l m r n);
+      «val_jentry» = to .«val_jentry» + 4 * length (merged l m r n);
+      key = to .key + length (column (name-in (r ++ l)) (merged l m r n));
+      val = to .val + length (column (value-in (r ++ l)) (merged l m r n));
+    }

@@ -1,0 +1,164 @@
+// The members of an object, taken one by one in byte order of their names: as they stand where the names rise, else by the search.
+use crate::find::PartAt;
+use crate::find::place_after;
+use builders::search::Found;
+use builders::search::Kept;
+use builders::search::MemberAt;
+use builders::search::Places;
+use builders::search::is_kept;
+use builders::search::next_member;
+use builders::search::payload_at;
+use builders::search::read_member;
+use layout::constants::HEADER_SIZE;
+use layout::constants::JENTRY_SIZE;
+use layout::jentry::payload_len;
+use layout::sound::is_rising;
+use layout::util::slice;
+ghost use mathlib.Core.Path.{_≡_};
+ghost use mathlib.Core.Bool.{false};
+ghost use Prim.Native.Nat.{_+_, _^_, _≤_, _<_};
+ghost use Rattle.builders.specs.Search.{bound};
+ghost use Rattle.edits.specs.Members.{«members-of» as membersOf, «places-for» as placesFor};
+ghost use Rattle.edits.specs.Members.{«in-turn» as inTurn, «sizes-of» as sizesOf, «all-ahead» as allAhead};
+ghost use Rattle.edits.specs.Members.{Near, Stands, Next};
+
+// How many members are written anew, and how long their names and values are.
+pub struct Sizes {
+    pub count: usize,
+    pub keys: usize,
+    pub vals: usize,
+}
+
+// Members that are still to be taken, of `count` those from the one behind `index` others on. Where the names rise they are taken
+// as they stand; elsewhere `index` stays 0, and each is searched for among all.
+pub struct Ahead {
+    pub at: Places,
+    pub index: usize,
+    pub count: usize,
+    pub is_rising: bool,
+}
+
+// The next member, and what is ahead behind it; or the end.
+pub enum Taken {
+    Member(MemberAt, Ahead),
+    End,
+}
+
+// The places of the members of an object.
+pub(crate) fn members_of(s: &[u8], n: usize) -> Places
+    requires { ⌜ n < 2 ^ 29 ⌝ }
+    ensures { λ r. ⌜ r ≡ membersOf (now (s .entry)) n ⌝ }
+{
+    let first = PartAt {
+        index: 0,
+        place: HEADER_SIZE + JENTRY_SIZE * (n + n),
+    };
+    Places {
+        key_jentry: HEADER_SIZE,
+        val_jentry: HEADER_SIZE + JENTRY_SIZE * n,
+        key: first.place,
+        val: place_after(s, first, n),
+    }
+}
+
+// The sizes of the members in byte order, those left out aside, of equal names the first.
+pub(crate) fn measure_members(s: &[u8], from: Places, n: usize, kept: Kept) -> Sizes
+    requires { ⌜ (n < 2 ^ 29)
+        × (from .«key_jentry» < 2 ^ 32) × (from .«val_jentry» < 2 ^ 32) × (from .key < 2 ^ 32) × (from .val < 2 ^ 32) ⌝ }
+    ensures { λ r. ⌜ r ≡ sizesOf (now (s .entry)) (inTurn (now (s .entry)) from n kept) ⌝ }
+{
+    let mut last = slice(s, 0, 0);
+    let mut sizes = Sizes {
+        count: 0,
+        keys: 0,
+        vals: 0,
+    };
+    let mut i = 0;
+    while i < n {
+        let Found::At(member) = next_member(s, s, from, n, kept, i == 0, last) else {
+            return sizes;
+        };
+        last = payload_at(s, member.key);
+        sizes = Sizes {
+            count: sizes.count + 1,
+            keys: sizes.keys + last.len(),
+            vals: sizes.vals + payload_at(s, member.val).len(),
+        };
+        i += 1;
+    }
+    sizes
+}
+
+// Where an object of these sizes stores its members.
+pub(crate) fn places_for(sizes: Sizes, at: usize) -> Places
+    requires { ⌜ (sizes .count < 2 ^ 29) × (sizes .keys < 2 ^ 60) × (at ≤ 2 ^ 23) ⌝ }
+    ensures { λ r. ⌜ r ≡ placesFor sizes at ⌝ }
+{
+    let start = at + HEADER_SIZE + JENTRY_SIZE * sizes.count;
+    Places {
+        key_jentry: at + HEADER_SIZE,
+        val_jentry: start,
+        key: start + JENTRY_SIZE * sizes.count,
+        val: start + JENTRY_SIZE * sizes.count + sizes.keys,
+    }
+}
+
+// All n members of an object.
+pub(crate) fn members_ahead(s: &[u8], n: usize) -> Ahead
+    requires { ⌜ n < 2 ^ 29 ⌝ }
+    ensures { λ r. ⌜ r ≡ allAhead (now (s .entry)) n ⌝ }
+{
+    Ahead {
+        at: members_of(s, n),
+        index: 0,
+        count: n,
+        is_rising: is_rising(s, n, HEADER_SIZE + JENTRY_SIZE * (n + n)),
+    }
+}
+
+// The next member as they stand, those left out aside.
+fn next_standing(s: &[u8], ahead: Ahead, kept: Kept) -> Taken
+    requires { ⌜ Near ahead ⌝ }
+    ensures { λ r. ⌜ Stands (now (s .entry)) kept ahead r ⌝ }
+{
+    let mut here = ahead;
+    while here.index < here.count {
+        let member = read_member(s, s, here.at);
+        let next = Ahead {
+            at: Places {
+                key_jentry: here.at.key_jentry + JENTRY_SIZE,
+                val_jentry: here.at.val_jentry + JENTRY_SIZE,
+                key: here.at.key + payload_len(member.key.jentry) as usize,
+                val: here.at.val + payload_len(member.val.jentry) as usize,
+            },
+            index: here.index + 1,
+            count: here.count,
+            is_rising: here.is_rising,
+        };
+        if is_kept(kept, here.index, member) {
+            return Taken::Member(member, next);
+        }
+        here = next;
+    }
+    Taken::End
+}
+
+// The next member in byte order behind the last one taken, those left out aside.
+pub(crate) fn next_in_order(
+    s: &[u8],
+    ahead: Ahead,
+    kept: Kept,
+    is_first: bool,
+    last: &[u8],
+) -> Taken
+    requires { ⌜ Near ahead × (ahead .«is_rising» ≡ false → ahead .index ≡ 0) ⌝ }
+    ensures { λ r. ⌜ Next (now (s .entry)) kept (bound «is_first» (now (last .entry))) ahead r ⌝ }
+{
+    if ahead.is_rising {
+        return next_standing(s, ahead, kept);
+    }
+    let Found::At(member) = next_member(s, s, ahead.at, ahead.count, kept, is_first, last) else {
+        return Taken::End;
+    };
+    Taken::Member(member, ahead)
+}

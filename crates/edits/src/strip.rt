@@ -1,0 +1,229 @@
+// A container without the members whose value is null, at every level: it and every container in it are written anew.
+use crate::delete::Cursor;
+use crate::find::PartAt;
+use crate::find::part_behind;
+use crate::members::Sizes;
+use crate::members::Taken;
+use crate::members::members_ahead;
+use crate::members::next_in_order;
+use crate::members::places_for;
+use builders::search::ItemAt;
+use builders::search::Kept;
+use builders::search::MemberAt;
+use builders::search::Places;
+use builders::search::is_kept;
+use builders::search::payload_at;
+use builders::search::read_member;
+use layout::constants::ARRAY_CONTAINER_TAG;
+use layout::constants::CONTAINER_CODE;
+use layout::constants::DEPTH_LIMIT;
+use layout::constants::HEADER_SIZE;
+use layout::constants::JENTRY_SIZE;
+use layout::constants::OBJECT_CONTAINER_TAG;
+use layout::ending::Ending;
+use layout::jentry::encoded;
+use layout::jentry::payload_len;
+use layout::jentry::read_jentry;
+use layout::jentry::type_code;
+use layout::refusal::Refusal;
+use layout::util::Header;
+use layout::util::read_header;
+use layout::util::slice;
+use layout::writer::copy;
+use layout::writer::put_u32;
+ghost use mathlib.Core.Path.{_≡_};
+ghost use Prim.Native.Nat.{_+_, _-_, _*_, _^_, _≤_, _<_};
+ghost use lib.ListN.{length};
+ghost use Rattle.layout.specs.Bytes.{be32};
+ghost use Rattle.layout.specs.Entry.{«code-of» as codeOf};
+ghost use Rattle.layout.specs.Read.{header, nested};
+ghost use Rattle.layout.specs.Check.{checked};
+ghost use Rattle.layout.specs.Patch.{patch};
+ghost use Rattle.layout.specs.Ended.{Ended};
+ghost use Rattle.layout.specs.declared.check.Check.the-variants.{Readable};
+ghost use Rattle.builders.specs.Search.{«bytes-at» as bytesAt, «name-in» as nameIn, «value-in» as valueIn};
+ghost use Rattle.builders.specs.Search.{«members-at» as membersAt, «kept-of» as keptOf};
+ghost use Rattle.builders.specs.Weave.{stored};
+ghost use Rattle.edits.specs.Members.{«sizes-of» as sizesOf};
+ghost use Rattle.edits.specs.Stripping.{Strippable, Strips, «stripped-of» as strippedOf, «unrepeated-of» as unrepeatedOf};
+ghost use Rattle.edits.specs.Stripping.{«strip-item» as stripItem, «strip-entry» as stripEntry, «unrepeated-item» as unrepeatedItem};
+ghost use Rattle.edits.specs.Stripping.{«strip-value» as stripValue, «value-entry» as valueEntry, «strip-out» as stripOut};
+
+// How storing ends: with the length of what was stored, or at a name that is repeated among the members kept.
+pub enum Stripped {
+    Len(usize),
+    Repeated,
+}
+
+// The sizes of the members whose value is not null.
+fn measure_kept(s: &[u8], from: Places, n: usize) -> Sizes
+    requires { ⌜ (n < 2 ^ 29)
+        × (from .«key_jentry» < 2 ^ 32) × (from .«val_jentry» < 2 ^ 32) × (from .key < 2 ^ 32) × (from .val < 2 ^ 32) ⌝ }
+    ensures { λ r. ⌜ r ≡ sizesOf (now (s .entry)) (keptOf Kept.NonNull 0 (membersAt (now (s .entry)) (now (s .entry)) from n)) ⌝ }
+{
+    let mut sizes = Sizes {
+        count: 0,
+        keys: 0,
+        vals: 0,
+    };
+    let mut at = from;
+    let mut i = 0;
+    while i < n {
+        let member = read_member(s, s, at);
+        if is_kept(Kept::NonNull, i, member) {
+            sizes = Sizes {
+                count: sizes.count + 1,
+                keys: sizes.keys + payload_at(s, member.key).len(),
+                vals: sizes.vals + payload_at(s, member.val).len(),
+            };
+        }
+        at = Places {
+            key_jentry: at.key_jentry + JENTRY_SIZE,
+            val_jentry: at.val_jentry + JENTRY_SIZE,
+            key: at.key + payload_len(member.key.jentry) as usize,
+            val: at.val + payload_len(member.val.jentry) as usize,
+        };
+        i += 1;
+    }
+    sizes
+}
+
+// Stores an item, a container stripped and anything else as it is, and gives the length of its payload.
+fn put_item_stripped(s: &[u8], item: ItemAt, out: &mut [u8], at: Cursor, allowance: u32) -> Stripped
+    requires { ⌜ (codeOf (item .jentry) ≡ 5 → Strippable (bytesAt (now s) item) allowance)
+        × (at .jentry + 4 ≤ at .place) × (at .place ≤ 65536 * (64 - allowance)) ⌝ }
+    ensures { λ r. ⌜ Strips r (unrepeatedItem (now (s .entry)) item) (stripItem (now (s .entry)) item) (now (out .exit))
+        (patch (patch (now (out .entry)) (at .jentry) (be32 (stripEntry (now (s .entry)) item))) (at .place) (stripItem (now (s .entry)) item)) ⌝ }
+{
+    let payload = payload_at(s, item);
+    if type_code(item.jentry) == CONTAINER_CODE {
+        let Stripped::Len(len) = put_stripped(payload, out, at.place, allowance) else {
+            return Stripped::Repeated;
+        };
+        put_u32(out, at.jentry, encoded(CONTAINER_CODE, len as u32));
+        return Stripped::Len(len);
+    }
+    put_u32(out, at.jentry, item.jentry);
+    copy(payload, out, at.place);
+    Stripped::Len(payload.len())
+}
+
+// Stores a member with its value stripped, and gives the length of the value.
+fn put_member_stripped(
+    s: &[u8],
+    member: MemberAt,
+    out: &mut [u8],
+    at: Places,
+    allowance: u32,
+) -> Stripped
+    requires { ⌜ (codeOf (member .val .jentry) ≡ 5 → Strippable (valueIn (now s) member) allowance)
+        × (at .«key_jentry» < 2 ^ 60) × (at .key < 2 ^ 60) × (at .«val_jentry» + 4 ≤ at .key) × (at .«val_jentry» + 4 ≤ at .val)
+        × (at .val ≤ 65536 * (64 - allowance)) ⌝ }
+    ensures { λ r. ⌜ Strips r (unrepeatedItem (now (s .entry)) (member .val)) (stripItem (now (s .entry)) (member .val)) (now (out .exit))
+        (stored (nameIn (now (s .entry))) (stripValue (now (s .entry))) (valueEntry (now (s .entry))) (now (out .entry))
+        (at .«key_jentry») (at .«val_jentry») (at .key) (at .val) member) ⌝ }
+{
+    put_u32(out, at.key_jentry, member.key.jentry);
+    copy(payload_at(s, member.key), out, at.key);
+    let value = Cursor {
+        jentry: at.val_jentry,
+        place: at.val,
+    };
+    put_item_stripped(s, member.val, out, value, allowance)
+}
+
+// Stores an array of n items, each stripped, and gives its length.
+fn put_items_stripped(s: &[u8], n: usize, out: &mut [u8], at: usize, allowance: u32) -> Stripped
+    requires { ⌜ Strippable (now s) allowance × (header (now s) ≡ Header.Array n) × (at ≤ 65536 * (64 - allowance)) ⌝ }
+    ensures { λ r. ⌜ Strips r (unrepeatedOf (now (s .entry))) (strippedOf (now (s .entry))) (now (out .exit))
+        (patch (now (out .entry)) at (strippedOf (now (s .entry)))) ⌝ }
+{
+    let mut part = PartAt {
+        index: 0,
+        place: HEADER_SIZE + JENTRY_SIZE * n,
+    };
+    let mut here = Cursor {
+        jentry: at + HEADER_SIZE,
+        place: at + part.place,
+    };
+    put_u32(out, at, ARRAY_CONTAINER_TAG | n as u32);
+    while part.index < n {
+        let item = ItemAt {
+            jentry: read_jentry(s, part.index),
+            place: part.place,
+        };
+        let Stripped::Len(len) = put_item_stripped(s, item, out, here, allowance - 1) else {
+            return Stripped::Repeated;
+        };
+        here = Cursor {
+            jentry: here.jentry + JENTRY_SIZE,
+            place: here.place + len,
+        };
+        part = part_behind(s, part);
+    }
+    Stripped::Len(here.place - at)
+}
+
+// Stores an object of n members without those whose value is null, the others stripped and in byte order of their names, and gives
+// its length. Where fewer names are found than members are kept, one is repeated.
+fn put_members_stripped(s: &[u8], n: usize, out: &mut [u8], at: usize, allowance: u32) -> Stripped
+    requires { ⌜ Strippable (now s) allowance × (header (now s) ≡ Header.Object n) × (at ≤ 65536 * (64 - allowance)) ⌝ }
+    ensures { λ r. ⌜ Strips r (unrepeatedOf (now (s .entry))) (strippedOf (now (s .entry))) (now (out .exit))
+        (patch (now (out .entry)) at (strippedOf (now (s .entry)))) ⌝ }
+{
+    let mut ahead = members_ahead(s, n);
+    let sizes = measure_kept(s, ahead.at, n);
+    let mut to = places_for(sizes, at);
+    put_u32(out, at, OBJECT_CONTAINER_TAG | sizes.count as u32);
+    let mut last = slice(s, 0, 0);
+    let mut i = 0;
+    while i < sizes.count {
+        let Taken::Member(member, next) = next_in_order(s, ahead, Kept::NonNull, i == 0, last)
+        else {
+            return Stripped::Repeated;
+        };
+        let Stripped::Len(len) = put_member_stripped(s, member, out, to, allowance - 1) else {
+            return Stripped::Repeated;
+        };
+        last = payload_at(s, member.key);
+        to = Places {
+            key_jentry: to.key_jentry + JENTRY_SIZE,
+            val_jentry: to.val_jentry + JENTRY_SIZE,
+            key: to.key + last.len(),
+            val: to.val + len,
+        };
+        ahead = next;
+        i += 1;
+    }
+    Stripped::Len(to.val - at)
+}
+
+// Stores a container stripped, and gives its length.
+fn put_stripped(s: &[u8], out: &mut [u8], at: usize, allowance: u32) -> Stripped
+    requires { ⌜ Strippable (now s) allowance × (at ≤ 65536 * (64 - allowance)) ⌝ }
+    ensures { λ r. ⌜ Strips r (unrepeatedOf (now (s .entry))) (strippedOf (now (s .entry))) (now (out .exit))
+        (patch (now (out .entry)) at (strippedOf (now (s .entry)))) ⌝ }
+{
+    match read_header(s) {
+        Header::Array(n) => put_items_stripped(s, n, out, at, allowance),
+        Header::Object(n) => put_members_stripped(s, n, out, at, allowance),
+        Header::Scalar(_) => Stripped::Len(0),
+        Header::Refused(_) => Stripped::Len(0),
+    }
+}
+
+// Stores a container stripped, where no name is repeated among the members kept and there is room for it. It is measured first, on
+// no bytes.
+pub(crate) fn write_stripped(s: &[u8], out: &mut [u8]) -> Ending
+    requires { ⌜ (checked (nested 64 (now s)) ≡ Readable) × (length (now s) ≤ 65536) ⌝ }
+    ensures { λ e. ⌜ Ended e (now (out .entry)) (now (out .exit)) (stripOut (now (s .entry)) (length (now (out .entry)))) ⌝ }
+{
+    let Stripped::Len(len) = put_stripped(s, &mut out[0..0], 0, DEPTH_LIMIT) else {
+        return Ending::Refused(Refusal::Repeated);
+    };
+    if out.len() < len {
+        return Ending::Refused(Refusal::Buffer);
+    }
+    put_stripped(s, out, 0, DEPTH_LIMIT);
+    Ending::Done(len)
+}
