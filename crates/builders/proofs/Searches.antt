@@ -4,7 +4,7 @@ use native.Mathlib.Nat.{le-of-suc-le-suc, not-suc-le-zero}
 use native.Mathlib.Omega.{arith}
 use mathlib.Core.Path.{_≡_, refl, sym, ap, _∙_}
 use mathlib.Core.Bool.{Bool, true, false, cond}
-use mathlib.Core.List.{List, [], _∷_}
+use mathlib.Core.List.{List, [], _∷_, _++_}
 use lib.ListN.{length, drop, length-take}
 use Rattle.layout.specs.Bytes.{Bytes, word-at}
 use Rattle.layout.specs.Entry.{length-of}
@@ -32,7 +32,7 @@ cond-same true f = refl
 cond-same false f = refl
 
 -- What is above a name that is above the last is above the last.
-over-up : (last : Bound) (n m : Bytes) → order n m ≡ Less → over last n ≡ true → over last m ≡ true
+pub over-up : (last : Bound) (n m : Bytes) → order n m ≡ Less → over last n ≡ true → over last m ≡ true
 unfolding over before
 over-up start n m e h = refl
 over-up (after l) n m e h = ap is-less (order-trans l n m (less-is (order l n) h) e)
@@ -110,7 +110,7 @@ module _ (key : MemberAt → Bytes) where
   Ascending [] = Unit {0}
   Ascending (b ∷ bs) = Above b bs × Ascending bs
 
-  above-trans : (x y : MemberAt) (bs : List MemberAt) → compared x y ≡ Less → Above y bs → Above x bs
+  pub above-trans : (x y : MemberAt) (bs : List MemberAt) → compared x y ≡ Less → Above y bs → Above x bs
   above-trans x y [] e h = tt
   above-trans x y (b ∷ bs) e h = (order-trans (key x) (key y) (key b) e (h .0), above-trans x y bs e (h .1))
 
@@ -186,6 +186,80 @@ module _ (key : MemberAt → Bytes) where
       → least key (bound-at (sorted key ms) k) Nothing ms ≡ nth (sorted key ms) k
   unfolding first-over sorted
   search-nth ms k l = search-first (bound-at (sorted key ms) k) [] ms ∙ first-nth (sorted key ms) k (rising-sorted ms) l
+
+  -- The search over one list and then over another.
+  pub least-append : (last : Bound) (best : Found) (xs ys : List MemberAt)
+      → least key last best (xs ++ ys) ≡ least key last (least key last best xs) ys
+  unfolding least
+  least-append last best [] ys = refl
+  least-append last best (x ∷ xs) ys = least-append last (step key last best x) xs ys
+
+  -- Members none of which is above the last change nothing.
+  abbrev pub Passed : Bound → List MemberAt → Type 0
+  Passed last [] = Unit {0}
+  Passed last (m ∷ ms) = (over last (key m) ≡ false) × Passed last ms
+
+  pub least-passed : (last : Bound) (best : Found) (ms : List MemberAt) → Passed last ms → least key last best ms ≡ best
+  unfolding least step
+  least-passed last best [] h = refl
+  least-passed last best (m ∷ ms) h = rw (h .0) (least-passed last best ms (h .1))
+
+  -- Of a list that rises, whose first is above the last, that one is found.
+  no-better : (u : Bool) (m b : MemberAt) → compared m b ≡ Less → cond u (cond (before (key b) (key m)) (At b) (At m)) (At m) ≡ At m
+  unfolding before
+  no-better false m b e = refl
+  no-better true m b e = rw (order-turn (key m) (key b), e)
+
+  least-stays : (last : Bound) (m : MemberAt) (ms : List MemberAt) → Above m ms → least key last (At m) ms ≡ At m
+  unfolding least step better
+  least-stays last m [] h = refl
+  least-stays last m (b ∷ ms) h = rw (no-better (over last (key b)) m b (h .0)) (least-stays last m ms (h .1))
+
+  pub least-first : (last : Bound) (m : MemberAt) (ms : List MemberAt) → over last (key m) ≡ true → Above m ms
+      → least key last Nothing (m ∷ ms) ≡ At m
+  unfolding least step better
+  least-first last m ms h a = rw h (least-stays last m ms a)
+
+  -- A name above the last, taken: those passed before it stay so, and what is above it is above the bound that it sets.
+  later-passed : (last : Bound) (x n : Bytes) → over last x ≡ true → over last n ≡ false → over (after x) n ≡ false
+  unfolding over before
+  later-passed last x n h k = go (order x n) refl
+    where
+      go : (o : Ordering) → order x n ≡ o → is-less o ≡ false
+      go Less q = let z : true ≡ false = sym (over-up last x n q h) ∙ k in cc
+      go Equal q = refl
+      go Greater q = refl
+
+  pub passed-later : (last : Bound) (x : Bytes) (ms : List MemberAt) → over last x ≡ true → Passed last ms → Passed (after x) ms
+  passed-later last x [] h p = tt
+  passed-later last x (m ∷ ms) h p = (later-passed last x (key m) h (p .0), passed-later last x ms h (p .1))
+
+  pub over-less : (x n : Bytes) → order x n ≡ Less → over (after x) n ≡ true
+  unfolding over before
+  over-less x n e = rw e
+
+  pub over-itself : (x : Bytes) → over (after x) x ≡ false
+  unfolding over before
+  over-itself x = rw (order-refl x)
+
+  -- Some of a list that rises rise too.
+  above-kept : (k : Kept) (i : ℕ) (x : MemberAt) (ms : List MemberAt) → Above x ms → Above x (kept-of k i ms)
+  unfolding kept-of
+  above-kept k i x [] h = tt
+  above-kept k i x (m ∷ ms) h = go (is-kept k i m) (above-kept k (i + 1) x ms (h .1))
+    where
+      go : (g : Bool) → Above x (kept-of k (i + 1) ms) → Above x (cond g (m ∷ kept-of k (i + 1) ms) (kept-of k (i + 1) ms))
+      go true r = (h .0, r)
+      go false r = r
+
+  pub ascending-kept : (k : Kept) (i : ℕ) (ms : List MemberAt) → Ascending ms → Ascending (kept-of k i ms)
+  unfolding kept-of
+  ascending-kept k i [] h = tt
+  ascending-kept k i (m ∷ ms) h = go (is-kept k i m) (ascending-kept k (i + 1) ms (h .1))
+    where
+      go : (g : Bool) → Ascending (kept-of k (i + 1) ms) → Ascending (cond g (m ∷ kept-of k (i + 1) ms) (kept-of k (i + 1) ms))
+      go true r = (above-kept k (i + 1) m ms (h .0), r)
+      go false r = r
 
   length-by : (o : Ordering) (m b : MemberAt) (bs r : List MemberAt) → length r ≤ suc (length bs)
       → length (by o (m ∷ b ∷ bs) (b ∷ bs) (b ∷ r)) ≤ suc (suc (length bs))

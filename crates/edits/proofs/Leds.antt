@@ -15,15 +15,12 @@ use Rattle.layout.specs.Encode.{Part, payload, part, record-of, item-parts, nam
 use Rattle.layout.specs.Read.{header, nested}
 use Rattle.layout.specs.Check.{checked}
 use Rattle.layout.specs.Place.{parts-at, rising-parts}
-use Rattle.layout.specs.Order.{rising}
 use Rattle.layout.specs.Sound.{Rising}
 use Rattle.layout.specs.declared.check.Check.the-variants.{Readable}
 use Rattle.layout.specs.declared.util.Header.{Header}
 use Rattle.layout.specs.declared.util.Header.the-variants.{Array, Object, Scalar, Refused}
 use Rattle.layout.proofs.Encoding.{names-count}
 use Rattle.layout.proofs.Patches.{length-patch}
-use Rattle.layout.proofs.Places.{take-parts}
-use Rattle.layout.proofs.Sounds.{rising-test, rising-names}
 use Rattle.builders.specs.Order.{in-order}
 use Rattle.builders.specs.Build.{count}
 use Rattle.builders.proofs.InOrders.{rising-in-order}
@@ -38,7 +35,7 @@ use Rattle.edits.specs.declared.find.Spot.the-variants.{At}
 use Rattle.edits.specs.declared.delete.Manner.the-variants.{Items as ByItems, Rising as ByRising, Unsorted, Neither}
 use Rattle.edits.proofs.Deletes.{change-rising}
 use Rattle.edits.proofs.Splits.{ItemSplit, item-split, MemberSplit, member-split}
-use Rattle.edits.proofs.Tables.{Contains, contains, array-parted, object-parted}
+use Rattle.edits.proofs.Tables.{Contains, contains, array-parted, object-parted, object-rises}
 use Rattle.edits.proofs.Spots.{array-spot}
 use Rattle.edits.proofs.Sorteds.{Value-at, value-at}
 
@@ -196,11 +193,7 @@ module _ (s : Bytes) (n : ℕ) (a : PartAt) (p : Step) (v : Value-at s n a p) (h
   names-all = names-count ms ∙ sym (v .count)
 
   rises : Rising (names ms)
-  rises =
-      let t : parts-at s 0 (4 + 4 * (n + n)) n ≡ name-parts (names ms) =
-      sym (take-parts s 0 (4 + 4 * (n + n)) n n) ∙ ap (take n) object-parts ∙ take-at (name-parts (names ms)) (member-parts ms) n names-all in
-      let r : rising (names ms) ≡ true = sym (rising-names (names ms)) ∙ ap rising-parts (sym t) ∙ up in
-      rising-test (names ms) .0 (rw r tt)
+  rises = object-rises ms s n (v .bytes) (v .short) (v .count) up
 
   stays : (o : Option Tree) → in-order (change-member o (step-name p) ms) ≡ change-member o (step-name p) ms
   stays o = rising-in-order (change-member o (step-name p) ms) (change-rising o (step-name p) ms rises)

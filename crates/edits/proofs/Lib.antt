@@ -22,6 +22,7 @@ pub mod Withouts
 pub mod Manners
 pub mod Measures
 pub mod Sorteds
+pub mod Aheads
 pub mod Leds
 pub mod Onwards
 pub mod Anews

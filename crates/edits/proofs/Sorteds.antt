@@ -194,6 +194,34 @@ module _ (name value : MemberAt → Bytes) (entry : MemberAt → ℕ) (xs : List
       woven-record name value entry xs ms o o₁ o₂ at (z .count) _ _ _ _ h (ec ∙ stand-count name value entry xs ms h) refl refl refl
       (ap (λ (i : ℕ). at + 4 + 4 * z .count + 4 * z .count + i) (ek ∙ ap length (stand-names name value entry xs ms h))) e₁ e₂
 
+-- An object by its bytes.
+pub record Object-at (s : Bytes) (n : ℕ) : Type 0 where
+  pub members : Members
+  pub contained : Contains 64 s (object members)
+  pub bytes : payload (object members) ≡ s
+  pub short : length s ≤ 65536
+  pub count : n ≡ length (member-parts members)
+  pub table : 4 + 4 * (n + n) ≤ length s
+  pub values : 4 + 4 * (n + n) + lengths s 0 n ≤ length s
+  pub stand : Stand (name-in s) (value-in s) own-entry (members-at s s (members-of s n) n) members
+
+pub object-at : (s : Bytes) (n : ℕ) → Octets s → checked (nested 64 s) ≡ Readable → length s ≤ 65536 → header s ≡ Object n → Object-at s n
+object-at s n o c l h =
+    let k = contains 64 s o l c in
+    let w = an-object (k .0) n (sym (k .1 .head) ∙ h) in
+    let k′ : Contains 64 s (object (w .0)) = rw (w .1) at (k .1) in
+    let le : length (payload (object (w .0))) ≡ length s = ap length (k′ .bytes) in
+    record {
+      members = w .0;
+      contained = k′;
+      bytes = k′ .bytes;
+      short = l;
+      count = w .2;
+      table = omega (arith, le, object-length (w .0), w .2);
+      values = omega (arith, le, object-length (w .0), w .2, names-lengths (w .0) s n (k′ .bytes) l (w .2));
+      stand = object-stand (w .0) s n (k′ .bytes) l (w .2);
+    }
+
 -- An object in which a step leads to a value, by its bytes.
 pub record Value-at (s : Bytes) (n : ℕ) (val : PartAt) (p : Step) : Type 0 where
   pub members : Members
@@ -214,32 +242,25 @@ pub record Value-at (s : Bytes) (n : ℕ) (val : PartAt) (p : Step) : Type 0 whe
 pub value-at : (s : Bytes) (n : ℕ) (val : PartAt) (p : Step) → Octets s → checked (nested 64 s) ≡ Readable → length s ≤ 65536
     → header s ≡ Object n → spot (header s) s p ≡ At val → Value-at s n val p
 value-at s n val p o c l h q =
-    let k = contains 64 s o l c in
-    let w = an-object (k .0) n (sym (k .1 .head) ∙ h) in
-    let ms : Members = w .0 in
-    let k′ : Contains 64 s (object (w .0)) = rw (w .1) at (k .1) in
-    let e : payload (object (w .0)) ≡ s = k′ .bytes in
-    let sp = object-spot (w .0) s p val e l q in
-    let ix : val .index ≡ length (member-parts (w .0)) + member-split (step-name p) (w .0) (sp .0) (sp .1) .count = ap (λ (x : PartAt). x .index) (sp .2) in
-    let ms′ = member-split (step-name p) (w .0) (sp .0) (sp .1) in
-    let b : member-split (step-name p) (w .0) (sp .0) (sp .1) .count < n =
-    omega (arith, w .2, ap length (ms′ .vals), length-append (ms′ .vals-left) (part (sp .0) ∷ ms′ .vals-right), ms′ .vals-before) in
-    let le : length (payload (object (w .0))) ≡ length s = ap length e in
+    let w = object-at s n o c l h in
+    let sp = object-spot (w .members) s p val (w .bytes) l q in
+    let ix : val .index ≡ length (member-parts (w .members)) + member-split (step-name p) (w .members) (sp .0) (sp .1) .count = ap (λ (x : PartAt). x .index) (sp .2) in
+    let ms = member-split (step-name p) (w .members) (sp .0) (sp .1) in
     record {
-      members = w .0;
+      members = w .members;
       value = sp .0;
-      contained = k′;
-      reads = k′ .reads;
-      bytes = e;
+      contained = w .contained;
+      reads = w .contained .reads;
+      bytes = w .bytes;
       short = l;
-      count = w .2;
+      count = w .count;
       found = sp .1;
-      index = omega (arith, ix, w .2);
-      stands = sp .2 ∙ ap₂ (nth-part s) (rw (← w .2)) (sym ix);
-      below = b;
-      table = omega (arith, le, object-length (w .0), w .2);
-      values = omega (arith, le, object-length (w .0), w .2, names-lengths (w .0) s n e l (w .2));
-      stand = object-stand (w .0) s n e l (w .2);
+      index = omega (arith, ix, w .count);
+      stands = sp .2 ∙ ap₂ (nth-part s) (rw (← w .count)) (sym ix);
+      below = omega (arith, w .count, ap length (ms .vals), length-append (ms .vals-left) (part (sp .0) ∷ ms .vals-right), ms .vals-before);
+      table = w .table;
+      values = w .values;
+      stand = w .stand;
     }
 
 -- What is left of it without that member: its members stand in byte order, and it is no longer than it was.

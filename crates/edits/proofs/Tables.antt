@@ -4,23 +4,28 @@ use native.Mathlib.Omega.{arith}
 use mathlib.Core.Path.{_≡_, refl, ap, sym, _∙_}
 use mathlib.Core.Bool.{true, false}
 use mathlib.Core.List.{List, _++_}
-use lib.ListN.{length}
+use lib.ListN.{length, take}
+use lib.Seq.{take-at}
 use Rattle.layout.specs.Bytes.{Bytes, Octets}
 use Rattle.layout.specs.Answer.{gives}
 use Rattle.layout.specs.Tree.{Tree, null, boolean, number, string, extension, array, object, Items, Members, kind, names}
 use Rattle.layout.specs.Encode.{Part, payload, part, record-of, item-parts, name-parts, member-parts}
 use Rattle.layout.specs.Limits.{Valid, depth}
+use Rattle.layout.specs.Order.{rising}
+use Rattle.layout.specs.Sound.{Rising}
 use Rattle.layout.specs.Read.{header, nested}
+use Rattle.layout.specs.Place.{parts-at, rising-parts}
 use Rattle.layout.specs.Check.{checked}
 use Rattle.layout.specs.declared.item.Kind.the-variants.{Container}
 use Rattle.layout.specs.declared.check.Check.the-variants.{Readable}
 use Rattle.layout.specs.declared.util.Header.the-variants.{Object}
 use Rattle.layout.proofs.Level.{AllFit}
-use Rattle.layout.proofs.Encoding.{array-fits, object-fits}
+use Rattle.layout.proofs.Encoding.{array-fits, object-fits, names-count}
 use Rattle.layout.proofs.Decoding.{container-encode}
 use Rattle.layout.proofs.Readables.{nested-reads, record-of-length}
 use Rattle.layout.proofs.Nestings.{head-of, header-encode, readable-gives}
-use Rattle.layout.proofs.Places.{parts-at-record}
+use Rattle.layout.proofs.Sounds.{rising-test, rising-names}
+use Rattle.layout.proofs.Places.{parts-at-record, take-parts}
 use Rattle.edits.specs.Cut.{count-parts, Table, parts-of}
 
 -- A container that reads as `t`, where `a` levels are left.
@@ -120,6 +125,16 @@ object-parted ms s e l =
         short = l;
       },
     )
+
+-- Where its names rise by the test, they rise.
+pub object-rises : (ms : Members) (s : Bytes) (n : ℕ) → payload (object ms) ≡ s → length s ≤ 65536 → n ≡ length (member-parts ms)
+    → rising-parts (parts-at s 0 (4 + 4 * (n + n)) n) ≡ true → Rising (names ms)
+object-rises ms s n e l c up =
+    let all : parts-of s (n + n) ≡ name-parts (names ms) ++ member-parts ms = ap (λ (m : ℕ). parts-of s (m + m)) c ∙ object-parted ms s e l .0 in
+    let t : parts-at s 0 (4 + 4 * (n + n)) n ≡ name-parts (names ms) =
+    sym (take-parts s 0 (4 + 4 * (n + n)) n n) ∙ ap (take n) all ∙ take-at (name-parts (names ms)) (member-parts ms) n (names-count ms ∙ sym c) in
+    let r : rising (names ms) ≡ true = sym (rising-names (names ms)) ∙ ap rising-parts (sym t) ∙ up in
+    rising-test (names ms) .0 (rw r tt)
 
 parted-by : (t : Tree) (s : Bytes) (n : ℕ) → kind t ≡ Container → payload t ≡ s → length s ≤ 65536 → count-parts (head-of t) ≡ n → Parted s n
 parted-by null s n k e l c = let z : _≡_ {A = ℕ} 0 1 = cc in let w : ⊥ = omega arith in absurd w
