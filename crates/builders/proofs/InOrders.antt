@@ -1,5 +1,5 @@
 -- Members in byte order: the names rise, each name finds what it found, and where no name is there twice no member is lost.
-use Prim.Native.Nat.{ℕ, _+_, _≤_, max}
+use Prim.Native.Nat.{ℕ, suc, _+_, _≤_, max}
 use native.Mathlib.Omega.{arith}
 use mathlib.Core.Path.{_≡_, refl, ap, sym, _∙_}
 use mathlib.Core.Logic.{_⊎_, inl, inr, ⊎-elim}
@@ -22,7 +22,8 @@ use Rattle.layout.proofs.Values.{≺-irrefl, ≺-trans, In, rising-tail, rising
 use Rattle.builders.specs.Order.{by, insert, insert-all, in-order, find, same, has, distinct, follow}
 use Rattle.builders.proofs.Orderings.{order-cases, by-order, order-less, order-greater, order-refl}
 
-unlike : (a b : Bytes) → a ≺ b → a ≡ b → ⊥
+-- A name that comes before another is not equal to it.
+pub unlike : (a b : Bytes) → a ≺ b → a ≡ b → ⊥
 unlike a b l e = ≺-irrefl a (rw (← e) at l)
 
 -- ---- names among others
@@ -73,7 +74,7 @@ insert-names n t (member m u ms) x i =
     (λ _ i. ⊎-elim (λ j. inr (inl j)) (λ j. ⊎-elim (λ k. inl k) (λ k. inr (inr k)) (insert-names n t ms x j)) i)
     i
 
-rising-cons : (n : Bytes) (ns : List Bytes) → ((m : Bytes) → In m ns → n ≺ m) → Rising ns → Rising (n ∷ ns)
+pub rising-cons : (n : Bytes) (ns : List Bytes) → ((m : Bytes) → In m ns → n ≺ m) → Rising ns → Rising (n ∷ ns)
 rising-cons n [] h r = tt
 rising-cons n (m ∷ ns) h r = (h m (inl refl), r)
 
@@ -130,7 +131,8 @@ rising-in-order ms h = all-end ms empty h
 
 -- ---- what each name finds
 
-abbrev or-else : Option Tree → Option Tree → Option Tree
+-- What one finds, or else what the other does.
+abbrev pub or-else : Option Tree → Option Tree → Option Tree
 or-else none b = b
 or-else (some t) b = some t
 
@@ -290,24 +292,35 @@ module _ (n : Bytes) (t : Tree) (ms : Members) (d : distinct (n ∷ names ms) �
   in-order-new i =
       ⊎-elim (λ j. has-not n (names ms) (distinct-cons n (names ms) d .0) j) (λ j. absurd j) (all-names ms empty n i)
 
+-- What the members come to, taken together one by one: a sum of what each weighs, or a test of each.
+abbrev pub gather : {A : Type 0} → (A → A → A) → A → (Bytes → Tree → A) → Members → A
+gather op z f empty = z
+gather op z f (member n t ms) = op (f n t) (gather op z f ms)
+
+-- In order they come to the same, where it makes no difference which of two comes first.
+module _ {A : Type 0} (op : A → A → A) (swap : (a b c : A) → op a (op b c) ≡ op b (op a c)) (z : A) (f : Bytes → Tree → A) where
+  gather-insert : (n : Bytes) (t : Tree) (ms : Members) → (In n (names ms) → ⊥)
+      → gather op z f (insert n t ms) ≡ op (f n t) (gather op z f ms)
+  gather-insert n t empty h = refl
+  gather-insert n t (member m u ms) h =
+      by-order n m (λ (a : Members). gather op z f a ≡ op (f n t) (gather op z f (member m u ms))) _ _ _
+      (λ _. refl)
+      (λ e. absurd (h (inl e)))
+      (λ _. ap (op (f m u)) (gather-insert n t ms (λ i. h (inr i))) ∙ swap (f m u) (f n t) (gather op z f ms))
+
+  pub gather-in-order : (ms : Members) → distinct (names ms) ≡ true → gather op z f (in-order ms) ≡ gather op z f ms
+  gather-in-order empty d = refl
+  gather-in-order (member n t ms) d =
+      ap (gather op z f) (in-order-member n t ms d)
+      ∙ gather-insert n t (in-order ms) (in-order-new n t ms d)
+      ∙ ap (op (f n t)) (gather-in-order ms (distinct-cons n (names ms) d .1))
+
 -- A sum over the members.
 abbrev weigh : (Bytes → Tree → ℕ) → Members → ℕ
-weigh f empty = 0
-weigh f (member n t ms) = f n t + weigh f ms
-
-weigh-insert : (f : Bytes → Tree → ℕ) (n : Bytes) (t : Tree) (ms : Members) → (In n (names ms) → ⊥)
-    → weigh f (insert n t ms) ≡ f n t + weigh f ms
-weigh-insert f n t empty h = refl
-weigh-insert f n t (member m u ms) h =
-    by-order n m (λ (a : Members). weigh f a ≡ f n t + weigh f (member m u ms)) _ _ _
-    (λ _. refl) (λ e. absurd (h (inl e))) (λ _. omega (arith, weigh-insert f n t ms (λ i. h (inr i))))
+weigh f ms = gather _+_ 0 f ms
 
 weigh-in-order : (f : Bytes → Tree → ℕ) (ms : Members) → distinct (names ms) ≡ true → weigh f (in-order ms) ≡ weigh f ms
-weigh-in-order f empty d = refl
-weigh-in-order f (member n t ms) d =
-    ap (weigh f) (in-order-member n t ms d)
-    ∙ weigh-insert f n t (in-order ms) (in-order-new n t ms d)
-    ∙ ap (λ (k : ℕ). f n t + k) (weigh-in-order f ms (distinct-cons n (names ms) d .1))
+weigh-in-order f ms d = gather-in-order _+_ (λ a b c. omega arith) 0 f ms d
 
 size-weigh : (ms : Members) → size-members ms ≡ weigh (λ n t. 8 + length n + size t) ms
 size-weigh empty = refl
@@ -330,6 +343,56 @@ module _ (ms : Members) (d : distinct (names ms) ≡ true) where
 
   pub in-order-names : length (payloads (name-parts (names (in-order ms)))) ≡ length (payloads (name-parts (names ms)))
   in-order-names = names-weigh (in-order ms) ∙ weigh-in-order (λ n t. length n) ms d ∙ sym (names-weigh ms)
+
+-- Where no member is lost, no name is there twice.
+insert-in : (n : Bytes) (t : Tree) (ms : Members) → In n (names (insert n t ms))
+insert-in n t empty = inl refl
+insert-in n t (member m u ms) =
+    by-order n m (λ (a : Members). In n (names a)) _ _ _ (λ _. inl refl) (λ e. inl e) (λ _. inr (insert-in n t ms))
+
+insert-stays : (n : Bytes) (t : Tree) (ms : Members) (x : Bytes) → In x (names ms) → In x (names (insert n t ms))
+insert-stays n t empty x i = absurd i
+insert-stays n t (member m u ms) x i =
+    by-order n m (λ (a : Members). In x (names a)) _ _ _
+    (λ _. inr i) (λ _. i) (λ _. ⊎-elim (λ j. inl j) (λ j. inr (insert-stays n t ms x j)) i)
+
+insert-there : (n : Bytes) (t : Tree) (ms : Members) → Rising (names ms) → In n (names ms)
+    → length (member-parts (insert n t ms)) ≡ length (member-parts ms)
+insert-there n t empty h i = absurd i
+insert-there n t (member m u ms) h i =
+    by-order n m (λ (a : Members). length (member-parts a) ≡ length (member-parts (member m u ms))) _ _ _
+    (λ l. absurd (⊎-elim (λ j. unlike n m l j) (λ j. ≺-irrefl n (≺-trans n m n l (rising-all m (names ms) h n j))) i))
+    (λ _. refl)
+    (λ l.
+    ap suc
+    (insert-there n t ms (rising-tail m (names ms) h) (⊎-elim (λ j. absurd (unlike m n l (sym j))) (λ j. j) i)))
+
+insert-count : (n : Bytes) (t : Tree) (ms : Members) → length (member-parts (insert n t ms)) ≤ suc (length (member-parts ms))
+insert-count n t empty = omega arith
+insert-count n t (member m u ms) =
+    by-order n m (λ (a : Members). length (member-parts a) ≤ suc (length (member-parts (member m u ms)))) _ _ _
+    (λ _. omega arith) (λ _. omega arith) (λ _. omega (arith, insert-count n t ms))
+
+all-count : (ms done : Members) → length (member-parts (insert-all ms done)) ≤ length (member-parts ms) + length (member-parts done)
+all-count empty done = omega arith
+all-count (member n t ms) done = omega (arith, all-count ms (insert n t done), insert-count n t done)
+
+all-distinct : (ms done : Members) → Rising (names done)
+    → length (member-parts (insert-all ms done)) ≡ length (member-parts ms) + length (member-parts done)
+    → (distinct (names ms) ≡ true) × ((x : Bytes) → In x (names ms) → In x (names done) → ⊥)
+unfolding distinct
+all-distinct empty done h e = (refl, λ x i j. i)
+all-distinct (member n t ms) done h e =
+    let grown : length (member-parts (insert n t done)) ≡ suc (length (member-parts done)) =
+    omega (arith, all-count ms (insert n t done), insert-count n t done) in
+    let k = all-distinct ms (insert n t done) (insert-rising n t done h) (omega arith) in
+    let new : In n (names done) → ⊥ = λ i. let same = insert-there n t done h i in omega arith in (
+      rw (not-has n (names ms) (λ i. k .1 n i (insert-in n t done))) (k .0),
+      λ x i j. ⊎-elim (λ e. new (rw e at j)) (λ i. k .1 x i (insert-stays n t done x j)) i,
+    )
+
+pub count-distinct : (ms : Members) → length (member-parts (in-order ms)) ≡ length (member-parts ms) → distinct (names ms) ≡ true
+count-distinct ms e = all-distinct ms empty tt (omega arith) .0
 
 insert-taken : (n : Bytes) (t : Tree) (ms : Members) → (In n (names ms) → ⊥) → Taken n t (insert n t ms) ms
 insert-taken n t empty h = inl (refl, refl, refl)

@@ -17,7 +17,7 @@ use Rattle.layout.proofs.Values.{≺-irrefl, ≺-trans, In, rising-tail, rising
 use Rattle.builders.specs.Order.{by, in-order, find}
 use Rattle.builders.specs.Build.{count, join}
 use Rattle.builders.proofs.Orderings.{order-cases, by-order, order-refl}
-use Rattle.builders.proofs.InOrders.{in-order-rising, find-in-order}
+use Rattle.builders.proofs.InOrders.{unlike, rising-cons, in-order-rising, find-in-order}
 use Rattle.edits.specs.Path.{Step, name, index}
 use Rattle.edits.specs.Find.{_then_, place, step-place, item-at}
 use Rattle.edits.specs.Delete.{kept-member, change-item, change-member}
@@ -43,20 +43,17 @@ found-or-not (some x) = inr (x, refl)
 
 -- ---- what a name finds
 
-less-unlike : (a b : Bytes) → a ≺ b → a ≡ b → ⊥
-less-unlike a b l e = ≺-irrefl a (rw (← e) at l)
-
 -- By cases on whether two names are equal.
-by-equal : {A : Type 0} (a b : Bytes) (P : A → Type 0) (x y : A) → ((a ≡ b → ⊥) → P x) → (a ≡ b → P y) → P (by (order a b) x y x)
-by-equal a b P x y f g = by-order a b P x y x (λ l. f (less-unlike a b l)) g (λ l. f (λ e. less-unlike b a l (sym e)))
+pub by-equal : {A : Type 0} (a b : Bytes) (P : A → Type 0) (x y : A) → ((a ≡ b → ⊥) → P x) → (a ≡ b → P y) → P (by (order a b) x y x)
+by-equal a b P x y f g = by-order a b P x y x (λ l. f (unlike a b l)) g (λ l. f (λ e. unlike b a l (sym e)))
 
 pub equal-or-not : (a b : Bytes) → (a ≡ b) ⊎ (a ≡ b → ⊥)
 equal-or-not a b = by-equal {A = Unit {0}} a b (λ _. (a ≡ b) ⊎ (a ≡ b → ⊥)) tt tt (λ h. inr h) (λ e. inl e)
 
-find-first : (n : Bytes) (t : Tree) (ms : Members) → find n (member n t ms) ≡ some t
+pub find-first : (n : Bytes) (t : Tree) (ms : Members) → find n (member n t ms) ≡ some t
 find-first n t ms = rw (order-refl n)
 
-find-later : (x n : Bytes) (t : Tree) (ms : Members) → (x ≡ n → ⊥) → find x (member n t ms) ≡ find x ms
+pub find-later : (x n : Bytes) (t : Tree) (ms : Members) → (x ≡ n → ⊥) → find x (member n t ms) ≡ find x ms
 find-later x n t ms h = by-equal x n (λ (a : Option Tree). a ≡ find x ms) _ _ (λ _. refl) (λ e. absurd (h e))
 
 pub found-in : (n : Bytes) (ms : Members) (t : Tree) → find n ms ≡ some t → In n (names ms)
@@ -110,10 +107,6 @@ change-names o n (member m t ms) x i =
     here nothing i = inr i
     here (some u) i = i
 
-rising-cons : (n : Bytes) (ns : List Bytes) → ((m : Bytes) → In m ns → n ≺ m) → Rising ns → Rising (n ∷ ns)
-rising-cons n [] h r = tt
-rising-cons n (m ∷ ns) h r = (h m (inl refl), r)
-
 -- Names that rise go on rising.
 pub change-rising : (o : Option Tree) (n : Bytes) (ms : Members) → Rising (names ms) → Rising (names (change-member o n ms))
 change-rising o n empty h = tt
@@ -134,7 +127,7 @@ find-gone n empty h = refl
 find-gone n (member m t ms) h =
     by-equal n m (λ (a : Members). find n a ≡ nothing) _ _
     (λ k. find-later n m t (change-member nothing n ms) k ∙ find-gone n ms (rising-tail m (names ms) h))
-    (λ e. not-in n ms (λ i. less-unlike m n (rising-all m (names ms) h n i) (sym e)))
+    (λ e. not-in n ms (λ i. unlike m n (rising-all m (names ms) h n i) (sym e)))
 
 -- The members without the first that has the name.
 pub change-taken : (n : Bytes) (v : Tree) (ms : Members) → find n ms ≡ some v → Taken n v ms (change-member nothing n ms)
@@ -165,15 +158,15 @@ find-unique (member n t ms) (member m u ns) p q h =
         → ((x : Bytes) → find x (member n t ms) ≡ find x (member m u ns)) → ⊥
     clash n t ms m u ns q l h =
         let i : In n (names (member m u ns)) = found-in n (member m u ns) t (sym (h n) ∙ find-first n t ms) in
-        ⊎-elim (λ e. less-unlike n m l e) (λ j. ≺-irrefl n (≺-trans n m n l (rising-all m (names ns) q n j))) i
+        ⊎-elim (λ e. unlike n m l e) (λ j. ≺-irrefl n (≺-trans n m n l (rising-all m (names ns) q n j))) i
 
     -- The first name stands in neither rest, and every other name looks past it.
     tails : (x : Bytes) → n ≡ m → find x ms ≡ find x ns
     tails x e =
         ⊎-elim
         (λ k.
-        not-in x ms (λ i. less-unlike n x (rising-all n (names ms) p x i) (sym k))
-        ∙ sym (not-in x ns (λ i. less-unlike m x (rising-all m (names ns) q x i) (sym (k ∙ e)))))
+        not-in x ms (λ i. unlike n x (rising-all n (names ms) p x i) (sym k))
+        ∙ sym (not-in x ns (λ i. unlike m x (rising-all m (names ns) q x i) (sym (k ∙ e)))))
         (λ k. sym (find-later x n t ms k) ∙ h x ∙ find-later x m u ns (λ j. k (j ∙ sym e)))
         (equal-or-not x n)
 

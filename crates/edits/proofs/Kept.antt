@@ -26,22 +26,22 @@ pub record NoMore (u t : Tree) : Type 0 where
   pub payload : size u ≤ size t
   pub long : record-length u ≤ record-length t
 
-record NoMoreItems (us ts : Items) : Type 0 where
-  valid : ValidItems ts → ValidItems us
-  sound : SoundItems ts → SoundItems us
-  deep : depth-items us ≤ depth-items ts
-  payload : size-items us ≤ size-items ts
+pub record NoMoreItems (us ts : Items) : Type 0 where
+  pub valid : ValidItems ts → ValidItems us
+  pub sound : SoundItems ts → SoundItems us
+  pub deep : depth-items us ≤ depth-items ts
+  pub payload : size-items us ≤ size-items ts
 
-record NoMoreMembers (ns ms : Members) : Type 0 where
-  valid : ValidMembers ms → ValidMembers ns
-  sound : SoundMembers ms → SoundMembers ns
-  deep : depth-members ns ≤ depth-members ms
-  payload : size-members ns ≤ size-members ms
+pub record NoMoreMembers (ns ms : Members) : Type 0 where
+  pub valid : ValidMembers ms → ValidMembers ns
+  pub sound : SoundMembers ms → SoundMembers ns
+  pub deep : depth-members ns ≤ depth-members ms
+  pub payload : size-members ns ≤ size-members ms
 
 pub no-more-readable : (u t : Tree) → NoMore u t → Readable t → Readable u
 no-more-readable u t k r = (k .valid (r .0), omega (arith, r .1), omega (arith, r .2))
 
-no-more-same : (t : Tree) → NoMore t t
+pub no-more-same : (t : Tree) → NoMore t t
 no-more-same t = record { valid = λ v. v; sound = λ s. s; deep = omega arith; payload = omega arith; long = omega arith }
 
 -- ---- look-up

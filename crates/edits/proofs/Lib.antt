@@ -8,6 +8,7 @@ pub mod Finds
 pub mod Deletes
 pub mod Kept
 pub mod Meanings
+pub mod Strips
 pub mod KeypathCases
 pub mod Rows
 pub mod Splits

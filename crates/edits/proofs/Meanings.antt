@@ -174,7 +174,7 @@ module _ (r : List Step) (t : Tree) (ms : Members) (e : look-up r t ≡ some (ob
 -- ---- arrays
 
 -- An index from the start finds the item at that place, if there is one.
-index-finds : (j : ℕ) (ts : Items) → step-into (index (pos j)) (array ts) ≡ item-at ts j
+pub index-finds : (j : ℕ) (ts : Items) → step-into (index (pos j)) (array ts) ≡ item-at ts j
 unfolding place
 index-finds j ts = go (ltb j (count ts)) (nltb→le j (count ts))
   where
