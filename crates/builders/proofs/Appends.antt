@@ -71,7 +71,7 @@ append-array : (ts : Items) (u : Tree) → append (array ts) u ≡ gives (array 
 unfolding append _>>=_
 append-array ts u = refl
 
-depth-join : (ts us : Items) → depth-items (join ts us) ≡ max (depth-items ts) (depth-items us)
+pub depth-join : (ts us : Items) → depth-items (join ts us) ≡ max (depth-items ts) (depth-items us)
 depth-join none us = omega arith
 depth-join (item t ts) us = rw (depth-join ts us) (omega arith)
 

@@ -43,7 +43,8 @@ pub record Made (edit : Tree → Tree → Answer Tree) (l r b : Bytes) (room : �
   pub reads : read b ≡ gives tree
   pub fits : length b ≤ room
 
-written-result : (room : ℕ) (m : Answer Tree) (b : Bytes) → written room m ≡ result b
+-- What is written, where it is a result: the tree's record, which has room.
+pub written-result : (room : ℕ) (m : Answer Tree) (b : Bytes) → written room m ≡ result b
     → (v : Tree) × (m ≡ gives v) × (b ≡ encode v) × (length b ≤ room)
 unfolding into
 written-result room (refused r) b e = let z : _≡_ {A = ℕ} 0 1 = cc in let w : ⊥ = omega arith in absurd w
@@ -66,6 +67,10 @@ within-is v = refl
 both-true : (a b : Bool) → T (a && b) → T a × T b
 both-true true b h = (tt, h)
 both-true false b h = absurd h
+
+pub is-true : (b : Bool) → T b → b ≡ true
+is-true true h = refl
+is-true false h = absurd h
 
 pub result-made : (edit : Tree → Tree → Answer Tree) → Keeps edit → (l r b : Bytes) (room : ℕ) → Octets l → Octets r
     → on-two edit l r room ≡ result b → Made edit l r b room
@@ -91,11 +96,11 @@ result-made edit keeps l r b room ol or e =
     }
 
 -- Append.
-join-valid : (ts us : Items) → ValidItems ts → ValidItems us → ValidItems (join ts us)
+pub join-valid : (ts us : Items) → ValidItems ts → ValidItems us → ValidItems (join ts us)
 join-valid none us v w = w
 join-valid (item t ts) us v w = (v .0, join-valid ts us (v .1) w)
 
-join-sound : (ts us : Items) → SoundItems ts → SoundItems us → SoundItems (join ts us)
+pub join-sound : (ts us : Items) → SoundItems ts → SoundItems us → SoundItems (join ts us)
 join-sound none us s r = r
 join-sound (item t ts) us s r = (s .0, join-sound ts us (s .1) r)
 
@@ -152,10 +157,6 @@ build-is t u v e =
       as-many = eqb→eq (count ts) (count us) c;
       is = sym (gives-inj e₅);
     }
-  where
-    is-true : (b : Bool) → T b → b ≡ true
-    is-true true h = refl
-    is-true false h = absurd h
 
 name-valid : (t : Tree) (n : Bytes) → text-of t ≡ gives n → Valid t → T (utf8 n)
 name-valid null n e v = refused-gives e

@@ -9,6 +9,7 @@ pub mod Deletes
 pub mod Kept
 pub mod Meanings
 pub mod Strips
+pub mod Concats
 pub mod KeypathCases
 pub mod Rows
 pub mod Splits

@@ -6,7 +6,6 @@ use mathlib.Core.Logic.{inl, inr, ⊎-elim}
 use mathlib.Core.Bool.{Bool, true, false, cond, _&&_}
 use mathlib.Core.List.{List, [], _∷_}
 use mathlib.Core.Option.{Option, none as nothing, some}
-use lib.Dec.{T}
 use lib.IntN.{pos}
 use Rattle.layout.specs.Bytes.{Bytes}
 use Rattle.layout.specs.Answer.{gives, refused, _>>=_, require}
@@ -21,6 +20,7 @@ use Rattle.layout.proofs.Values.{In, rising-tail, rising-all}
 use Rattle.builders.specs.Order.{by, in-order, find, distinct}
 use Rattle.builders.specs.Build.{count}
 use Rattle.builders.proofs.InOrders.{unlike, has-not, distinct-cons, rising-distinct, rising-cons, in-order-rising, rising-in-order, find-in-order, in-order-valid, in-order-sound, in-order-depth, gather, gather-in-order}
+use Rattle.builders.proofs.Results.{is-true}
 use Rattle.edits.specs.Path.{Step, name, index}
 use Rattle.edits.specs.Find.{_then_, step-place, step-name, item-at, step-into, look-up}
 use Rattle.edits.specs.Strip.{is-null, kept, stripped, stripped-items, stripped-members, unrepeated, unrepeated-items, unrepeated-members, strip}
@@ -398,10 +398,6 @@ strip-is t = refl
 
 pub strip-gives : (t u : Tree) → strip t ≡ gives u → (unrepeated t ≡ true) × (u ≡ stripped t)
 strip-gives t u e = from-require _ _ _ (sym (strip-is t) ∙ e) λ test e₁. (is-true (unrepeated t) test, sym (gives-inj e₁))
-  where
-    is-true : (b : Bool) → T b → b ≡ true
-    is-true true h = refl
-    is-true false h = absurd h
 
 pub strip-given : (t : Tree) → unrepeated t ≡ true → strip t ≡ gives (stripped t)
 strip-given t e = strip-is t ∙ to-require (unrepeated t) Repeated _ _ (rw e tt) refl
