@@ -344,7 +344,7 @@ module _ (ms : Members) (d : distinct (names ms) ≡ true) where
   pub in-order-names : length (payloads (name-parts (names (in-order ms)))) ≡ length (payloads (name-parts (names ms)))
   in-order-names = names-weigh (in-order ms) ∙ weigh-in-order (λ n t. length n) ms d ∙ sym (names-weigh ms)
 
--- Where no member is lost, no name is there twice.
+-- A name that is put in is there, with all that were there.
 insert-in : (n : Bytes) (t : Tree) (ms : Members) → In n (names (insert n t ms))
 insert-in n t empty = inl refl
 insert-in n t (member m u ms) =
@@ -356,6 +356,7 @@ insert-stays n t (member m u ms) x i =
     by-order n m (λ (a : Members). In x (names a)) _ _ _
     (λ _. inr i) (λ _. i) (λ _. ⊎-elim (λ j. inl j) (λ j. inr (insert-stays n t ms x j)) i)
 
+-- A member whose name is there already adds none, and no member adds more than one.
 insert-there : (n : Bytes) (t : Tree) (ms : Members) → Rising (names ms) → In n (names ms)
     → length (member-parts (insert n t ms)) ≡ length (member-parts ms)
 insert-there n t empty h i = absurd i
@@ -377,6 +378,7 @@ all-count : (ms done : Members) → length (member-parts (insert-all ms done)) �
 all-count empty done = omega arith
 all-count (member n t ms) done = omega (arith, all-count ms (insert n t done), insert-count n t done)
 
+-- Where each adds one, no name is repeated, and none is there already.
 all-distinct : (ms done : Members) → Rising (names done)
     → length (member-parts (insert-all ms done)) ≡ length (member-parts ms) + length (member-parts done)
     → (distinct (names ms) ≡ true) × ((x : Bytes) → In x (names ms) → In x (names done) → ⊥)
@@ -391,6 +393,7 @@ all-distinct (member n t ms) done h e =
       λ x i j. ⊎-elim (λ e. new (rw e at j)) (λ i. k .1 x i (insert-stays n t done x j)) i,
     )
 
+-- Where no member is lost, no name is there twice.
 pub count-distinct : (ms : Members) → length (member-parts (in-order ms)) ≡ length (member-parts ms) → distinct (names ms) ≡ true
 count-distinct ms e = all-distinct ms empty tt (omega arith) .0
 

@@ -33,4 +33,5 @@ pub mod SortedAnews
 pub mod Writes
 pub mod Deletions
 pub mod PathResults
+pub mod OperatorResults
 pub mod ForC

@@ -1,4 +1,5 @@
--- What strip means: the members that it keeps, that none of them is null at any level, that names rise, and that nothing else changes.
+-- What strip means: what each name and each place finds after it, that no member is null at any level, that the result is sound
+-- and no longer, and where it is refused.
 use Prim.Native.Nat.{ℕ, zero, suc}
 use native.Mathlib.Omega.{arith}
 use mathlib.Core.Path.{_≡_, refl, ap, sym, _∙_}
@@ -104,6 +105,7 @@ find-unrepeated (member m u ms) n t e h =
 
 -- ---- the members that stay
 
+-- Their names and order are the same, whether their values are stripped or not.
 pub stripped-kept-names : (ms : Members) → names (stripped-members ms) ≡ names (kept ms)
 stripped-kept-names empty = refl
 stripped-kept-names (member n t ms) = go (is-null t) (stripped-kept-names ms)
@@ -138,6 +140,7 @@ mutual
       (λ _. (strip-sound t, strip-members-sound ms))
 
 mutual
+  -- As valid as it was, no deeper and no longer.
   pub strip-shrinks : (t : Tree) → NoMore (stripped t) t
   strip-shrinks null = no-more-same null
   strip-shrinks (boolean x) = no-more-same (boolean x)
@@ -392,6 +395,7 @@ mutual
   sound-members-unrepeated empty s = refl
   sound-members-unrepeated (member n t ms) s = rw (sound-unrepeated t (s .0)) (sound-members-unrepeated ms (s .1))
 
+-- "A name repeated among kept members is 8."
 strip-is : (t : Tree) → strip t ≡ (require (unrepeated t) Repeated >>= λ _. gives (stripped t))
 unfolding strip
 strip-is t = refl
