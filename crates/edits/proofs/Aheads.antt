@@ -1,8 +1,10 @@
 -- The members of an object taken one by one: whether they are taken as they stand or searched for, each is the next one in byte
 -- order.
-use Prim.Native.Nat.{ℕ, _+_, _*_, _-_, _^_, _≤_, _<_, sub-zero}
+use Prim.Native.Nat.{ℕ, _+_, _*_, _-_, _^_, _≤_, _<_}
+use native.Mathlib.Nat.{sub-zero}
 use native.Mathlib.Omega.{arith}
 use mathlib.Core.Path.{_≡_, refl, ap, sym, _∙_}
+use mathlib.Core.Logic.{inl, inr}
 use mathlib.Core.Bool.{Bool, true, false}
 use mathlib.Core.List.{List, [], _∷_, _++_, append-assoc}
 use lib.ListN.{length}
@@ -137,7 +139,6 @@ module _ (s : Bytes) (n : ℕ) (kept : Kept) (last : Bound) (a : Ahead) (h : Ahe
       go true q = stands-is r (h .rest q) (e .stands q)
       go false q = searched-is r (h .all q) (e .searched q)
 
-  -- It is above the last.
   module _ (m : MemberAt) (b : Ahead) (e : Next s kept last a (Member m b)) where
     -- What is then ahead is above it.
     pub ahead-taken : over last (name-in s m) ≡ true → AheadOf s n kept (after (name-in s m)) b
@@ -170,10 +171,10 @@ module _ (s : Bytes) (n : ℕ) (kept : Kept) (last : Bound) (a : Ahead) (h : Ahe
         go true q = rising q
         go false q =
             let z : b ≡ a = e .searched q .1 in
-            rw z (record { near = h .near; all = h .all; rest = λ t. let y : true ≡ false = sym t ∙ q in cc })
+            rw z (record { near = h .near; all = h .all; rest = λ t. let y : true ≡ false = sym t ∙ q in let z : _≡_ {A = ℕ} 0 1 = cc in let w : ⊥ = omega arith in absurd w })
 
   -- A name above the last and below the next, or where there is no next: what is ahead stays.
-  below-next : Bytes → Taken → Type 0
+  abbrev pub below-next : Bytes → Taken → Type 0
   below-next x End = Unit {0}
   below-next x (Member m b) = order x (name-in s m) ≡ Less
 
@@ -193,5 +194,5 @@ module _ (s : Bytes) (n : ℕ) (kept : Kept) (last : Bound) (a : Ahead) (h : Ahe
       }
     where
       head : (r : Taken) (m : MemberAt) (ms : List MemberAt) → kept-ahead s kept a ≡ m ∷ ms → Stands s kept a r → below-next x r → order x (name-in s m) ≡ Less
-      head End m ms q st l = let z : [] ≡ m ∷ ms = sym st ∙ q in absurd (no-cons z)
+      head End m ms q st l = let z : [] ≡ m ∷ ms = sym st ∙ q in let y : _≡_ {A = ℕ} 0 1 = cc in let w : ⊥ = omega arith in absurd w
       head (Member k b) m ms q st l = let z : k ∷ kept-ahead s kept b ≡ m ∷ ms = sym (st .0) ∙ q in let y : k ≡ m = cc in rw (← y) l
