@@ -24,6 +24,7 @@ pub mod Withouts
 pub mod Manners
 pub mod Measures
 pub mod Sorteds
+pub mod Standings
 pub mod Aheads
 pub mod Leds
 pub mod Onwards

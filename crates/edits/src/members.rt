@@ -20,6 +20,7 @@ ghost use Prim.Native.Nat.{_+_, _^_, _≤_, _<_};
 ghost use Rattle.builders.specs.Search.{bound};
 ghost use Rattle.edits.specs.Members.{«members-of» as membersOf, «places-for» as placesFor};
 ghost use Rattle.edits.specs.Members.{«in-turn» as inTurn, «sizes-of» as sizesOf, «all-ahead» as allAhead};
+ghost use Rattle.edits.specs.Members.{«kept-ahead» as keptAhead};
 ghost use Rattle.edits.specs.Members.{Near, Stands, Next};
 
 // How many members are written anew, and how long their names and values are.
@@ -141,6 +142,31 @@ fn next_standing(s: &[u8], ahead: Ahead, kept: Kept) -> Taken
         here = next;
     }
     Taken::End
+}
+
+// The sizes of the members ahead, those left out aside.
+pub(crate) fn measure_ahead(s: &[u8], ahead: Ahead, kept: Kept) -> Sizes
+    requires { ⌜ Near ahead ⌝ }
+    ensures { λ r. ⌜ r ≡ sizesOf (now (s .entry)) (keptAhead (now (s .entry)) kept ahead) ⌝ }
+{
+    let mut sizes = Sizes {
+        count: 0,
+        keys: 0,
+        vals: 0,
+    };
+    let mut here = ahead;
+    while here.index < here.count {
+        let Taken::Member(member, next) = next_standing(s, here, kept) else {
+            return sizes;
+        };
+        sizes = Sizes {
+            count: sizes.count + 1,
+            keys: sizes.keys + payload_at(s, member.key).len(),
+            vals: sizes.vals + payload_at(s, member.val).len(),
+        };
+        here = next;
+    }
+    sizes
 }
 
 // The next member in byte order behind the last one taken, those left out aside.

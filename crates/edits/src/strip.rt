@@ -2,8 +2,8 @@
 use crate::delete::Cursor;
 use crate::find::PartAt;
 use crate::find::part_behind;
-use crate::members::Sizes;
 use crate::members::Taken;
+use crate::members::measure_ahead;
 use crate::members::members_ahead;
 use crate::members::next_in_order;
 use crate::members::places_for;
@@ -11,9 +11,7 @@ use builders::search::ItemAt;
 use builders::search::Kept;
 use builders::search::MemberAt;
 use builders::search::Places;
-use builders::search::is_kept;
 use builders::search::payload_at;
-use builders::search::read_member;
 use layout::constants::ARRAY_CONTAINER_TAG;
 use layout::constants::CONTAINER_CODE;
 use layout::constants::DEPTH_LIMIT;
@@ -22,7 +20,6 @@ use layout::constants::JENTRY_SIZE;
 use layout::constants::OBJECT_CONTAINER_TAG;
 use layout::ending::Ending;
 use layout::jentry::encoded;
-use layout::jentry::payload_len;
 use layout::jentry::read_jentry;
 use layout::jentry::type_code;
 use layout::refusal::Refusal;
@@ -42,9 +39,7 @@ ghost use Rattle.layout.specs.Patch.{patch};
 ghost use Rattle.layout.specs.Ended.{Ended};
 ghost use Rattle.layout.specs.declared.check.Check.the-variants.{Readable};
 ghost use Rattle.builders.specs.Search.{«bytes-at» as bytesAt, «name-in» as nameIn, «value-in» as valueIn};
-ghost use Rattle.builders.specs.Search.{«members-at» as membersAt, «kept-of» as keptOf};
 ghost use Rattle.builders.specs.Weave.{stored};
-ghost use Rattle.edits.specs.Members.{«sizes-of» as sizesOf};
 ghost use Rattle.edits.specs.Stripping.{Strippable, Strips, «stripped-of» as strippedOf, «unrepeated-of» as unrepeatedOf};
 ghost use Rattle.edits.specs.Stripping.{«strip-item» as stripItem, «strip-entry» as stripEntry, «unrepeated-item» as unrepeatedItem};
 ghost use Rattle.edits.specs.Stripping.{«strip-value» as stripValue, «value-entry» as valueEntry, «strip-out» as stripOut};
@@ -53,39 +48,6 @@ ghost use Rattle.edits.specs.Stripping.{«strip-value» as stripValue, �
 pub enum Stripped {
     Len(usize),
     Repeated,
-}
-
-// The sizes of the members whose value is not null.
-fn measure_kept(s: &[u8], from: Places, n: usize) -> Sizes
-    requires { ⌜ (n < 2 ^ 29)
-        × (from .«key_jentry» < 2 ^ 32) × (from .«val_jentry» < 2 ^ 32) × (from .key < 2 ^ 32) × (from .val < 2 ^ 32) ⌝ }
-    ensures { λ r. ⌜ r ≡ sizesOf (now (s .entry)) (keptOf Kept.NonNull 0 (membersAt (now (s .entry)) (now (s .entry)) from n)) ⌝ }
-{
-    let mut sizes = Sizes {
-        count: 0,
-        keys: 0,
-        vals: 0,
-    };
-    let mut at = from;
-    let mut i = 0;
-    while i < n {
-        let member = read_member(s, s, at);
-        if is_kept(Kept::NonNull, i, member) {
-            sizes = Sizes {
-                count: sizes.count + 1,
-                keys: sizes.keys + payload_at(s, member.key).len(),
-                vals: sizes.vals + payload_at(s, member.val).len(),
-            };
-        }
-        at = Places {
-            key_jentry: at.key_jentry + JENTRY_SIZE,
-            val_jentry: at.val_jentry + JENTRY_SIZE,
-            key: at.key + payload_len(member.key.jentry) as usize,
-            val: at.val + payload_len(member.val.jentry) as usize,
-        };
-        i += 1;
-    }
-    sizes
 }
 
 // Stores an item, a container stripped and anything else as it is, and gives the length of its payload.
@@ -172,7 +134,7 @@ fn put_members_stripped(s: &[u8], n: usize, out: &mut [u8], at: usize, allowance
         (patch (now (out .entry)) at (strippedOf (now (s .entry)))) ⌝ }
 {
     let mut ahead = members_ahead(s, n);
-    let sizes = measure_kept(s, ahead.at, n);
+    let sizes = measure_ahead(s, ahead, Kept::NonNull);
     let mut to = places_for(sizes, at);
     put_u32(out, at, OBJECT_CONTAINER_TAG | sizes.count as u32);
     let mut last = slice(s, 0, 0);
