@@ -220,6 +220,36 @@ module _ (key : MemberAt → Bytes) where
   unfolding least step better
   least-first last m ms h a = rw h (least-stays last m ms a)
 
+  -- What the search finds is above the last.
+  abbrev OverAt : Bound → Found → Type 0
+  OverAt last Nothing = Unit {0}
+  OverAt last (At m) = over last (key m) ≡ true
+
+  over-better : (last : Bound) (best : Found) (m : MemberAt) → OverAt last best → over last (key m) ≡ true → OverAt last (better key best m)
+  unfolding better
+  over-better last Nothing m h o = o
+  over-better last (At b) m h o = go (before (key m) (key b))
+    where
+      go : (u : Bool) → OverAt last (cond u (At m) (At b))
+      go true = o
+      go false = h
+
+  over-step : (last : Bound) (best : Found) (m : MemberAt) → OverAt last best → OverAt last (step key last best m)
+  unfolding step
+  over-step last best m h = go (over last (key m)) refl
+    where
+      go : (u : Bool) → over last (key m) ≡ u → OverAt last (cond u (better key best m) best)
+      go true q = over-better last best m h q
+      go false q = h
+
+  over-least : (last : Bound) (best : Found) (ms : List MemberAt) → OverAt last best → OverAt last (least key last best ms)
+  unfolding least
+  over-least last best [] h = h
+  over-least last best (m ∷ ms) h = over-least last (step key last best m) ms (over-step last best m h)
+
+  pub least-over : (last : Bound) (ms : List MemberAt) (m : MemberAt) → least key last Nothing ms ≡ At m → over last (key m) ≡ true
+  least-over last ms m e = rw e at (over-least last Nothing ms tt)
+
   -- A name above the last, taken: those passed before it stay so, and what is above it is above the bound that it sets.
   later-passed : (last : Bound) (x n : Bytes) → over last x ≡ true → over last n ≡ false → over (after x) n ≡ false
   unfolding over before

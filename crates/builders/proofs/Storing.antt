@@ -9,9 +9,13 @@ use lib.Dec.{eqb}
 use lib.ListN.{length, drop, length-append, drop-of-length-le}
 use borrow.Author.Tests.{ne-eqb}
 use Rattle.layout.specs.Bytes.{Bytes, be32}
+use Rattle.layout.specs.Order.{order}
 use Rattle.layout.specs.Patch.{patch}
+use Rattle.layout.specs.declared.order.Ordering.{Ordering}
+use Rattle.layout.specs.declared.order.Ordering.the-variants.{Less, Equal, Greater}
 use Rattle.layout.proofs.Patches.{length-patch}
-use Rattle.builders.specs.Search.{bytes-at, name-in, value-in, members-at, kept-of, bound, least, sorted, nth}
+use Rattle.builders.specs.Order.{by}
+use Rattle.builders.specs.Search.{bytes-at, name-in, value-in, members-at, kept-of, bound, least, put-in, put-all, sorted, nth}
 use Rattle.builders.specs.Weave.{behind, own-entry, stored, woven, column}
 use Rattle.builders.specs.declared.search.ItemAt.{ItemAt}
 use Rattle.builders.specs.declared.search.MemberAt.{MemberAt}
@@ -43,6 +47,32 @@ column-cons f m ms = length-append (f m) (column f ms)
 pub column-none : (f : MemberAt → Bytes) → length (column f []) ≡ 0
 unfolding column
 column-none f = refl
+
+-- Put in order, of equal names the first, members take no more room; and neither do they with shorter columns.
+module _ (name f : MemberAt → Bytes) where
+  column-by : (o : Ordering) (m b : MemberAt) (bs r : List MemberAt) → length (column f r) ≤ length (f m) + length (column f bs)
+      → length (column f (by o (m ∷ b ∷ bs) (b ∷ bs) (b ∷ r))) ≤ length (f m) + length (column f (b ∷ bs))
+  column-by Less m b bs r h = omega (arith, column-cons f m (b ∷ bs))
+  column-by Equal m b bs r h = omega arith
+  column-by Greater m b bs r h = omega (arith, column-cons f b r, column-cons f b bs)
+
+  column-put : (m : MemberAt) (bs : List MemberAt) → length (column f (put-in name m bs)) ≤ length (f m) + length (column f bs)
+  unfolding put-in
+  column-put m [] = omega (arith, column-cons f m [])
+  column-put m (b ∷ bs) = column-by (order (name m) (name b)) m b bs (put-in name m bs) (column-put m bs)
+
+  column-all : (done ms : List MemberAt) → length (column f (put-all name done ms)) ≤ length (column f done) + length (column f ms)
+  unfolding put-all
+  column-all done [] = omega arith
+  column-all done (m ∷ ms) = omega (arith, column-all (put-in name m done) ms, column-put m done, column-cons f m ms)
+
+  pub column-sorted : (ms : List MemberAt) → length (column f (sorted name ms)) ≤ length (column f ms)
+  unfolding sorted
+  column-sorted ms = omega (arith, column-all [] ms, column-none f)
+
+pub column-less : (f g : MemberAt → Bytes) (ms : List MemberAt) → ((m : MemberAt) → length (f m) ≤ length (g m)) → length (column f ms) ≤ length (column g ms)
+column-less f g [] h = omega (arith, column-none f, column-none g)
+column-less f g (m ∷ ms) h = omega (arith, column-cons f m ms, column-cons g m ms, h m, column-less f g ms h)
 
 -- The search, repeated: `i` members of those in byte order were found, the last of them with the name `last`.
 module _ (name : MemberAt → Bytes) (searched : List MemberAt) where
