@@ -166,7 +166,7 @@ one-gives (extension b) = scalar-gives (extension b)
 one-gives (array ts) = record { count = refl; table = sym (append-nil _); rest = sym (append-nil _) }
 one-gives (object ms) = record { count = refl; table = sym (append-nil _); rest = sym (append-nil _) }
 
-join-parts : (ts us : Items) → item-parts (join ts us) ≡ item-parts ts ++ item-parts us
+pub join-parts : (ts us : Items) → item-parts (join ts us) ≡ item-parts ts ++ item-parts us
 join-parts none us = refl
 join-parts (item t ts) us = ap (λ ps. part t ∷ ps) (join-parts ts us)
 

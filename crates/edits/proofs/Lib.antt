@@ -31,6 +31,9 @@ pub mod Onwards
 pub mod Anews
 pub mod Reweaves
 pub mod SortedAnews
+pub mod Stripped
+pub mod StripItems
+pub mod StripMembers
 pub mod Writes
 pub mod Deletions
 pub mod PathResults

@@ -75,7 +75,7 @@ same-false n m d = go (order n m) refl
     go Greater q = same-as n m Greater q
 
 -- The name of a member that stands is among the names.
-nth-in : (name value : MemberAt → Bytes) (entry : MemberAt → ℕ) (xs : List MemberAt) (ms : Members) → Stand name value entry xs ms
+pub nth-in : (name value : MemberAt → Bytes) (entry : MemberAt → ℕ) (xs : List MemberAt) (ms : Members) → Stand name value entry xs ms
     → (i : ℕ) (m : MemberAt) → nth xs i ≡ FoundAt m → In (name m) (names ms)
 unfolding nth
 nth-in name value entry [] ms h i m e = let z : _≡_ {A = ℕ} 0 1 = cc in let w : ⊥ = omega arith in absurd w
@@ -166,7 +166,7 @@ module _ (s n : Bytes) (rest : List Step) (before after : Tree)
       stand-found xs ms (rising-tail k (names ms) r) (found-later (order n k) k t ms refl f d) (h .1) i m e g
 
 -- One of a column is no longer than the column.
-column-part : (f : MemberAt → Bytes) (xs : List MemberAt) (i : ℕ) (m : MemberAt) → nth xs i ≡ FoundAt m → length (f m) ≤ length (column f xs)
+pub column-part : (f : MemberAt → Bytes) (xs : List MemberAt) (i : ℕ) (m : MemberAt) → nth xs i ≡ FoundAt m → length (f m) ≤ length (column f xs)
 unfolding nth
 column-part f [] i m e = let z : _≡_ {A = ℕ} 0 1 = cc in let w : ⊥ = omega arith in absurd w
 column-part f (x ∷ xs) zero m e = let q : x ≡ m = cc in rw (← q) (omega (arith, column-cons f x xs))

@@ -18,8 +18,8 @@ use Rattle.edits.proofs.Tables.{Parted}
 use Rattle.edits.proofs.Cuts.{Part-at, without-stored, Member-at, at-member, two-stored, key-size, key-place, val-place, val-size, two-end}
 
 -- A header with a smaller count.
-array-word : (n : ℕ) → n ≤ 65536 → bitOr (2 ^ 31) (n - 1) ≡ 2 ^ 31 + (n - 1)
-array-word n h = or-shifted 1 31 (n - 1) (omega arith)
+pub array-word : (n : ℕ) → n ≤ 65536 → bitOr (2 ^ 31) n ≡ 2 ^ 31 + n
+array-word n h = or-shifted 1 31 n (omega arith)
 
 pub object-word : (n : ℕ) → n ≤ 65536 → bitOr (2 ^ 30) n ≡ 2 ^ 30 + n
 object-word n h = or-shifted 1 30 n (omega arith)
@@ -33,7 +33,7 @@ module _ (s : Bytes) (n : ℕ) (a : PartAt) (d : Part-at s n a) (o o₁ o₂ o�
       × (o₃ ≡ patch (patch o₂ (middle .jentry) (run-entries s next (record { index = n; place = length s }))) (middle .place) (run-payloads s next (record { index = n; place = length s })))
       → Left (end .place - at) o o₃ at (record-of (2 ^ 31 + (n - 1)) (without (a .index) (parts-of s n)))
   array-gone ew e₁ sj sp h₁ en h₂ =
-      let q : w ≡ 2 ^ 31 + (n - 1) = ew ∙ array-word n (omega (arith, d .table, d .short)) in
+      let q : w ≡ 2 ^ 31 + (n - 1) = ew ∙ array-word (n - 1) (omega (arith, d .table, d .short)) in
       rw (← q) (without-stored s n a d o o₁ o₂ o₃ at w start middle end next e₁ sj sp h₁ en h₂)
 
 -- An object at one of its values, the name of which is its part `k`.

@@ -1,0 +1,352 @@
+-- An object stripped: the members that are kept are stored in byte order of their names, each with its value stripped.
+use Prim.Native.Nat.{ℕ, zero, suc, _+_, _*_, _-_, _^_, _≤_, _<_}
+use native.Mathlib.Nat.{sub-zero}
+use native.Mathlib.Omega.{arith}
+use mathlib.Core.Path.{_≡_, refl, ap, sym, _∙_}
+use mathlib.Core.Bool.{Bool, true, false, not, cond, _&&_}
+use mathlib.Core.List.{List, [], _∷_}
+use mathlib.Core.Option.{Option, none as nothing, some}
+use lib.Bits.{bitOr}
+use lib.Dec.{eqb}
+use lib.ListN.{length, drop, length-take, length-drop}
+use Rattle.layout.specs.Bytes.{Bytes, Octets, be32}
+use Rattle.layout.specs.Entry.{code, code-of, length-of}
+use Rattle.layout.specs.Tree.{Tree, null, boolean, number, string, extension, array, object, Members, empty, member, names, kind}
+use Rattle.layout.specs.Encode.{entry-word, payloads, payload, name-parts, member-parts, part}
+use Rattle.layout.specs.Order.{order}
+use Rattle.layout.specs.Sound.{Rising}
+use Rattle.layout.specs.Read.{header}
+use Rattle.layout.specs.Check.{checked}
+use Rattle.layout.specs.Limits.{Valid, ValidMembers, depth, depth-members, size, size-members}
+use Rattle.layout.specs.Patch.{patch}
+use Rattle.layout.specs.declared.order.Ordering.{Ordering}
+use Rattle.layout.specs.declared.order.Ordering.the-variants.{Less, Equal, Greater}
+use Rattle.layout.specs.declared.item.Kind.the-variants.{Container}
+use Rattle.layout.specs.declared.util.Header.the-variants.{Object}
+use Rattle.layout.proofs.Words.{octets-take, octets-drop}
+use Rattle.layout.proofs.Fields.{code-entry}
+use Rattle.layout.proofs.Level.{code-small}
+use Rattle.layout.proofs.Readables.{size-payload}
+use Rattle.layout.proofs.Answers.{gives-inj}
+use Rattle.layout.proofs.Values.{rising-tail, rising-all, ≺-irrefl}
+use Rattle.builders.specs.Order.{by, insert, insert-all, in-order, find, distinct}
+use Rattle.builders.specs.Search.{bytes-at, name-in, value-in, members-at, is-kept, kept-of, sorted, nth}
+use Rattle.builders.specs.Weave.{own-entry, woven, column}
+use Rattle.builders.specs.declared.search.Kept.the-variants.{NonNull}
+use Rattle.builders.specs.declared.search.MemberAt.{MemberAt}
+use Rattle.builders.specs.declared.search.Places.{Places}
+use Rattle.builders.specs.declared.search.Found.the-variants.{At}
+use Rattle.builders.proofs.Orderings.{order-equal, order-refl}
+use Rattle.builders.proofs.InOrders.{in-order-rising, find-in-order, in-order-count, in-order-names, count-distinct}
+use Rattle.builders.proofs.Searches.{length-sorted}
+use Rattle.builders.proofs.Storing.{column-sorted, column-less}
+use Rattle.builders.proofs.Stands.{Stands, Stand, stand-sorted, stand-names}
+use Rattle.edits.specs.Strip.{is-null, kept, stripped, stripped-members, unrepeated, unrepeated-members}
+use Rattle.edits.specs.Stripping.{stripped-of, unrepeated-of, Strippable, strip-item, strip-value, value-entry, unrepeated-item, Strips}
+use Rattle.edits.specs.Members.{members-of, places-for, sizes-of, kept-ahead, all-ahead}
+use Rattle.edits.specs.declared.members.Sizes.{Sizes}
+use Rattle.edits.specs.declared.strip.Stripped.{Stripped}
+use Rattle.edits.specs.declared.strip.Stripped.the-variants.{Len, Repeated}
+use Rattle.edits.proofs.Deletes.{some-inj, nothing-some}
+use Rattle.edits.proofs.Strips.{in-order-unrepeated, kept-unrepeated, find-unrepeated, stripped-kept-names}
+use Rattle.edits.proofs.Tables.{Contains}
+use Rattle.edits.proofs.Withouts.{object-word}
+use Rattle.edits.proofs.Sorteds.{Object-at, object-at, stand-count, stand-sizes, stand-woven}
+use Rattle.edits.proofs.SortedAnews.{nth-in}
+use Rattle.edits.proofs.Aheads.{searched}
+use Rattle.edits.proofs.Stripped.{Bared, bared, no-longer, Tree-at, strippable-at, stripped-at}
+
+-- Only null has code 0.
+null-code : (t : Tree) → eqb (code (kind t)) 0 ≡ is-null t
+null-code null = refl
+null-code (boolean true) = refl
+null-code (boolean false) = refl
+null-code (number b) = refl
+null-code (string b) = refl
+null-code (extension b) = refl
+null-code (array ts) = refl
+null-code (object ms) = refl
+
+-- A value of an object that can be stripped: its tree, as far as stripping asks.
+pub record Fine (t : Tree) (s : Bytes) (a : ℕ) : Type 0 where
+  pub short : length (payload t) ≤ length s
+  pub valid : Valid t
+  pub deep : depth t ≤ a
+
+abbrev AllFine : Members → Bytes → ℕ → Type 0
+AllFine empty s a = Unit {0}
+AllFine (member n t ms) s a = Fine t s a × AllFine ms s a
+
+all-fine : (ms : Members) (s : Bytes) (a : ℕ) → ValidMembers ms → depth-members ms ≤ a → size-members ms ≤ length s → AllFine ms s a
+all-fine empty s a v d l = tt
+all-fine (member n t ms) s a v d l = (
+  record { short = omega (arith, size-payload t); valid = v .1; deep = omega arith },
+  all-fine ms s a (v .2) (omega arith) (omega arith),
+)
+
+module _ (s : Bytes) (a : ℕ) (o : Octets s) (l : length s ≤ 65536) (al : a ≤ 64) where
+  -- Members of the record stand for members of the tree; then those that are kept stand for those that are kept, and stripped for
+  -- those stripped.
+  tree-at : (x : MemberAt) (n : Bytes) (t : Tree) → Stands (name-in s) (value-in s) own-entry x n t → Fine t s a → Tree-at s (x .val) t a
+  tree-at x n t h f =
+      record {
+        entry = h .1;
+        bytes = h .3;
+        short = omega (arith, f .short);
+        octets = rw (← h .3) (octets-take (length-of (x .val .jentry)) (drop (x .val .place) s) (octets-drop (x .val .place) s o));
+        valid = f .valid;
+        deep = f .deep;
+        allowed = al;
+      }
+
+  kept-as : (x : MemberAt) (i : ℕ) (n : Bytes) (t : Tree) → Stands (name-in s) (value-in s) own-entry x n t → Fine t s a
+      → is-kept NonNull i x ≡ not (is-null t)
+  unfolding is-kept
+  kept-as x i n t h f =
+      let c : code-of (x .val .jentry) ≡ code (kind t) =
+      ap code-of (h .1) ∙ code-entry (code (kind t)) (length (payload t)) (omega (arith, code-small (kind t))) (omega (arith, f .short)) in
+      ap not (ap (λ (k : ℕ). eqb k 0) c ∙ null-code t)
+
+  stand-kept : (i : ℕ) (xs : List MemberAt) (ms : Members) → Stand (name-in s) (value-in s) own-entry xs ms → AllFine ms s a
+      → Stand (name-in s) (value-in s) own-entry (kept-of NonNull i xs) (kept ms)
+  unfolding kept-of
+  stand-kept i [] empty h f = tt
+  stand-kept i [] (member n t ms) h f = absurd h
+  stand-kept i (x ∷ xs) empty h f = absurd h
+  stand-kept i (x ∷ xs) (member n t ms) h f =
+      rw (kept-as x i n t (h .0) (f .0)) (go (is-null t) (stand-kept (i + 1) xs ms (h .1) (f .1)))
+    where
+      go : (g : Bool) → Stand (name-in s) (value-in s) own-entry (kept-of NonNull (i + 1) xs) (kept ms)
+          → Stand (name-in s) (value-in s) own-entry (cond (not g) (x ∷ kept-of NonNull (i + 1) xs) (kept-of NonNull (i + 1) xs)) (cond g (kept ms) (member n t (kept ms)))
+      go true r = r
+      go false r = (h .0, r)
+
+  stand-stripped : (i : ℕ) (xs : List MemberAt) (ms : Members) → Stand (name-in s) (value-in s) own-entry xs ms → AllFine ms s a
+      → Stand (name-in s) (strip-value s) (value-entry s) (kept-of NonNull i xs) (stripped-members ms)
+  unfolding kept-of
+  stand-stripped i [] empty h f = tt
+  stand-stripped i [] (member n t ms) h f = absurd h
+  stand-stripped i (x ∷ xs) empty h f = absurd h
+  stand-stripped i (x ∷ xs) (member n t ms) h f =
+      rw (kept-as x i n t (h .0) (f .0)) (go (is-null t) (stand-stripped (i + 1) xs ms (h .1) (f .1)))
+    where
+      here : Stands (name-in s) (strip-value s) (value-entry s) x n (stripped t)
+      here = let r = stripped-at s (x .val) t a (tree-at x n t (h .0) (f .0)) in (h .0 .0, r .1, h .0 .2, r .0)
+
+      go : (g : Bool) → Stand (name-in s) (strip-value s) (value-entry s) (kept-of NonNull (i + 1) xs) (stripped-members ms)
+          → Stand (name-in s) (strip-value s) (value-entry s) (cond (not g) (x ∷ kept-of NonNull (i + 1) xs) (kept-of NonNull (i + 1) xs))
+          (cond g (stripped-members ms) (member n (stripped t) (stripped-members ms)))
+      go true r = r
+      go false r = (here, r)
+
+  fine-kept : (ms : Members) → AllFine ms s a → AllFine (kept ms) s a
+  fine-kept empty f = tt
+  fine-kept (member n t ms) f = go (is-null t) (fine-kept ms (f .1))
+    where
+      go : (g : Bool) → AllFine (kept ms) s a → AllFine (cond g (kept ms) (member n t (kept ms))) s a
+      go true r = r
+      go false r = (f .0, r)
+
+  fine-insert : (n : Bytes) (t : Tree) (ms : Members) → Fine t s a → AllFine ms s a → AllFine (insert n t ms) s a
+  fine-insert n t empty h f = (h, tt)
+  fine-insert n t (member m u ms) h f = go (order n m) (fine-insert n t ms h (f .1))
+    where
+      go : (c : Ordering) → AllFine (insert n t ms) s a → AllFine (by c (member n t (member m u ms)) (member m u ms) (member m u (insert n t ms))) s a
+      go Less r = (h, f)
+      go Equal r = f
+      go Greater r = (f .0, r)
+
+  fine-all : (ms done : Members) → AllFine ms s a → AllFine done s a → AllFine (insert-all ms done) s a
+  fine-all empty done f g = g
+  fine-all (member n t ms) done f g = fine-all ms (insert n t done) (f .1) (fine-insert n t done (f .0) g)
+
+  -- Where each value is found unrepeated, all are.
+  each-one : (xs : List MemberAt) (ms : Members) → Stand (name-in s) (value-in s) own-entry xs ms → AllFine ms s a
+      → ((k : ℕ) (m : MemberAt) → nth xs k ≡ At m → unrepeated-item s (m .val) ≡ true) → unrepeated-members ms ≡ true
+  unfolding nth
+  each-one [] empty h f e = refl
+  each-one [] (member n t ms) h f e = absurd h
+  each-one (x ∷ xs) empty h f e = absurd h
+  each-one (x ∷ xs) (member n t ms) h f e =
+      let u : unrepeated t ≡ true = sym (stripped-at s (x .val) t a (tree-at x n t (h .0) (f .0)) .2) ∙ e 0 x refl in
+      rw u (each-one xs ms (h .1) (f .1) (λ k m q. e (suc k) m q))
+
+  fine-find : (ms : Members) (n : Bytes) (t : Tree) → AllFine ms s a → find n ms ≡ some t → Fine t s a
+  fine-find empty n t f e = nothing-some e
+  fine-find (member m u ms) n t f e = go (order n m) e (fine-find ms n t (f .1))
+    where
+      go : (c : Ordering) → by c (find n ms) (some u) (find n ms) ≡ some t → (find n ms ≡ some t → Fine t s a) → Fine t s a
+      go Less q r = r q
+      go Equal q r = rw (← some-inj q) (f .0)
+      go Greater q r = r q
+
+-- The member that stands at a place of members in order, by its name.
+stand-nth : (name value : MemberAt → Bytes) (entry : MemberAt → ℕ) (xs : List MemberAt) (ms : Members) → Rising (names ms) → Stand name value entry xs ms
+    → (i : ℕ) (m : MemberAt) → nth xs i ≡ At m → (t : Tree) × (find (name m) ms ≡ some t) × Stands name value entry m (name m) t
+unfolding nth
+stand-nth name value entry [] ms r h i m e = let z : _≡_ {A = ℕ} 0 1 = cc in let w : ⊥ = omega arith in absurd w
+stand-nth name value entry (x ∷ xs) empty r h i m e = absurd h
+stand-nth name value entry (x ∷ xs) (member k t ms) r h zero m e =
+    let q : x ≡ m = cc in
+    let n : name m ≡ k = ap name (sym q) ∙ h .0 .2 in
+    (t, rw (n, order-refl k), rw (← q, h .0 .2) (h .0 .0, h .0 .1, refl, h .0 .3))
+stand-nth name value entry (x ∷ xs) (member k t ms) r h (suc i) m e =
+    let w = stand-nth name value entry xs ms (rising-tail k (names ms) r) (h .1) i m e in
+    let d : name m ≡ k → ⊥ = λ q. ≺-irrefl k (rw q at (rising-all k (names ms) r (name m) (nth-in name value entry xs ms (h .1) i m e))) in
+    (w .0, later (order (name m) k) refl d ∙ w .1, w .2)
+  where
+    later : (c : Ordering) → order (name m) k ≡ c → (name m ≡ k → ⊥) → by c (find (name m) ms) (some t) (find (name m) ms) ≡ find (name m) ms
+    later Less q d = refl
+    later Equal q d = absurd (d (order-equal (name m) k q))
+    later Greater q d = refl
+
+-- An object that is stripped, by its bytes.
+pub record Bare-object (s : Bytes) (n a : ℕ) : Type 0 where
+  pub object-is : Object-at s n
+  pub fine : AllFine (object-is .members) s (a - 1)
+  pub allowed : a ≤ 64
+  pub levels : 1 ≤ a
+  pub octets : Octets s
+  pub stripped-is : stripped-of s ≡ payload (object (in-order (stripped-members (object-is .members))))
+  pub unrepeated-is : unrepeated-of s ≡ (distinct (names (kept (object-is .members))) && unrepeated-members (object-is .members))
+
+pub bare-object : (s : Bytes) (n a : ℕ) → Octets s → Strippable s a → header s ≡ Object n → Bare-object s n a
+bare-object s n a o st h =
+    let b = bared s a o st in
+    let w = object-at s n o (ap checked (b .contained .reads)) (st .short) h in
+    let e : b .tree ≡ object (w .members) = gives-inj (sym (b .contained .reads) ∙ w .contained .reads) in
+    let k : Contains a s (object (w .members)) = rw e at (b .inside) in
+    record {
+      object-is = w;
+      fine = all-fine (w .members) s (a - 1) (k .valid) (omega (arith, k .deep)) (omega (arith, ap length (w .bytes), size-payload (object (w .members))));
+      allowed = st .allowed;
+      levels = omega (arith, k .deep);
+      octets = o;
+      stripped-is = b .stripped-is ∙ ap (λ (t : Tree). payload (stripped t)) e;
+      unrepeated-is = b .unrepeated-is ∙ ap unrepeated e;
+    }
+
+-- The loop: the kept members in byte order.
+module _ (s : Bytes) (n a : ℕ) (w : Bare-object s n a) where
+  abbrev ms : Members
+  ms = w .object-is .members
+
+  abbrev all : List MemberAt
+  all = sorted (name-in s) (searched s n NonNull)
+
+  short : length s ≤ 65536
+  short = w .object-is .short
+
+  lower : a - 1 ≤ 64
+  lower = omega (arith, w .allowed)
+
+  found-kept : Stand (name-in s) (value-in s) own-entry (searched s n NonNull) (kept ms)
+  found-kept = stand-kept s (a - 1) (w .octets) short lower 0 (members-at s s (members-of s n) n) ms (w .object-is .stand) (w .fine)
+
+  own : Stand (name-in s) (value-in s) own-entry all (in-order (kept ms))
+  own = stand-sorted (name-in s) (value-in s) own-entry (searched s n NonNull) (kept ms) found-kept
+
+  bare-stand : Stand (name-in s) (strip-value s) (value-entry s) all (in-order (stripped-members ms))
+  bare-stand =
+      stand-sorted (name-in s) (strip-value s) (value-entry s) (searched s n NonNull) (stripped-members ms)
+      (stand-stripped s (a - 1) (w .octets) short lower 0 (members-at s s (members-of s n) n) ms (w .object-is .stand) (w .fine))
+
+  -- A member of them.
+  module _ (i : ℕ) (m : MemberAt) (e : nth all i ≡ At m) where
+    pub value-tree : (t : Tree) × (find (name-in s m) (kept ms) ≡ some t) × Tree-at s (m .val) t (a - 1)
+    value-tree =
+        let x = stand-nth (name-in s) (value-in s) own-entry all (in-order (kept ms)) (in-order-rising (kept ms)) own i m e in
+        let f : find (name-in s m) (kept ms) ≡ some (x .0) = sym (find-in-order (name-in s m) (kept ms)) ∙ x .1 in (
+          x .0,
+          f,
+          tree-at s (a - 1) (w .octets) short lower m (name-in s m) (x .0) (x .2)
+              (fine-find s (a - 1) (w .octets) short lower (kept ms) (name-in s m) (x .0) (fine-kept s (a - 1) (w .octets) short lower ms (w .fine)) f),
+        )
+
+    pub member-asks : code-of (m .val .jentry) ≡ 5 → Strippable (value-in s m) (a - 1)
+    member-asks = strippable-at s (m .val) (value-tree .0) (a - 1) (value-tree .2)
+
+    pub member-repeats : unrepeated-item s (m .val) ≡ false → unrepeated-of s ≡ false
+    member-repeats q =
+        let f : unrepeated (value-tree .0) ≡ false = sym (stripped-at s (m .val) (value-tree .0) (a - 1) (value-tree .2) .2) ∙ q in
+        let g : unrepeated-members ms ≡ false = sym (kept-unrepeated ms) ∙ find-unrepeated (kept ms) (name-in s m) (value-tree .0) (value-tree .1) f in
+        w .unrepeated-is ∙ and-false (distinct (names (kept ms))) g
+      where
+        and-false : (b : Bool) → unrepeated-members ms ≡ false → (b && unrepeated-members ms) ≡ false
+        and-false true z = z
+        and-false false z = refl
+
+  -- Fewer names than members.
+  counted-kept : length (searched s n NonNull) ≡ length (member-parts (kept ms))
+  counted-kept = stand-count (name-in s) (value-in s) own-entry (searched s n NonNull) (kept ms) found-kept
+
+  counted-all : length all ≡ length (member-parts (in-order (kept ms)))
+  counted-all = stand-count (name-in s) (value-in s) own-entry all (in-order (kept ms)) own
+
+  pub too-few : length all < length (searched s n NonNull) → unrepeated-of s ≡ false
+  too-few h = w .unrepeated-is ∙ go (distinct (names (kept ms))) refl
+    where
+      go : (b : Bool) → distinct (names (kept ms)) ≡ b → (b && unrepeated-members ms) ≡ false
+      go false q = refl
+      go true q = let z : ⊥ = omega (arith, counted-kept, counted-all, in-order-count (kept ms) q) in absurd z
+
+  -- How long what is stored can be.
+  pub bare-room : 4 + 8 * length (searched s n NonNull) + length (column (name-in s) (searched s n NonNull)) + length (column (strip-value s) all) ≤ length s
+  bare-room =
+      let k = stand-sizes (name-in s) (value-in s) own-entry (searched s n NonNull) (kept ms) found-kept in
+      let c = column-sorted (name-in s) (strip-value s) (searched s n NonNull) in
+      let d = column-less (strip-value s) (value-in s) (searched s n NonNull) (λ m. shorter m) in
+      omega (arith, k, c, d, size-payload (object (kept ms)), kept-size ms, size-payload (object ms), ap length (w .object-is .bytes))
+    where
+      shorter : (m : MemberAt) → length (strip-value s m) ≤ length (value-in s m)
+      shorter m = go (eqb (code-of (m .val .jentry)) 5)
+        where
+          go : (b : Bool) → length (cond b (stripped-of (value-in s m)) (value-in s m)) ≤ length (value-in s m)
+          go true =
+              no-longer (value-in s m) (octets-take (length-of (m .val .jentry)) (drop (m .val .place) s) (octets-drop (m .val .place) s (w .octets)))
+              (rw length-take (omega (arith, length-drop (m .val .place) s, short)))
+          go false = omega arith
+
+      kept-size : (ms : Members) → size-members (kept ms) ≤ size-members ms
+      kept-size empty = omega arith
+      kept-size (member k t ms) = go (is-null t) (kept-size ms)
+        where
+          go : (g : Bool) → size-members (kept ms) ≤ size-members ms → size-members (cond g (kept ms) (member k t (kept ms))) ≤ size-members (member k t ms)
+          go true h = omega arith
+          go false h = omega arith
+
+  -- All are stored, and no name was repeated.
+  module _ (full : length (searched s n NonNull) ≤ length all) (each : (k : ℕ) (m : MemberAt) → nth all k ≡ At m → unrepeated-item s (m .val) ≡ true) where
+    apart : distinct (names (kept ms)) ≡ true
+    apart = count-distinct (kept ms) (omega (arith, counted-kept, counted-all, full, length-sorted (name-in s) (searched s n NonNull)))
+
+    pub none-repeats : unrepeated-of s ≡ true
+    none-repeats =
+        let k : unrepeated-members (in-order (kept ms)) ≡ true = 
+        each-one s (a - 1) (w .octets) short lower all (in-order (kept ms)) own
+        (fine-all s (a - 1) (w .octets) short lower (kept ms) empty (fine-kept s (a - 1) (w .octets) short lower ms (w .fine)) tt) each in
+        w .unrepeated-is ∙ rw (apart, ← kept-unrepeated ms, ← in-order-unrepeated (kept ms) apart) k
+
+    -- Their names are as long as before they were put in order.
+    keys-same : length (column (name-in s) (searched s n NonNull)) ≡ length (column (name-in s) all)
+    keys-same =
+        ap length (stand-names (name-in s) (value-in s) own-entry (searched s n NonNull) (kept ms) found-kept)
+        ∙ sym (in-order-names (kept ms) apart)
+        ∙ sym (ap length (stand-names (name-in s) (value-in s) own-entry all (in-order (kept ms)) own))
+
+    pub bare-stored : (z : Sizes) (to : Places) (at v end : ℕ) (b b₁ b₂ : Bytes) → z ≡ sizes-of s (searched s n NonNull) → to ≡ places-for z at
+        → v ≡ bitOr (2 ^ 30) (z .count) → b₁ ≡ patch b at (be32 v)
+        → b₂ ≡ woven (name-in s) (strip-value s) (value-entry s) b₁ (to .«key_jentry») (to .«val_jentry») (to .key) (to .val) all
+        → end ≡ to .val + length (column (strip-value s) all)
+        → Strips (Len (end - at)) (unrepeated-of s) (stripped-of s) b₂ (patch b at (stripped-of s))
+    bare-stored z to at v end b b₁ b₂ ez et ev e₁ e₂ ee =
+        let c : z .count ≡ length all = ap (λ (x : Sizes). x .count) ez ∙ omega (arith, full, length-sorted (name-in s) (searched s n NonNull)) in
+        let k : z .keys ≡ length (column (name-in s) all) = ap (λ (x : Sizes). x .keys) ez ∙ keys-same in
+        let q : v ≡ 2 ^ 30 + z .count = ev ∙ object-word (z .count) (omega (arith, ap (λ (x : Sizes). x .count) ez, bare-room, short)) in
+        let tv : to .val ≡ at + 4 + 4 * z .count + 4 * z .count + z .keys = ap (λ (x : Places). x .val) et in
+        let sum = stand-sizes (name-in s) (strip-value s) (value-entry s) all (in-order (stripped-members ms)) bare-stand in
+        rw (w .stripped-is) (
+          none-repeats,
+          omega (arith, ee, tv, c, k, sum),
+          stand-woven (name-in s) (strip-value s) (value-entry s) all (in-order (stripped-members ms)) bare-stand b b₁ b₂ at z c k (rw q at e₁) (rw et at e₂),
+        )

@@ -1,0 +1,195 @@
+-- A container stripped, by its bytes; and an item, a container stripped and anything else as it is.
+use Prim.Native.Nat.{ℕ, _+_, _-_, _*_, _%_, _^_, _≤_, _<_}
+use native.Mathlib.Omega.{arith}
+use mathlib.Core.Path.{_≡_, refl, ap, sym, _∙_}
+use mathlib.Core.Bool.{Bool, true, false, cond}
+use mathlib.Core.List.{[]}
+use lib.Dec.{eqb}
+use lib.ListN.{length, take, drop}
+use borrow.Author.Tests.{eq-eqb, ne-eqb}
+use Rattle.layout.specs.Bytes.{Bytes, Octets, be32}
+use Rattle.layout.specs.Answer.{Answer, gives, refused}
+use Rattle.layout.specs.Entry.{code, code-of, length-of, entry-of}
+use Rattle.layout.specs.Tree.{Tree, null, boolean, number, string, extension, array, object, kind}
+use Rattle.layout.specs.Encode.{Part, entry-word, payload, part}
+use Rattle.layout.specs.Read.{nested}
+use Rattle.layout.specs.Limits.{Valid, depth}
+use Rattle.layout.specs.Patch.{patch}
+use Rattle.layout.specs.declared.item.Kind.{Kind}
+use Rattle.layout.specs.declared.item.Kind.the-variants.{Null, String, Number, False, True, Container, Extension}
+use Rattle.layout.proofs.Words.{length-be32, octets-take, octets-drop}
+use Rattle.layout.proofs.Fields.{code-entry}
+use Rattle.layout.proofs.Level.{code-small}
+use Rattle.layout.proofs.Patches.{patch-comm}
+use Rattle.layout.proofs.Readables.{nested-reads, size-payload}
+use Rattle.builders.specs.Search.{bytes-at}
+use Rattle.builders.specs.declared.search.ItemAt.{ItemAt}
+use Rattle.edits.specs.Strip.{stripped, unrepeated}
+use Rattle.edits.specs.Stripping.{stripped-in, stripped-of, unrepeated-of, Strippable, strip-item, strip-entry, unrepeated-item, Strips}
+use Rattle.edits.specs.declared.strip.Stripped.{Stripped}
+use Rattle.edits.specs.declared.strip.Stripped.the-variants.{Len, Repeated}
+use Rattle.edits.specs.declared.delete.Cursor.{Cursor}
+use Rattle.edits.proofs.Strips.{kind-stripped, strip-shrinks}
+use Rattle.edits.proofs.Tables.{Contains, contains, contains-more}
+
+-- A container that can be stripped, by its tree.
+pub record Bared (s : Bytes) (a : ℕ) : Type 0 where
+  pub tree : Tree
+  pub inside : Contains a s tree
+  pub contained : Contains 64 s tree
+  pub stripped-is : stripped-of s ≡ payload (stripped tree)
+  pub unrepeated-is : unrepeated-of s ≡ unrepeated tree
+  pub shorter : length (stripped-of s) ≤ length s
+  pub short : length s ≤ 65536
+
+pub bared : (s : Bytes) (a : ℕ) → Octets s → Strippable s a → Bared s a
+unfolding stripped-of unrepeated-of
+bared s a o h =
+    let k = contains a s o (h .short) (h .readable) in
+    let w : Contains 64 s (k .0) = contains-more a 64 s (k .0) o (h .allowed) (k .1) in
+    record {
+      tree = k .0;
+      inside = k .1;
+      contained = w;
+      stripped-is = rw (w .reads);
+      unrepeated-is = rw (w .reads);
+      shorter =
+          rw (w .reads)
+          (omega (arith, strip-shrinks (k .0) .payload, size-payload (k .0), size-payload (stripped (k .0)), ap length (w .bytes)));
+      short = h .short;
+    }
+
+-- What is stripped is never longer.
+pub no-longer : (s : Bytes) → Octets s → length s ≤ 65536 → length (stripped-of s) ≤ length s
+unfolding stripped-of
+no-longer s o l = go (nested 64 s) refl
+  where
+    go : (r : Answer Tree) → nested 64 s ≡ r → length (stripped-in r) ≤ length s
+    go (gives t) q =
+        let p = nested-reads 64 s t o l .0 q in
+        omega (arith, strip-shrinks t .payload, size-payload t, size-payload (stripped t), ap (λ (x : Part). length (x .bytes)) (p .0))
+    go (refused r) q = omega arith
+
+-- Only a container has code 5.
+code-five : (k : Kind) → (k ≡ Container → ⊥) → eqb (code k) 5 ≡ false
+code-five Null d = refl
+code-five String d = refl
+code-five Number d = refl
+code-five False d = refl
+code-five True d = refl
+code-five Container d = absurd (d refl)
+code-five Extension d = refl
+
+-- A tree that is no container is its own strip, and has no name.
+bare : (t : Tree) → (kind t ≡ Container → ⊥) → (stripped t ≡ t) × (unrepeated t ≡ true)
+bare null d = (refl, refl)
+bare (boolean x) d = (refl, refl)
+bare (number b) d = (refl, refl)
+bare (string b) d = (refl, refl)
+bare (extension b) d = (refl, refl)
+bare (array ts) d = absurd (d refl)
+bare (object ms) d = absurd (d refl)
+
+container-or : (t : Tree) → Dec (kind t ≡ Container)
+container-or null = no (λ e. let z : _≡_ {A = ℕ} 0 1 = cc in omega arith)
+container-or (boolean true) = no (λ e. let z : _≡_ {A = ℕ} 0 1 = cc in omega arith)
+container-or (boolean false) = no (λ e. let z : _≡_ {A = ℕ} 0 1 = cc in omega arith)
+container-or (number b) = no (λ e. let z : _≡_ {A = ℕ} 0 1 = cc in omega arith)
+container-or (string b) = no (λ e. let z : _≡_ {A = ℕ} 0 1 = cc in omega arith)
+container-or (extension b) = no (λ e. let z : _≡_ {A = ℕ} 0 1 = cc in omega arith)
+container-or (array ts) = yes refl
+container-or (object ms) = yes refl
+
+-- An item that has the entry and the payload of a tree.
+pub record Tree-at (s : Bytes) (x : ItemAt) (t : Tree) (a : ℕ) : Type 0 where
+  pub entry : x .jentry ≡ entry-word (part t)
+  pub bytes : bytes-at s x ≡ payload t
+  pub short : length (payload t) ≤ 65536
+  pub octets : Octets (payload t)
+  pub valid : Valid t
+  pub deep : depth t ≤ a
+  pub allowed : a ≤ 64
+
+module _ (s : Bytes) (x : ItemAt) (t : Tree) (a : ℕ) (h : Tree-at s x t a) where
+  code-is : code-of (x .jentry) ≡ code (kind t)
+  code-is = ap code-of (h .entry) ∙ code-entry (code (kind t)) (length (payload t)) (omega (arith, code-small (kind t))) (omega (arith, h .short))
+
+  is-five : kind t ≡ Container → eqb (code-of (x .jentry)) 5 ≡ true
+  is-five k = rw (code-is, k)
+
+  no-five : (kind t ≡ Container → ⊥) → eqb (code-of (x .jentry)) 5 ≡ false
+  no-five d = rw code-is (code-five (kind t) d)
+
+  reads-at : kind t ≡ Container → (b : ℕ) → depth t ≤ b → nested b (payload t) ≡ gives t
+  reads-at k b d = nested-reads b (payload t) t (h .octets) (h .short) .1 (rw k, h .valid, d)
+
+  -- What is asked of it where it is a container.
+  pub strippable-at : code-of (x .jentry) ≡ 5 → Strippable (bytes-at s x) a
+  strippable-at e = go (container-or t)
+    where
+      go : Dec (kind t ≡ Container) → Strippable (bytes-at s x) a
+      go (yes k) =
+          rw (h .bytes) (record { readable = rw (reads-at k a (h .deep)); allowed = h .allowed; short = h .short })
+      go (no d) =
+          let z : false ≡ true = sym (no-five d) ∙ eq-eqb (code-of (x .jentry)) 5 e in
+          let y : _≡_ {A = ℕ} 0 1 = cc in
+          let w : ⊥ = omega arith in
+          absurd w
+
+  -- Stripped, it has the entry and the payload of the tree stripped.
+  pub stripped-at : (strip-item s x ≡ payload (stripped t)) × (strip-entry s x ≡ entry-word (part (stripped t))) × (unrepeated-item s x ≡ unrepeated t)
+  unfolding stripped-of unrepeated-of
+  stripped-at = go (container-or t)
+    where
+      go : Dec (kind t ≡ Container)
+          → (strip-item s x ≡ payload (stripped t)) × (strip-entry s x ≡ entry-word (part (stripped t))) × (unrepeated-item s x ≡ unrepeated t)
+      go (yes k) =
+          let r : nested 64 (payload t) ≡ gives t = reads-at k 64 (omega (arith, h .deep, h .allowed)) in
+          (rw (is-five k, h .bytes, r), rw (is-five k, h .bytes, r, kind-stripped t, k), rw (is-five k, h .bytes, r))
+      go (no d) = (rw (no-five d, h .bytes, bare t d .0), rw (no-five d, h .entry, bare t d .0), rw (no-five d, bare t d .1))
+
+-- An item stored, as the code goes.
+module _ (s : Bytes) (x : ItemAt) (b : Bytes) (hb : b ≡ bytes-at s x) (c : ℕ) (hc : c ≡ code-of (x .jentry)) (at : Cursor) (o : Bytes) where
+  abbrev whole : Bytes
+  whole = patch (patch o (at .jentry) (be32 (strip-entry s x))) (at .place) (strip-item s x)
+
+  module _ (five : c ≡ 5) where
+    test : eqb (code-of (x .jentry)) 5 ≡ true
+    test = eq-eqb (code-of (x .jentry)) 5 (sym hc ∙ five)
+
+    pub item-asked : (a : ℕ) → (code-of (x .jentry) ≡ 5 → Strippable (bytes-at s x) a) → Strippable b a
+    item-asked a f = rw hb (f (sym hc ∙ five))
+
+    pub item-repeats : (r : Stripped) (o₁ w : Bytes) → Strips r (unrepeated-of b) (stripped-of b) o₁ w → r ≡ Repeated → unrepeated-item s x ≡ false
+    item-repeats r o₁ w h q = let z : unrepeated-of b ≡ false = rw q at h in rw (test, ← hb) z
+
+    module _ (r : Stripped) (len : ℕ) (o₁ : Bytes) (h : Strips r (unrepeated-of b) (stripped-of b) o₁ (patch o (at .place) (stripped-of b))) (q : r ≡ Len len) where
+      by-len : (unrepeated-of b ≡ true) × (len ≡ length (stripped-of b)) × (o₁ ≡ patch o (at .place) (stripped-of b))
+      by-len = rw q at h
+
+      pub item-short : (a : ℕ) → Octets s → Strippable b a → len ≤ 65536
+      item-short a os st =
+          let ob : Octets b = rw hb (octets-take (length-of (x .jentry)) (drop (x .place) s) (octets-drop (x .place) s os)) in
+          omega (arith, by-len .1, bared b a ob st .shorter, st .short)
+
+      pub item-bare : (e : ℕ) (o₂ : Bytes) → len ≤ 65536 → e ≡ entry-of (5 % 2 ^ 3) (len % 2 ^ 28) → o₂ ≡ patch o₁ (at .jentry) (be32 e) → at .jentry + 4 ≤ at .place
+          → Strips (Len len) (unrepeated-item s x) (strip-item s x) o₂ whole
+      item-bare e o₂ l ee e₂ ap′ =
+          let ez : e ≡ entry-of 5 (length (stripped-of b)) = ee ∙ omega (arith, by-len .1) in
+          let lb = length-be32 (entry-of 5 (length (stripped-of b))) in (
+            rw (test, ← hb) (by-len .0),
+            rw (test, ← hb) (by-len .1),
+            e₂
+                ∙ rw (by-len .2, ez, test, ← hb)
+                (patch-comm o (at .jentry) (at .place) (be32 (entry-of 5 (length (stripped-of b)))) (stripped-of b) (omega arith)),
+          )
+
+  pub item-as-is : (c ≡ 5 → ⊥) → (o₁ o₂ : Bytes) → o₁ ≡ patch o (at .jentry) (be32 (x .jentry)) → o₂ ≡ patch o₁ (at .place) b
+      → Strips (Len (length b)) (unrepeated-item s x) (strip-item s x) o₂ whole
+  item-as-is d o₁ o₂ e₁ e₂ =
+      let t : eqb (code-of (x .jentry)) 5 ≡ false = ne-eqb (code-of (x .jentry)) 5 (λ z. d (hc ∙ z)) in
+      (rw t, rw (t, hb), e₂ ∙ rw (e₁, t, hb))
+
+-- How storing ended, told of an equal buffer.
+pub strips-as : (r : Stripped) (f : Bool) (b o w w′ : Bytes) → w ≡ w′ → Strips r f b o w → Strips r f b o w′
+strips-as r f b o w w′ e h = rw (← e) h
