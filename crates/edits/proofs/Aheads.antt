@@ -74,7 +74,7 @@ stand-ascending s value entry (x ∷ xs) (member k t ms) h r = (
   stand-ascending s value entry xs ms (h .1) (rising-tail k (names ms) r),
 )
 
-all-is : (s : Bytes) (n : ℕ) (kept : Kept) → kept-ahead s kept (all-ahead s n) ≡ searched s n kept
+pub all-is : (s : Bytes) (n : ℕ) (kept : Kept) → kept-ahead s kept (all-ahead s n) ≡ searched s n kept
 all-is s n kept = rw (sub-zero n)
 
 -- At first all is ahead.

@@ -17,6 +17,7 @@ use Rattle.layout.specs.declared.util.Header.the-variants.{Array}
 use Rattle.layout.proofs.Words.{length-be32, octets-take, octets-drop}
 use Rattle.layout.proofs.Fields.{length-entry}
 use Rattle.layout.proofs.Level.{AllFit}
+use Rattle.layout.proofs.Patches.{length-patch}
 use Rattle.layout.proofs.Decoding.{payloads-append}
 use Rattle.layout.proofs.Encoding.{array-fits}
 use Rattle.layout.proofs.Readables.{record-of-length, size-payload}
@@ -152,6 +153,7 @@ pub record Storing (s : Bytes) (n a at : ℕ) (w : Array-at s n a) (o out : Byte
   pub spot : here .place ≡ at + (4 + 4 * n) + length (payloads (item-parts (stripped-items done)))
   pub fine : unrepeated-items done ≡ true
   pub stored : out ≡ laid o (at + 4) (at + (4 + 4 * n)) (item-parts (stripped-items done))
+  pub as-long : length out ≡ length o
 
 module _ (s : Bytes) (n a at : ℕ) (w : Array-at s n a) (o : Bytes) where
   pub storing-starts : Storing s n a at w o o (record { jentry = at + 4; place = at + (4 + 4 * n) }) (record { index = 0; place = 4 + 4 * n })
@@ -167,6 +169,7 @@ module _ (s : Bytes) (n a at : ℕ) (w : Array-at s n a) (o : Bytes) where
         spot = omega arith;
         fine = refl;
         stored = refl;
+        as-long = refl;
       }
 
   module _ (out : Bytes) (here : Cursor) (p : PartAt) (now : Storing s n a at w o out here p) where
@@ -316,6 +319,10 @@ module _ (s : Bytes) (n a at : ℕ) (w : Array-at s n a) (o : Bytes) where
             entry-len : length-of (entry-at s (p .index)) ≡ length (payload t)
             entry-len = ap length-of (sym he ∙ item-at .entry) ∙ length-entry (code (kind t)) (length (payload t)) (omega (arith, item-at .short))
 
+            pub storing-len : len ≤ 65536
+            storing-len =
+                omega (arith, told .1, ap length (sa .0), strip-shrinks t .payload, size-payload t, size-payload (stripped t), item-at .short)
+
             pub storing-on : (p′ : PartAt) → p′ ≡ behind s p
                 → Storing s n a at w o out₁ (record { jentry = here .jentry + 4; place = here .place + len }) p′
             storing-on p′ ep =
@@ -337,4 +344,5 @@ module _ (s : Bytes) (n a at : ℕ) (w : Array-at s n a) (o : Bytes) where
                       one-stored o out out₁ (at + 4) (at + (4 + 4 * n)) (item-parts (stripped-items (now .done))) (part (stripped t)) (here .jentry) (here .place) (strip-entry s x) (strip-item s x)
                       (now .stored) (now .jentry) (now .spot) (sa .1) (sa .0) (told .2) (omega (arith, rm .0, more, now .index, count-stripped (now .done)))
                       ∙ ap (laid o (at + 4) (at + (4 + 4 * n))) (sym more-parts);
+                  as-long = ap length (told .2) ∙ length-patch _ _ _ ∙ length-patch _ _ _ ∙ now .as-long;
                 }

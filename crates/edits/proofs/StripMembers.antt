@@ -1,13 +1,14 @@
 -- An object stripped: the members that are kept are stored in byte order of their names, each with its value stripped.
 use Prim.Native.Nat.{ℕ, zero, suc, _+_, _*_, _-_, _^_, _≤_, _<_}
-use native.Mathlib.Nat.{sub-zero}
 use native.Mathlib.Omega.{arith}
+use native.Mathlib.Decide.{decLe}
 use mathlib.Core.Path.{_≡_, refl, ap, sym, _∙_}
 use mathlib.Core.Bool.{Bool, true, false, not, cond, _&&_}
 use mathlib.Core.List.{List, [], _∷_}
 use mathlib.Core.Option.{Option, none as nothing, some}
 use lib.Bits.{bitOr}
 use lib.Dec.{eqb}
+use borrow.Author.Tests.{ne-eqb}
 use lib.ListN.{length, drop, length-take, length-drop}
 use Rattle.layout.specs.Bytes.{Bytes, Octets, be32}
 use Rattle.layout.specs.Entry.{code, code-of, length-of}
@@ -30,20 +31,23 @@ use Rattle.layout.proofs.Readables.{size-payload}
 use Rattle.layout.proofs.Answers.{gives-inj}
 use Rattle.layout.proofs.Values.{rising-tail, rising-all, ≺-irrefl}
 use Rattle.builders.specs.Order.{by, insert, insert-all, in-order, find, distinct}
-use Rattle.builders.specs.Search.{bytes-at, name-in, value-in, members-at, is-kept, kept-of, sorted, nth}
-use Rattle.builders.specs.Weave.{own-entry, woven, column}
+use Rattle.builders.specs.Search.{bytes-at, name-in, value-in, members-at, is-kept, kept-of, bound, least, sorted, nth}
+use Rattle.builders.specs.Weave.{own-entry, stored, woven, column}
 use Rattle.builders.specs.declared.search.Kept.the-variants.{NonNull}
 use Rattle.builders.specs.declared.search.MemberAt.{MemberAt}
 use Rattle.builders.specs.declared.search.Places.{Places}
-use Rattle.builders.specs.declared.search.Found.the-variants.{At}
+use Rattle.builders.specs.declared.search.Found.the-variants.{Nothing, At}
 use Rattle.builders.proofs.Orderings.{order-equal, order-refl}
 use Rattle.builders.proofs.InOrders.{in-order-rising, find-in-order, in-order-count, in-order-names, count-distinct}
-use Rattle.builders.proofs.Searches.{length-sorted}
-use Rattle.builders.proofs.Storing.{column-sorted, column-less}
+use Rattle.builders.proofs.Searches.{length-sorted, nth-inside, bytes-short, least-over}
+use Rattle.builders.proofs.Storing.{column-sorted, column-less, Stored, begins, goes, ends-full, ends-val, sought-nth, sought-end}
 use Rattle.builders.proofs.Stands.{Stands, Stand, stand-sorted, stand-names}
 use Rattle.edits.specs.Strip.{is-null, kept, stripped, stripped-members, unrepeated, unrepeated-members}
 use Rattle.edits.specs.Stripping.{stripped-of, unrepeated-of, Strippable, strip-item, strip-value, value-entry, unrepeated-item, Strips}
-use Rattle.edits.specs.Members.{members-of, places-for, sizes-of, kept-ahead, all-ahead}
+use Rattle.edits.specs.Members.{members-of, places-for, sizes-of, kept-ahead, all-ahead, Near, Next}
+use Rattle.edits.specs.declared.members.Ahead.{Ahead}
+use Rattle.edits.specs.declared.members.Taken.{Taken}
+use Rattle.edits.specs.declared.members.Taken.the-variants.{End, Member}
 use Rattle.edits.specs.declared.members.Sizes.{Sizes}
 use Rattle.edits.specs.declared.strip.Stripped.{Stripped}
 use Rattle.edits.specs.declared.strip.Stripped.the-variants.{Len, Repeated}
@@ -52,8 +56,8 @@ use Rattle.edits.proofs.Strips.{in-order-unrepeated, kept-unrepeated, f
 use Rattle.edits.proofs.Tables.{Contains}
 use Rattle.edits.proofs.Withouts.{object-word}
 use Rattle.edits.proofs.Sorteds.{Object-at, object-at, stand-count, stand-sizes, stand-woven}
-use Rattle.edits.proofs.SortedAnews.{nth-in}
-use Rattle.edits.proofs.Aheads.{searched}
+use Rattle.edits.proofs.SortedAnews.{nth-in, column-part}
+use Rattle.edits.proofs.Aheads.{searched, all-is, found-of, AheadOf, ahead-starts, ahead-taken, next-is}
 use Rattle.edits.proofs.Stripped.{Bared, bared, no-longer, Tree-at, strippable-at, stripped-at}
 
 -- Only null has code 0.
@@ -350,3 +354,118 @@ module _ (s : Bytes) (n a : ℕ) (w : Bare-object s n a) where
           omega (arith, ee, tv, c, k, sum),
           stand-woven (name-in s) (strip-value s) (value-entry s) all (in-order (stripped-members ms)) bare-stand b b₁ b₂ at z c k (rw q at e₁) (rw et at e₂),
         )
+
+-- The loop, as the code goes: `i` members are stored, what is ahead is above the last of them, and no value so far has a name twice.
+pub record Baring (s : Bytes) (n : ℕ) (o : Bytes) (to₀ : Places) (out last : Bytes) (to : Places) (ahead : Ahead) (i : ℕ) : Type 0 where
+  pub stored : Stored (name-in s) (strip-value s) (value-entry s) (searched s n NonNull) o to₀ out last to i
+  pub rest : AheadOf s n NonNull (bound (eqb i 0) last) ahead
+  pub each : (k : ℕ) (m : MemberAt) → k < i → nth (sorted (name-in s) (searched s n NonNull)) k ≡ At m → unrepeated-item s (m .val) ≡ true
+
+pub baring-starts : (s : Bytes) (n a : ℕ) (w : Bare-object s n a) (o last : Bytes) (at : Places) (ahead : Ahead) → ahead ≡ all-ahead s n
+    → Baring s n o at o last at ahead 0
+baring-starts s n a w o last at ahead e =
+    record {
+      stored = begins _ _ _ _ _ _ last;
+      rest = rw e (ahead-starts s n NonNull (w .object-is));
+      each = λ k m h. let z : ⊥ = omega arith in absurd z;
+    }
+
+pub near-starts : (s : Bytes) (n a : ℕ) (w : Bare-object s n a) (ahead : Ahead) → ahead ≡ all-ahead s n → Near ahead
+near-starts s n a w ahead e = rw e (ahead-starts s n NonNull (w .object-is) .near)
+
+-- The sizes, by what the code measures.
+pub sizes-measured : (s : Bytes) (n : ℕ) (z : Sizes) (ahead : Ahead) → ahead ≡ all-ahead s n → z ≡ sizes-of s (kept-ahead s NonNull ahead)
+    → z ≡ sizes-of s (searched s n NonNull)
+sizes-measured s n z ahead e h = h ∙ ap (λ (x : Ahead). sizes-of s (kept-ahead s NonNull x)) e ∙ ap (sizes-of s) (all-is s n NonNull)
+
+module _ (s : Bytes) (n a at : ℕ) (w : Bare-object s n a) (hat : at ≤ 65536 * (64 - a)) (z : Sizes) (ez : z ≡ sizes-of s (searched s n NonNull)) where
+  abbrev in-turn : List MemberAt
+  in-turn = sorted (name-in s) (searched s n NonNull)
+
+  count-is : z .count ≡ length (searched s n NonNull)
+  count-is = ap (λ (x : Sizes). x .count) ez
+
+  pub bare-sizes : 4 + 8 * z .count + z .keys + length (column (strip-value s) (sorted (name-in s) (searched s n NonNull))) ≤ 65536
+  bare-sizes = omega (arith, bare-room s n a w, count-is, ap (λ (x : Sizes). x .keys) ez, w .object-is .short)
+
+  module _ (o : Bytes) (to₀ : Places) (et : to₀ ≡ places-for z at) (out last : Bytes) (to : Places) (ahead : Ahead) (i : ℕ)
+      (now : Baring s n o to₀ out last to ahead i) where
+    -- Where the next member is stored.
+    pub baring-room : (to .«key_jentry» ≤ at + 65536) × (to .«val_jentry» ≡ at + 4 + 4 * z .count + 4 * i) × (at + 4 + 8 * z .count ≤ to .key) × (to .key ≤ 2 ^ 23 + 2 ^ 28 * i)
+        × (at + 4 + 8 * z .count ≤ to .val) × (to .val ≤ at + 65536) × (i ≤ z .count)
+    baring-room =
+        let f0 = ap (λ (x : Places). x .«key_jentry») et in
+        let f1 = ap (λ (x : Places). x .«val_jentry») et in
+        let f2 = ap (λ (x : Places). x .key) et in
+        let f3 = ap (λ (x : Places). x .val) et in
+        let st = now .stored in
+        let c : i ≤ z .count = omega (arith, st .sought .count, length-sorted (name-in s) (searched s n NonNull), count-is) in (
+          omega (arith, st .key-jentry, f0, bare-sizes, c),
+          omega (arith, st .val-jentry, f1),
+          omega (arith, st .key-on, f2),
+          omega (arith, st .near-key, f2, bare-sizes, hat),
+          omega (arith, st .val-on, f3),
+          omega (arith, st .val-rest, f3, bare-sizes),
+          c,
+        )
+
+    module _ (r : Taken) (hr : Next s NonNull (bound (eqb i 0) last) ahead r) where
+      found : found-of r ≡ least (name-in s) (bound (eqb i 0) last) Nothing (searched s n NonNull)
+      found = next-is s n NonNull (bound (eqb i 0) last) ahead (now .rest) r hr
+
+      pub baring-few : i < z .count → r ≡ End → unrepeated-of s ≡ false
+      baring-few h q =
+          too-few s n a w (omega (arith, h, count-is, sought-end (name-in s) (searched s n NonNull) last i (now .stored .sought) (found-of r) found (ap found-of q)))
+
+      module _ (m : MemberAt) (next : Ahead) (q : r ≡ Member m next) where
+        is-nth : nth (sorted (name-in s) (searched s n NonNull)) i ≡ At m
+        is-nth = sought-nth (name-in s) (searched s n NonNull) last i (now .stored .sought) (found-of r) found m (ap found-of q)
+
+        pub baring-asks : code-of (m .val .jentry) ≡ 5 → Strippable (value-in s m) (a - 1)
+        baring-asks = member-asks s n a w i m is-nth
+
+        module _ (e : Stripped) (out₁ : Bytes) (st : Strips e (unrepeated-item s (m .val)) (strip-item s (m .val)) out₁
+            (stored (name-in s) (strip-value s) (value-entry s) out (to .«key_jentry») (to .«val_jentry») (to .key) (to .val) m)) where
+          pub baring-repeats : e ≡ Repeated → unrepeated-of s ≡ false
+          baring-repeats qe = let y : unrepeated-item s (m .val) ≡ false = rw qe at st in member-repeats s n a w i m is-nth y
+
+          module _ (len : ℕ) (qe : e ≡ Len len) where
+            told : (unrepeated-item s (m .val) ≡ true) × (len ≡ length (strip-item s (m .val)))
+                × (out₁ ≡ stored (name-in s) (strip-value s) (value-entry s) out (to .«key_jentry») (to .«val_jentry») (to .key) (to .val) m)
+            told = rw qe at st
+
+            pub len-short : len ≤ 65536
+            len-short = omega (arith, told .1, bare-sizes, column-part (strip-value s) (sorted (name-in s) (searched s n NonNull)) i m is-nth)
+
+            pub baring-on : (key : Bytes) → key ≡ name-in s m
+                → Baring s n o to₀ out₁ key (record { «key_jentry» = to .«key_jentry» + 4; «val_jentry» = to .«val_jentry» + 4; key = to .key + length key; val = to .val + len }) next (i + 1)
+            baring-on key hk =
+                let later : eqb (i + 1) 0 ≡ false = ne-eqb (i + 1) 0 (λ y. omega arith) in
+                record {
+                  stored =
+                      goes (name-in s) (strip-value s) (value-entry s) (searched s n NonNull) o to₀ out last to i (now .stored) (found-of r) found m key out₁ _ (ap found-of q)
+                      (rw (hk, told .1), told .2) hk (bytes-short s (m .key)) (omega (arith, told .1, len-short));
+                  rest =
+                      rw (later, hk)
+                      (ahead-taken s n NonNull (bound (eqb i 0) last) ahead (now .rest) m next (rw q at hr)
+                      (least-over (name-in s) (bound (eqb i 0) last) (searched s n NonNull) m (sym found ∙ ap found-of q)));
+                  each = λ k y h e. more k y (decLe (suc k) i) h e;
+                }
+              where
+                more : (k : ℕ) (y : MemberAt) → Dec (suc k ≤ i) → k < i + 1 → nth (sorted (name-in s) (searched s n NonNull)) k ≡ At y → unrepeated-item s (y .val) ≡ true
+                more k y (yes d) h e = now .each k y d e
+                more k y (no d) h e =
+                    let same : k ≡ i = omega arith in
+                    let f : At y ≡ At m = sym e ∙ ap (nth (sorted (name-in s) (searched s n NonNull))) same ∙ is-nth in
+                    let g : y ≡ m = cc in
+                    rw g (told .0)
+
+    pub baring-ends : (v : ℕ) (o₀ : Bytes) → z .count ≤ i → v ≡ bitOr (2 ^ 30) (z .count) → o ≡ patch o₀ at (be32 v)
+        → Strips (Len (to .val - at)) (unrepeated-of s) (stripped-of s) out (patch o₀ at (stripped-of s))
+    baring-ends v o₀ h ev eo =
+        let st = now .stored in
+        let full : length (searched s n NonNull) ≤ length (sorted (name-in s) (searched s n NonNull)) = omega (arith, h, count-is, st .sought .count) in
+        let done : length (sorted (name-in s) (searched s n NonNull)) ≤ i = omega (arith, h, count-is, length-sorted (name-in s) (searched s n NonNull)) in
+        bare-stored s n a w full (λ k m e. now .each k m (omega (arith, done, nth-inside (sorted (name-in s) (searched s n NonNull)) k m e)) e) z to₀ at v (to .val) o₀ o out ez et ev eo
+        (ends-full (name-in s) (strip-value s) (value-entry s) (searched s n NonNull) o to₀ out last to i st i (omega (arith, h, count-is)) (omega arith))
+        (ends-val (name-in s) (strip-value s) (value-entry s) (searched s n NonNull) o to₀ out last to i st done)

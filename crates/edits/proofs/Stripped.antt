@@ -11,21 +11,28 @@ use Rattle.layout.specs.Bytes.{Bytes, Octets, be32}
 use Rattle.layout.specs.Answer.{Answer, gives, refused}
 use Rattle.layout.specs.Entry.{code, code-of, length-of, entry-of}
 use Rattle.layout.specs.Tree.{Tree, null, boolean, number, string, extension, array, object, kind}
-use Rattle.layout.specs.Encode.{Part, entry-word, payload, part}
-use Rattle.layout.specs.Read.{nested}
+use Rattle.layout.specs.Encode.{Part, entry-word, payload, item-parts, member-parts, part}
+use Rattle.layout.specs.Read.{header, nested}
 use Rattle.layout.specs.Limits.{Valid, depth}
 use Rattle.layout.specs.Patch.{patch}
+use Rattle.layout.specs.declared.refusal.Refusal.{Refusal}
+use Rattle.layout.specs.declared.util.Header.{Header}
+use Rattle.layout.specs.declared.util.Header.the-variants.{Array, Object, Scalar, Refused}
 use Rattle.layout.specs.declared.item.Kind.{Kind}
 use Rattle.layout.specs.declared.item.Kind.the-variants.{Null, String, Number, False, True, Container, Extension}
 use Rattle.layout.proofs.Words.{length-be32, octets-take, octets-drop}
 use Rattle.layout.proofs.Fields.{code-entry}
 use Rattle.layout.proofs.Level.{code-small}
 use Rattle.layout.proofs.Patches.{patch-comm}
+use Rattle.layout.proofs.Nestings.{head-of}
 use Rattle.layout.proofs.Readables.{nested-reads, size-payload}
-use Rattle.builders.specs.Search.{bytes-at}
+use Rattle.builders.specs.Search.{bytes-at, name-in}
+use Rattle.builders.specs.Weave.{stored}
 use Rattle.builders.specs.declared.search.ItemAt.{ItemAt}
+use Rattle.builders.specs.declared.search.MemberAt.{MemberAt}
+use Rattle.builders.specs.declared.search.Places.{Places}
 use Rattle.edits.specs.Strip.{stripped, unrepeated}
-use Rattle.edits.specs.Stripping.{stripped-in, stripped-of, unrepeated-of, Strippable, strip-item, strip-entry, unrepeated-item, Strips}
+use Rattle.edits.specs.Stripping.{stripped-in, stripped-of, unrepeated-of, Strippable, strip-item, strip-entry, strip-value, value-entry, unrepeated-item, Strips}
 use Rattle.edits.specs.declared.strip.Stripped.{Stripped}
 use Rattle.edits.specs.declared.strip.Stripped.the-variants.{Len, Repeated}
 use Rattle.edits.specs.declared.delete.Cursor.{Cursor}
@@ -193,3 +200,43 @@ module _ (s : Bytes) (x : ItemAt) (b : Bytes) (hb : b ≡ bytes-at s x) (c : ℕ
 -- How storing ended, told of an equal buffer.
 pub strips-as : (r : Stripped) (f : Bool) (b o w w′ : Bytes) → w ≡ w′ → Strips r f b o w → Strips r f b o w′
 strips-as r f b o w w′ e h = rw (← e) h
+
+-- A member stored: the name's entry and the name, then the value as an item.
+pub member-bare : (s : Bytes) (m : MemberAt) (at : Places) (key o o₁ o₂ out : Bytes) (r : Stripped) → key ≡ bytes-at s (m .key)
+    → o₁ ≡ patch o (at .«key_jentry») (be32 (m .key .jentry)) → o₂ ≡ patch o₁ (at .key) key → at .«val_jentry» + 4 ≤ at .key
+    → Strips r (unrepeated-item s (m .val)) (strip-item s (m .val)) out
+    (patch (patch o₂ (at .«val_jentry») (be32 (strip-entry s (m .val)))) (at .val) (strip-item s (m .val)))
+    → Strips r (unrepeated-item s (m .val)) (strip-item s (m .val)) out
+    (stored (name-in s) (strip-value s) (value-entry s) o (at .«key_jentry») (at .«val_jentry») (at .key) (at .val) m)
+member-bare s m at key o o₁ o₂ out r hk e₁ e₂ h st =
+    strips-as r _ _ out _ _
+    (ap (λ (x : Bytes). patch x (at .val) (strip-item s (m .val)))
+    (rw (e₂, e₁, hk)
+    (patch-comm (patch o (at .«key_jentry») (be32 (m .key .jentry))) (at .«val_jentry») (at .key) (be32 (strip-entry s (m .val))) (bytes-at s (m .key))
+    (omega (arith, length-be32 (strip-entry s (m .val)), h)))))
+    st
+
+-- What can be stripped is an array or an object.
+neither : (t : Tree) (h : Header) → kind t ≡ Container → h ≡ head-of t → ((n : ℕ) → h ≡ Array n → ⊥) → ((n : ℕ) → h ≡ Object n → ⊥) → ⊥
+neither null h k e a b = let z : _≡_ {A = ℕ} 0 1 = cc in omega arith
+neither (boolean true) h k e a b = let z : _≡_ {A = ℕ} 0 1 = cc in omega arith
+neither (boolean false) h k e a b = let z : _≡_ {A = ℕ} 0 1 = cc in omega arith
+neither (number x) h k e a b = let z : _≡_ {A = ℕ} 0 1 = cc in omega arith
+neither (string x) h k e a b = let z : _≡_ {A = ℕ} 0 1 = cc in omega arith
+neither (extension x) h k e a b = let z : _≡_ {A = ℕ} 0 1 = cc in omega arith
+neither (array ts) h k e a b = a (length (item-parts ts)) e
+neither (object ms) h k e a b = b (length (member-parts ms)) e
+
+module _ {C : Type 0} (s : Bytes) (a : ℕ) (o : Octets s) (h : Strippable s a) where
+  no-other : ((n : ℕ) → header s ≡ Array n → ⊥) → ((n : ℕ) → header s ≡ Object n → ⊥) → C
+  no-other d e = let w = bared s a o h .contained in absurd (neither (bared s a o h .tree) (header s) (w .container) (w .head) d e)
+
+  pub no-scalar : (n : ℕ) → header s ≡ Scalar n → C
+  no-scalar n q =
+      no-other (λ m e. let z : Scalar n ≡ Array m = sym q ∙ e in let y : _≡_ {A = ℕ} 0 1 = cc in omega arith)
+      (λ m e. let z : Scalar n ≡ Object m = sym q ∙ e in let y : _≡_ {A = ℕ} 0 1 = cc in omega arith)
+
+  pub no-refusal : (r : Refusal) → header s ≡ Refused r → C
+  no-refusal r q =
+      no-other (λ m e. let z : Refused r ≡ Array m = sym q ∙ e in let y : _≡_ {A = ℕ} 0 1 = cc in omega arith)
+      (λ m e. let z : Refused r ≡ Object m = sym q ∙ e in let y : _≡_ {A = ℕ} 0 1 = cc in omega arith)
