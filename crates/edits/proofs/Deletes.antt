@@ -30,6 +30,9 @@ some-inj e = cc
 pub nothing-some : {A C : Type 0} {x : A} → nothing ≡ some x → C
 nothing-some e = let z : _≡_ {A = ℕ} 0 1 = cc in let w : ⊥ = omega arith in absurd w
 
+pub false-true : {C : Type 0} → false ≡ true → C
+false-true e = let z : _≡_ {A = ℕ} 0 1 = cc in let w : ⊥ = omega arith in absurd w
+
 -- Where two steps find something, each does.
 pub then-some : {A B : Type 0} (o : Option A) (f : A → Option B) (y : B) → o then f ≡ some y
     → (x : A) × (o ≡ some x) × (f x ≡ some y)

@@ -37,6 +37,13 @@ pub mod StripMembers
 pub mod StripWrites
 pub mod Writes
 pub mod Deletions
+pub mod Joinings
+pub mod Choices
+pub mod Moves
+pub mod Turns
+pub mod Merges
+pub mod Overlays
+pub mod ConcatCases
 pub mod PathResults
 pub mod OperatorResults
 pub mod ForC

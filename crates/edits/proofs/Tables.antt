@@ -126,14 +126,18 @@ object-parted ms s e l =
       },
     )
 
+-- Its names, by their parts.
+pub object-names : (ms : Members) (s : Bytes) (n : ℕ) → payload (object ms) ≡ s → length s ≤ 65536 → n ≡ length (member-parts ms)
+    → parts-at s 0 (4 + 4 * (n + n)) n ≡ name-parts (names ms)
+object-names ms s n e l c =
+    let all : parts-of s (n + n) ≡ name-parts (names ms) ++ member-parts ms = ap (λ (m : ℕ). parts-of s (m + m)) c ∙ object-parted ms s e l .0 in
+    sym (take-parts s 0 (4 + 4 * (n + n)) n n) ∙ ap (take n) all ∙ take-at (name-parts (names ms)) (member-parts ms) n (names-count ms ∙ sym c)
+
 -- Where its names rise by the test, they rise.
 pub object-rises : (ms : Members) (s : Bytes) (n : ℕ) → payload (object ms) ≡ s → length s ≤ 65536 → n ≡ length (member-parts ms)
     → rising-parts (parts-at s 0 (4 + 4 * (n + n)) n) ≡ true → Rising (names ms)
 object-rises ms s n e l c up =
-    let all : parts-of s (n + n) ≡ name-parts (names ms) ++ member-parts ms = ap (λ (m : ℕ). parts-of s (m + m)) c ∙ object-parted ms s e l .0 in
-    let t : parts-at s 0 (4 + 4 * (n + n)) n ≡ name-parts (names ms) =
-    sym (take-parts s 0 (4 + 4 * (n + n)) n n) ∙ ap (take n) all ∙ take-at (name-parts (names ms)) (member-parts ms) n (names-count ms ∙ sym c) in
-    let r : rising (names ms) ≡ true = sym (rising-names (names ms)) ∙ ap rising-parts (sym t) ∙ up in
+    let r : rising (names ms) ≡ true = sym (rising-names (names ms)) ∙ ap rising-parts (sym (object-names ms s n e l c)) ∙ up in
     rising-test (names ms) .0 (rw r tt)
 
 parted-by : (t : Tree) (s : Bytes) (n : ℕ) → kind t ≡ Container → payload t ≡ s → length s ≤ 65536 → count-parts (head-of t) ≡ n → Parted s n

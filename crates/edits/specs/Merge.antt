@@ -1,4 +1,4 @@
--- Two objects' members taken in turn, as the code of concat goes. proofs/Merges.antt ties it to `concat`.
+-- Two objects' members taken in turn, as the code of concat goes. proofs/Overlays.antt ties it to `concat`.
 use Prim.Native.Nat.{ℕ, _+_, _*_, _≤_}
 use mathlib.Core.Path.{_≡_}
 use mathlib.Core.Bool.{false}
@@ -67,7 +67,7 @@ pub record Objects (l : Bytes) (m : ℕ) (r : Bytes) (n : ℕ) : Type 0 where
 -- The members of both in one row, the right ones first. They stand in the bytes of the right one and those of the left one behind
 -- them.
 abbrev pub moved : ℕ → ItemAt → ItemAt
-moved k x = record { jentry = x .jentry; place = x .place + k }
+moved k x = record { jentry = x .jentry; place = k + x .place }
 
 abbrev pub moved-member : ℕ → MemberAt → MemberAt
 moved-member k m = record { key = moved k (m .key); val = moved k (m .val) }

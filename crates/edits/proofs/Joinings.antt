@@ -1,0 +1,169 @@
+-- Two records that are not both objects, written as one array: what each gives, where 9 stands, and the outcome.
+use Prim.Native.Nat.{ℕ, _+_, _^_, _≤_, _<_}
+use native.Mathlib.Omega.{arith}
+use mathlib.Core.Path.{_≡_, refl, ap, ap₂, sym, _∙_}
+use mathlib.Core.Logic.{_⊎_, ⊎-elim}
+use mathlib.Core.Bool.{Bool, true, false, cond}
+use mathlib.Core.Option.{none as nothing}
+use lib.Bits.{bitOr, or-shifted}
+use lib.ListN.{length}
+use borrow.Author.Tests.{le-leb, lt-leb}
+use native.Mathlib.Decide.{decLe}
+use Rattle.layout.specs.Bytes.{Bytes, Octets}
+use Rattle.layout.specs.Answer.{gives}
+use Rattle.layout.specs.Tree.{Tree, null, boolean, number, string, extension, array, object, none, item}
+use Rattle.layout.specs.Read.{header, read}
+use Rattle.layout.specs.Limits.{depth, depth-items}
+use Rattle.layout.specs.Check.{checked, nesting}
+use Rattle.layout.specs.Ended.{Ended}
+use Rattle.layout.specs.declared.refusal.Refusal.the-variants.{Result}
+use Rattle.layout.specs.declared.ending.Ending.{Ending}
+use Rattle.layout.specs.declared.ending.Ending.the-variants.{Refused}
+use Rattle.layout.specs.declared.util.Header.{Header}
+use Rattle.layout.specs.declared.util.Header.the-variants.{Array, Object, Scalar, Refused as NoHeader}
+use Rattle.layout.specs.declared.check.Check.the-variants.{Readable}
+use Rattle.layout.specs.declared.check.Nesting.{Nesting}
+use Rattle.layout.specs.declared.check.Nesting.the-variants.{Fits, Deep}
+use Rattle.layout.proofs.Nestings.{head-of, readable-gives}
+use Rattle.builders.specs.Build.{join, on-two}
+use Rattle.builders.specs.Join.{given-count, Lies, as-one, joined}
+use Rattle.builders.specs.Room.{sized}
+use Rattle.builders.specs.declared.join.Given.{Given}
+use Rattle.builders.specs.declared.join.Given.the-variants.{Table, Whole}
+use Rattle.builders.proofs.Knowns.{Known, known}
+use Rattle.builders.proofs.Joins.{Gives, few, joined-encode}
+use Rattle.builders.proofs.Appends.{array-lies, items-given, one-lies, one-given, depth-join}
+use Rattle.builders.proofs.Twos.{two-deep, two-sized}
+use Rattle.edits.specs.Concat.{as-items, members-in, concat}
+use Rattle.edits.specs.Joining.{as-given, is-deep, NoPair}
+use Rattle.edits.proofs.Deletes.{false-true}
+use Rattle.edits.proofs.Concats.{concat-items, TwoObjects, objects-or}
+
+-- What a record gives, by its header.
+pub given-array : (h k : Header) (n : ℕ) → h ≡ k → h ≡ Array n → Table n ≡ as-given k
+given-array h k n e q = rw (← e, q)
+
+pub given-other : (h k : Header) (g : Given) → h ≡ k → ((n : ℕ) → h ≡ Array n → ⊥) → g ≡ as-one k → g ≡ as-given k
+given-other h (Array n) g e q r = absurd (q n e)
+given-other h (Object n) g e q r = r
+given-other h (Scalar n) g e q r = r
+given-other h (NoHeader x) g e q r = r
+
+-- A record's items lie in it, and they are the tree's.
+module _ (s : Bytes) (g : Given) where
+  one-offers : (t : Tree) → Known s t → g ≡ as-one (head-of t) → Lies s g × Gives s g (item t none)
+  one-offers t k e =
+      let q : g ≡ as-one (header s) = e ∙ ap as-one (sym (k .head)) in
+      (one-lies s g t k q, one-given s g t k q)
+
+  offers : (t : Tree) → Known s t → g ≡ as-given (head-of t) → Lies s g × Gives s g (as-items t)
+  offers null k e = one-offers null k e
+  offers (boolean x) k e = one-offers (boolean x) k e
+  offers (number b) k e = one-offers (number b) k e
+  offers (string b) k e = one-offers (string b) k e
+  offers (extension b) k e = one-offers (extension b) k e
+  offers (array ts) k e = rw e (array-lies s _ ts k refl, items-given s _ ts k refl)
+  offers (object ms) k e = one-offers (object ms) k e
+
+-- A container given whole is one level deeper in the array; the items of an array stay where they are.
+whole-deep : (t : Tree) → is-deep Whole (nesting (gives t)) ≡ true → 63 < depth t
+whole-deep t e = go (decLe (depth t) 63)
+  where
+    go : Dec (depth t ≤ 63) → 63 < depth t
+    go (yes k) = false-true (ap (λ b. is-deep Whole (cond b Fits Deep)) (sym (le-leb (depth t) 63 k)) ∙ e)
+    go (no k) = omega arith
+
+whole-fits : (t : Tree) → is-deep Whole (nesting (gives t)) ≡ false → depth t ≤ 63
+whole-fits t e = go (decLe (depth t) 63)
+  where
+    go : Dec (depth t ≤ 63) → depth t ≤ 63
+    go (yes k) = k
+    go (no k) = false-true (sym e ∙ ap (λ b. is-deep Whole (cond b Fits Deep)) (lt-leb (depth t) 63 (omega arith)))
+
+deep-items : (t : Tree) → is-deep (as-given (head-of t)) (nesting (gives t)) ≡ true → 63 < depth-items (as-items t)
+deep-items null e = false-true e
+deep-items (boolean x) e = false-true e
+deep-items (number b) e = false-true e
+deep-items (string b) e = false-true e
+deep-items (extension b) e = false-true e
+deep-items (array ts) e = false-true e
+deep-items (object ms) e = omega (arith, whole-deep (object ms) e)
+
+fits-items : (t : Tree) → depth t ≤ 64 → is-deep (as-given (head-of t)) (nesting (gives t)) ≡ false → depth-items (as-items t) ≤ 63
+fits-items null d e = omega arith
+fits-items (boolean x) d e = omega arith
+fits-items (number b) d e = omega arith
+fits-items (string b) d e = omega arith
+fits-items (extension b) d e = omega arith
+fits-items (array ts) d e = omega arith
+fits-items (object ms) d e = omega (arith, whole-fits (object ms) e)
+
+-- Two readable records, not both objects.
+module _ (l r o : Bytes) (ol : Octets l) (or : Octets r) (hl : checked (read l) ≡ Readable) (hr : checked (read r) ≡ Readable)
+    (np : NoPair (header l) (header r)) where
+  left : (t : Tree) × Known l t
+  left = let w = readable-gives (read l) Readable (sym hl) refl in (w .0, known l (w .0) ol (w .1))
+
+  right : (u : Tree) × Known r u
+  right = let w = readable-gives (read r) Readable (sym hr) refl in (w .0, known r (w .0) or (w .1))
+
+  abbrev both : Tree
+  both = array (join (as-items (left .0)) (as-items (right .0)))
+
+  gives-both : concat (left .0) (right .0) ≡ gives both
+  gives-both = concat-items (left .0) (right .0) (⊎-elim two (λ h. h) (objects-or (left .0) (right .0)))
+    where
+      two : TwoObjects (left .0) (right .0) → (members-in (left .0) ≡ nothing) ⊎ (members-in (right .0) ≡ nothing)
+      two q = absurd (np _ _ (left .1 .head ∙ ap head-of (q .left-is)) (right .1 .head ∙ ap head-of (q .right-is)))
+
+  module _ (g h : Given) (eg : g ≡ as-given (header l)) (eh : h ≡ as-given (header r)) where
+    left-head : g ≡ as-given (head-of (left .0))
+    left-head = eg ∙ ap as-given (left .1 .head)
+
+    right-head : h ≡ as-given (head-of (right .0))
+    right-head = eh ∙ ap as-given (right .1 .head)
+
+    left-offers : Lies l g × Gives l g (as-items (left .0))
+    left-offers = offers l g (left .0) (left .1) left-head
+
+    right-offers : Lies r h × Gives r h (as-items (right .0))
+    right-offers = offers r h (right .0) (right .1) right-head
+
+    pub items-lie : Lies l g × Lies r h
+    items-lie = (left-offers .0, right-offers .0)
+
+    pub few-items : (m n : ℕ) → m ≡ given-count g → n ≡ given-count h → m + n ≤ 32768
+    few-items m n em en = omega (arith, few l g (left-offers .0), few r h (right-offers .0))
+
+    module _ (x : Nesting) (hx : x ≡ nesting (read l)) (d : Bool) (hd : d ≡ is-deep g x) where
+      left-test : (b : Bool) → d ≡ b → is-deep (as-given (head-of (left .0))) (nesting (gives (left .0))) ≡ b
+      left-test b q = ap₂ is-deep (sym left-head) (ap nesting (sym (left .1 .reads)) ∙ sym hx) ∙ sym hd ∙ q
+
+      pub left-deep : d ≡ true → Ended (Refused Result) o o (on-two concat l r (length o))
+      left-deep q =
+          two-deep concat l r o (left .0) (left .1 .reads) (right .0) (right .1 .reads) both gives-both
+          (omega (arith, deep-items (left .0) (left-test true q), depth-join (as-items (left .0)) (as-items (right .0))))
+
+      module _ (y : Nesting) (hy : y ≡ nesting (read r)) (d₂ : Bool) (hd₂ : d₂ ≡ is-deep h y) where
+        right-test : (b : Bool) → d₂ ≡ b → is-deep (as-given (head-of (right .0))) (nesting (gives (right .0))) ≡ b
+        right-test b q = ap₂ is-deep (sym right-head) (ap nesting (sym (right .1 .reads)) ∙ sym hy) ∙ sym hd₂ ∙ q
+
+        pub right-deep : d₂ ≡ true → Ended (Refused Result) o o (on-two concat l r (length o))
+        right-deep q =
+            two-deep concat l r o (left .0) (left .1 .reads) (right .0) (right .1 .reads) both gives-both
+            (omega (arith, deep-items (right .0) (right-test true q), depth-join (as-items (left .0)) (as-items (right .0))))
+
+        pub items-end : d ≡ false → d₂ ≡ false → (m n : ℕ) → m ≡ given-count g → n ≡ given-count h → (e : Ending) (o′ : Bytes)
+            → Ended e o o′ (sized (length o) (joined (bitOr (2 ^ 31) (m + n)) l g r h)) → Ended e o o′ (on-two concat l r (length o))
+        items-end q q₂ m n em en e o′ w =
+            two-sized concat l r o (left .0) (left .1 .reads) (right .0) (right .1 .reads) both gives-both e o′
+            (joined (bitOr (2 ^ 31) (m + n)) l g r h)
+            (omega (
+              arith,
+              fits-items (left .0) (left .1 .deep) (left-test false q),
+              fits-items (right .0) (right .1 .deep) (right-test false q₂),
+              depth-join (as-items (left .0)) (as-items (right .0)),
+            ))
+            (joined-encode (bitOr (2 ^ 31) (m + n)) l g (as-items (left .0)) r h (as-items (right .0)) (left-offers .1) (right-offers .1)
+            (or-shifted 1 31 (m + n) (omega (arith, few-items m n em en)) ∙ rw (em, en)))
+            w
