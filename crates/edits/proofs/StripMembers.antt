@@ -326,7 +326,7 @@ module _ (s : Bytes) (n a : ℕ) (w : Bare-object s n a) where
 
     pub none-repeats : unrepeated-of s ≡ true
     none-repeats =
-        let k : unrepeated-members (in-order (kept ms)) ≡ true = 
+        let k : unrepeated-members (in-order (kept ms)) ≡ true =
         each-one s (a - 1) (w .octets) short lower all (in-order (kept ms)) own
         (fine-all s (a - 1) (w .octets) short lower (kept ms) empty (fine-kept s (a - 1) (w .octets) short lower ms (w .fine)) tt) each in
         w .unrepeated-is ∙ rw (apart, ← kept-unrepeated ms, ← in-order-unrepeated (kept ms) apart) k

@@ -3,11 +3,11 @@
 use Prim.Native.Nat.{ℕ, _+_, _≤_, _<_}
 use native.Mathlib.Omega.{arith}
 use mathlib.Core.Path.{_≡_, refl, ap, sym, _∙_}
-use mathlib.Core.Bool.{true, false}
+use mathlib.Core.Bool.{Bool, true, false, cond}
 use mathlib.Core.List.{List, [], _∷_, _++_}
 use lib.ListN.{length, length-append}
 use Rattle.layout.specs.Bytes.{Bytes, Octets}
-use Rattle.layout.specs.Answer.{gives, refused}
+use Rattle.layout.specs.Answer.{gives, refused, _>>=_}
 use Rattle.layout.specs.Tree.{Tree, null, boolean, number, string, extension, array, object, kind}
 use Rattle.layout.specs.Encode.{payload, encode}
 use Rattle.layout.specs.Read.{header, nested, read}
@@ -18,13 +18,24 @@ use Rattle.layout.specs.declared.check.Check.{Check}
 use Rattle.layout.specs.declared.check.Check.the-variants.{Readable, Refused as NotReadable}
 use Rattle.layout.specs.declared.refusal.Refusal.{Refusal}
 use Rattle.layout.specs.declared.refusal.Refusal.the-variants.{Buffer, Repeated as RepeatedName}
+use Rattle.layout.specs.declared.item.Kind.the-variants.{Container}
+use Rattle.layout.specs.declared.util.Header.{Header}
+use Rattle.layout.specs.declared.util.Header.the-variants.{Scalar}
 use Rattle.layout.specs.declared.ending.Ending.{Ending}
 use Rattle.layout.specs.declared.ending.Ending.the-variants.{Done, Refused}
+use Rattle.layout.proofs.Answers.{gives-inj}
+use Rattle.layout.proofs.Decoding.{container-encode}
+use Rattle.layout.proofs.Nestings.{head-of, readable-gives, refused-as}
 use Rattle.layout.proofs.Patches.{patch-empty, ended-short, ended-full}
+use Rattle.builders.specs.Build.{written}
+use Rattle.builders.proofs.Knowns.{Known, known}
 use Rattle.edits.specs.Strip.{stripped, unrepeated, strip, on-one}
 use Rattle.edits.specs.Stripping.{stripped-of, unrepeated-of, Strippable, Strips, strip-out}
 use Rattle.edits.specs.declared.strip.Stripped.{Stripped}
 use Rattle.edits.specs.declared.strip.Stripped.the-variants.{Len, Repeated}
+use Rattle.edits.proofs.Strips.{kind-stripped, strip-given, strip-refused}
+use Rattle.edits.proofs.Tables.{contains}
+use Rattle.edits.proofs.Lookups.{container-ready, nested-read}
 
 pub whole-strips : (s : Bytes) → checked (nested 64 s) ≡ Readable → length s ≤ 65536 → Strippable s 64
 whole-strips s c l = record { readable = c; allowed = omega arith; short = l }
@@ -61,3 +72,62 @@ module _ (s o e : Bytes) (r : Stripped) (d : Strips r (unrepeated-of s) (strippe
         again : (r₂ : Stripped) → Strips r₂ (unrepeated-of s) (stripped-of s) o′ (patch (e ++ o) 0 (stripped-of s)) → o′ ≡ patch (e ++ o) 0 (stripped-of s)
         again (Len n) st = st .2
         again Repeated st = let z : true ≡ false = sym (told .0) ∙ st in let y : _≡_ {A = ℕ} 0 1 = cc in let w : ⊥ = omega arith in absurd w
+
+-- The numbers of strip.
+-- A scalar is its own strip.
+bare-scalar : (t : Tree) (m : ℕ) → head-of t ≡ Scalar m → (stripped t ≡ t) × (unrepeated t ≡ true)
+bare-scalar null m h = (refl, refl)
+bare-scalar (boolean x) m h = (refl, refl)
+bare-scalar (number b) m h = (refl, refl)
+bare-scalar (string b) m h = (refl, refl)
+bare-scalar (extension b) m h = (refl, refl)
+bare-scalar (array ts) m h = let z : _≡_ {A = ℕ} 0 1 = cc in let w : ⊥ = omega arith in absurd w
+bare-scalar (object ms) m h = let z : _≡_ {A = ℕ} 0 1 = cc in let w : ⊥ = omega arith in absurd w
+
+module _ (a o : Bytes) (c : Check) (hc : c ≡ checked (read a)) where
+  abbrev On : Ending → Bytes → Type 0
+  On e o′ = Ended e o o′ (on-one strip a (length o))
+
+  pub strip-left : (x : Refusal) → c ≡ NotReadable x → On (Refused x) o
+  unfolding on-one _>>=_
+  strip-left x q = rw (refused-as (read a) c x hc q) (record { answer = refl; bytes = refl })
+
+  module _ (oa : Octets a) (qc : c ≡ Readable) (h : Header) (hh : h ≡ header a) where
+    target : (t : Tree) × Known a t
+    target = let w = readable-gives (read a) c hc qc in (w .0, known a (w .0) oa (w .1))
+
+    abbrev t : Tree
+    t = target .0
+
+    -- A root scalar comes back as it is.
+    pub strip-scalar : (m : ℕ) → h ≡ Scalar m → (e : Ending) (o′ : Bytes) → Ended e o o′ (into (length o) a) → On e o′
+    unfolding on-one _>>=_
+    strip-scalar m q e o′ w =
+        let s = bare-scalar t m (sym (target .1 .head) ∙ sym hh ∙ q) in
+        let r : (read a >>= strip) ≡ gives t = rw (target .1 .reads) (strip-given t (s .1) ∙ ap gives (s .0)) in
+        rw (r, target .1 .bytes) w
+
+    module _ (q : (m : ℕ) → h ≡ Scalar m → ⊥) where
+      container : (m : ℕ) → header a ≡ Scalar m → ⊥
+      container m e = q m (hh ∙ e)
+
+      pub strip-ready : (checked (nested 64 a) ≡ Readable) × (length a ≤ 65536)
+      strip-ready = let w = container-ready a t (target .1) container in (w .1, w .0)
+
+      -- A container: 8, then 10.
+      out-is : on-one strip a (length o) ≡ strip-out a (length o)
+      unfolding on-one strip-out stripped-of unrepeated-of _>>=_
+      out-is =
+          let n : nested 64 a ≡ gives t = nested-read a t (target .1 .reads) container in
+          let k = contains 64 a oa (target .1 .short) (strip-ready .0) in
+          let same : k .0 ≡ t = gives-inj (sym (k .1 .reads) ∙ n) in
+          let kc : kind (stripped t) ≡ Container = kind-stripped t ∙ ap kind (sym same) ∙ k .1 .container in
+          rw (target .1 .reads, n) (go (unrepeated t) refl kc)
+        where
+          go : (b : Bool) → unrepeated t ≡ b → kind (stripped t) ≡ Container
+              → written (length o) (strip t) ≡ cond b (into (length o) (payload (stripped t))) (refusal RepeatedName)
+          go true u kc = rw (strip-given t u) (ap (into (length o)) (container-encode (stripped t) (payload (stripped t)) (rw kc)))
+          go false u kc = rw (strip-refused t u)
+
+      pub strip-ends : (e : Ending) (o′ : Bytes) → Ended e o o′ (strip-out a (length o)) → On e o′
+      strip-ends e o′ w = rw out-is w

@@ -1,73 +1,37 @@
+-- `edits::operator::strip_nulls` meets its contract.
+use native.Mathlib.Omega.{arith}
+use Rattle.layout.proofs.Words.{octets-of}
+use Rattle.layout.proofs.Walks.{none-of}
+use Rattle.edits.proofs.StripWrites.{strip-left, strip-scalar, strip-ready, strip-ends}
 use borrow.Author.Needs.{needs}
 use Rattle.edits.proofs.operator.strip_nulls.Statement.{statement}
 use Rattle.edits.proofs.operator.strip_nulls.Tie as tie
-use Rattle.edits.proofs.operator.strip_nulls.Reads as reads
-use Rattle.edits.proofs.operator.strip_nulls.Lts as lts
-use Rattle.edits.proofs.path.write_copy.Reads as write-copy-reads
-use Rattle.edits.proofs.strip.write_stripped.Reads as write-stripped-reads
-use Rattle.layout.proofs.check.check_record.Reads as check-record-reads
-use Rattle.layout.proofs.util.read_header.Reads as read-header-reads
 
--- src/operator.rt:97:38
-check-record-requires : tie.Need-check-record-requires
-check-record-requires c κs = search needs
-
--- src/operator.rt:97:27
-enum-known-refusal : tie.Need-enum-known-refusal
-enum-known-refusal c = search needs
-
--- src/operator.rt:98:9
 returns : tie.Need-returns
-returns c = ?
+returns c = strip-left (c .before .before .before .before .before .before .args .target .now) (c .before .before .before .before .before .before .args .out .now) _ (c .before .before .before .check-record .ensures) _ (c .before .refusal .given .1)
 
-enum-told : tie.Need-enum-told
-enum-told c = search needs
-
--- src/operator.rt:100:32
-read-header-requires : tie.Need-read-header-requires
-read-header-requires c κs = search needs
-
--- src/operator.rt:101:35
-enum-told-2 : tie.Need-enum-told-2
-enum-told-2 c = search needs
-
--- src/operator.rt:101:9
-write-copy-requires : tie.Need-write-copy-requires
-write-copy-requires c κs = search needs
-
--- src/operator.rt:101:9
-same-length : tie.Need-same-length
-same-length c = search needs
-
--- src/operator.rt:101:9
 returns-2 : tie.Need-returns-2
-returns-2 c = ?
+returns-2 c = strip-scalar (c .before .before .before .before .before .before .before .before .before .before .before .before .args .target .now) (c .before .before .before .before .before .before .before .before .before .before .before .before .args .out .now) _ (c .before .before .before .before .before .before .before .before .before .check-record .ensures) (octets-of (c .before .before .before .before .before .before .before .before .before .before .before .before .args .target .now) (λ i. omega (arith, c .before .before .before .before .before .before .before .before .before .before .before .shared-slice-known .given i))) (c .before .before .before .before .before .before .before .enum-told .given .1) _ (c .before .before .before .before .before .before .read-header .ensures) _ (c .before .before .before .before .enum-told2 .given .1) _ _ (c .before .before .write-copy .ensures)
 
--- src/operator.rt:103:5
 write-stripped-requires : tie.Need-write-stripped-requires
-write-stripped-requires c κs = ?
+write-stripped-requires c κs = strip-ready (c .before .before .before .before .before .before .before .before .args .target .now) (c .before .before .before .before .before .before .before .before .args .out .now) _ (c .before .before .before .before .before .check-record .ensures) (octets-of (c .before .before .before .before .before .before .before .before .args .target .now) (λ i. omega (arith, c .before .before .before .before .before .before .before .shared-slice-known .given i))) (c .before .before .before .enum-told .given .1) _ (c .before .before .read-header .ensures) (λ m e. none-of (λ q. omega arith) (λ q. omega arith) (λ q. omega arith) (rw e at (c .before .match2 .keys2)))
 
--- src/operator.rt:93:1
-same-length-2 : tie.Need-same-length-2
-same-length-2 c = search needs
-
--- src/operator.rt:93:1
 returns-3 : tie.Need-returns-3
-returns-3 c = ?
+returns-3 c = strip-ends (c .before .before .before .before .before .before .before .before .before .before .before .args .target .now) (c .before .before .before .before .before .before .before .before .before .before .before .args .out .now) _ (c .before .before .before .before .before .before .before .before .check-record .ensures) (octets-of (c .before .before .before .before .before .before .before .before .before .before .before .args .target .now) (λ i. omega (arith, c .before .before .before .before .before .before .before .before .before .before .shared-slice-known .given i))) (c .before .before .before .before .before .before .enum-told .given .1) _ (c .before .before .before .before .before .read-header .ensures) (λ m e. none-of (λ q. omega arith) (λ q. omega arith) (λ q. omega arith) (rw e at (c .before .before .before .before .match2 .keys2))) _ _ (c .before .before .write-stripped .ensures)
 
 pub strip-nulls-spec : {M : Type 1} → statement M
 strip-nulls-spec =
     tie.close
     (tie.spec
-    check-record-requires
-    enum-known-refusal
+    (λ c κs. search needs)
+    (λ c. search needs)
     returns
-    enum-told
-    read-header-requires
-    enum-told-2
-    write-copy-requires
-    same-length
+    (λ c. search needs)
+    (λ c κs. search needs)
+    (λ c. search needs)
+    (λ c κs. search needs)
+    (λ c. search needs)
     returns-2
     write-stripped-requires
-    same-length-2
+    (λ c. search needs)
     returns-3)
