@@ -1,10 +1,9 @@
 -- `edits::strip::put_stripped` and what it calls in a cycle meet their contracts: the allowance falls with each level.
 use borrow.Author.Needs.{needs}
-use mathlib.Core.Path.{ap}
 use Rattle.layout.proofs.Patches.{length-patch}
 use Rattle.edits.specs.declared.find.PartAt.{PartAt}
 use native.Mathlib.Omega.{arith}
-use mathlib.Core.Path.{_≡_, refl, sym, _∙_}
+use mathlib.Core.Path.{refl, ap, sym, _∙_}
 use Prim.Native.Nat.{ℕ, _+_, _*_, _-_, _<_}
 use lib.ListN.{length}
 use Rattle.layout.proofs.Words.{octets-of}
@@ -13,7 +12,6 @@ use Rattle.edits.proofs.Aheads.{ahead-ready}
 use Rattle.edits.proofs.Stripped.{item-asked, item-repeats, item-short, item-bare, item-as-is, member-bare, no-scalar, no-refusal}
 use Rattle.edits.proofs.StripItems.{Array-at, array-at, Storing, storing-starts, storing-room, item-asks, storing-repeats, storing-len, storing-on, storing-ends}
 use Rattle.edits.proofs.StripMembers.{bare-object, sizes-measured, bare-sizes, near-starts, Baring, baring-starts, baring-room, baring-few, baring-asks, baring-repeats, len-short, baring-on, baring-ends}
-use Prim.Native.Nat.{ℕ, _<_}
 use borrow.Fn.Kinds.{In}
 use borrow.Fn.PlainCycle.{Measures, is, falls, and}
 use Rattle.edits.proofs.strip.put_item_stripped.Reads as put-item-stripped
@@ -184,122 +182,34 @@ put-item-stripped-returns-2 t c = item-bare (c .before .before .before .before .
 put-item-stripped-returns-3 : (t : ℕ) → put-item-stripped-lts.Need-returns-3 (put-item-stripped-claims t) (put-item-stripped-at t) put-item-stripped.Post
 put-item-stripped-returns-3 t c = item-as-is (c .before .before .before .before .before .before .before .before .before .before .before .before .before .args .s .now) (c .before .before .before .before .before .before .before .before .before .before .before .before .before .args .item) _ (c .before .before .before .before .before .before .before .before .before .before .payload-at .ensures) _ (c .before .before .before .before .before .before .before .before .before .type-code .ensures) (c .before .before .before .before .before .before .before .before .before .before .before .before .before .args .at) (c .before .before .before .before .before .before .before .before .before .before .before .before .before .args .out .now) (c .before .before .before .before .before .before .before .before .if1 .left) _ _ (c .before .before .before .before .before .before .put-u322 .ensures) (c .before .before .copy .ensures)
 
+abbrev put-items-stripped-claims : ℕ → put-items-stripped-lts.Claims
+put-items-stripped-claims t = (put-u32-reads.Asked, put-u32-reads.Learnt, read-jentry-reads.Asked, read-jentry-reads.Learnt, put-item-stripped-below t, put-item-stripped.Post, part-behind-reads.Asked, part-behind-reads.Learnt)
+
 abbrev put-items-stripped-Inv-loop : put-items-stripped-lts.InvT-loop
 put-items-stripped-Inv-loop s n out₀ at allowance part₀ here₀ out part here = (w : Array-at s n allowance) × Storing s n allowance at w out₀ out here part
 
 abbrev put-items-stripped-μ-loop : put-items-stripped-lts.MeasureT-loop
 put-items-stripped-μ-loop s n out₀ at allowance part₀ here₀ out part here = n - part .index
 
-put-items-stripped-mul-t10 : (t : ℕ) → put-items-stripped-lts.Need-mul-t10 (
-  put-u32-reads.Asked,
-  put-u32-reads.Learnt,
-  read-jentry-reads.Asked,
-  read-jentry-reads.Learnt,
-  put-item-stripped-below t,
-  put-item-stripped.Post,
-  part-behind-reads.Asked,
-  part-behind-reads.Learnt,
-)
-    (put-items-stripped-at t)
-    put-items-stripped.Post
-    put-items-stripped-Inv-loop
-    put-items-stripped-μ-loop
+put-items-stripped-mul-t10 : (t : ℕ) → put-items-stripped-lts.Need-mul-t10 (put-items-stripped-claims t) (put-items-stripped-at t) put-items-stripped.Post put-items-stripped-Inv-loop put-items-stripped-μ-loop
 put-items-stripped-mul-t10 t c = omega (arith, (array-at (c .before .before .args .s .now) (c .before .before .args .n) (c .before .before .args .allowance) (octets-of (c .before .before .args .s .now) (λ i. omega (arith, c .before .shared-slice-known .given i))) (c .before .before .pre .1 .0) (c .before .before .pre .1 .1)) .table, (array-at (c .before .before .args .s .now) (c .before .before .args .n) (c .before .before .args .allowance) (octets-of (c .before .before .args .s .now) (λ i. omega (arith, c .before .shared-slice-known .given i))) (c .before .before .pre .1 .0) (c .before .before .pre .1 .1)) .short)
 
-put-items-stripped-add-t11 : (t : ℕ) → put-items-stripped-lts.Need-add-t11 (
-  put-u32-reads.Asked,
-  put-u32-reads.Learnt,
-  read-jentry-reads.Asked,
-  read-jentry-reads.Learnt,
-  put-item-stripped-below t,
-  put-item-stripped.Post,
-  part-behind-reads.Asked,
-  part-behind-reads.Learnt,
-)
-    (put-items-stripped-at t)
-    put-items-stripped.Post
-    put-items-stripped-Inv-loop
-    put-items-stripped-μ-loop
+put-items-stripped-add-t11 : (t : ℕ) → put-items-stripped-lts.Need-add-t11 (put-items-stripped-claims t) (put-items-stripped-at t) put-items-stripped.Post put-items-stripped-Inv-loop put-items-stripped-μ-loop
 put-items-stripped-add-t11 t c = omega (arith, (array-at (c .before .before .args .s .now) (c .before .before .args .n) (c .before .before .args .allowance) (octets-of (c .before .before .args .s .now) (λ i. omega (arith, c .before .shared-slice-known .given i))) (c .before .before .pre .1 .0) (c .before .before .pre .1 .1)) .table, (array-at (c .before .before .args .s .now) (c .before .before .args .n) (c .before .before .args .allowance) (octets-of (c .before .before .args .s .now) (λ i. omega (arith, c .before .shared-slice-known .given i))) (c .before .before .pre .1 .0) (c .before .before .pre .1 .1)) .short)
 
-put-items-stripped-add-t10 : (t : ℕ) → put-items-stripped-lts.Need-add-t10 (
-  put-u32-reads.Asked,
-  put-u32-reads.Learnt,
-  read-jentry-reads.Asked,
-  read-jentry-reads.Learnt,
-  put-item-stripped-below t,
-  put-item-stripped.Post,
-  part-behind-reads.Asked,
-  part-behind-reads.Learnt,
-)
-    (put-items-stripped-at t)
-    put-items-stripped.Post
-    put-items-stripped-Inv-loop
-    put-items-stripped-μ-loop
+put-items-stripped-add-t10 : (t : ℕ) → put-items-stripped-lts.Need-add-t10 (put-items-stripped-claims t) (put-items-stripped-at t) put-items-stripped.Post put-items-stripped-Inv-loop put-items-stripped-μ-loop
 put-items-stripped-add-t10 t c = omega (arith, c .before .before .pre .1 .2)
 
-put-items-stripped-add-t11-2 : (t : ℕ) → put-items-stripped-lts.Need-add-t11-2 (
-  put-u32-reads.Asked,
-  put-u32-reads.Learnt,
-  read-jentry-reads.Asked,
-  read-jentry-reads.Learnt,
-  put-item-stripped-below t,
-  put-item-stripped.Post,
-  part-behind-reads.Asked,
-  part-behind-reads.Learnt,
-)
-    (put-items-stripped-at t)
-    put-items-stripped.Post
-    put-items-stripped-Inv-loop
-    put-items-stripped-μ-loop
+put-items-stripped-add-t11-2 : (t : ℕ) → put-items-stripped-lts.Need-add-t11-2 (put-items-stripped-claims t) (put-items-stripped-at t) put-items-stripped.Post put-items-stripped-Inv-loop put-items-stripped-μ-loop
 put-items-stripped-add-t11-2 t c = omega (arith, c .before .before .before .pre .1 .2, (array-at (c .before .before .before .args .s .now) (c .before .before .before .args .n) (c .before .before .before .args .allowance) (octets-of (c .before .before .before .args .s .now) (λ i. omega (arith, c .before .before .shared-slice-known .given i))) (c .before .before .before .pre .1 .0) (c .before .before .before .pre .1 .1)) .table, (array-at (c .before .before .before .args .s .now) (c .before .before .before .args .n) (c .before .before .before .args .allowance) (octets-of (c .before .before .before .args .s .now) (λ i. omega (arith, c .before .before .shared-slice-known .given i))) (c .before .before .before .pre .1 .0) (c .before .before .before .pre .1 .1)) .short)
 
-put-items-stripped-cast-put-u32 : (t : ℕ) → put-items-stripped-lts.Need-cast-put-u32 (
-  put-u32-reads.Asked,
-  put-u32-reads.Learnt,
-  read-jentry-reads.Asked,
-  read-jentry-reads.Learnt,
-  put-item-stripped-below t,
-  put-item-stripped.Post,
-  part-behind-reads.Asked,
-  part-behind-reads.Learnt,
-)
-    (put-items-stripped-at t)
-    put-items-stripped.Post
-    put-items-stripped-Inv-loop
-    put-items-stripped-μ-loop
+put-items-stripped-cast-put-u32 : (t : ℕ) → put-items-stripped-lts.Need-cast-put-u32 (put-items-stripped-claims t) (put-items-stripped-at t) put-items-stripped.Post put-items-stripped-Inv-loop put-items-stripped-μ-loop
 put-items-stripped-cast-put-u32 t c = omega (arith, (array-at (c .before .before .before .before .args .s .now) (c .before .before .before .before .args .n) (c .before .before .before .before .args .allowance) (octets-of (c .before .before .before .before .args .s .now) (λ i. omega (arith, c .before .before .before .shared-slice-known .given i))) (c .before .before .before .before .pre .1 .0) (c .before .before .before .before .pre .1 .1)) .table, (array-at (c .before .before .before .before .args .s .now) (c .before .before .before .before .args .n) (c .before .before .before .before .args .allowance) (octets-of (c .before .before .before .before .args .s .now) (λ i. omega (arith, c .before .before .before .shared-slice-known .given i))) (c .before .before .before .before .pre .1 .0) (c .before .before .before .before .pre .1 .1)) .short)
 
-put-items-stripped-put-u32-requires : (t : ℕ) → put-items-stripped-lts.Need-put-u32-requires (
-  put-u32-reads.Asked,
-  put-u32-reads.Learnt,
-  read-jentry-reads.Asked,
-  read-jentry-reads.Learnt,
-  put-item-stripped-below t,
-  put-item-stripped.Post,
-  part-behind-reads.Asked,
-  part-behind-reads.Learnt,
-)
-    (put-items-stripped-at t)
-    put-items-stripped.Post
-    put-items-stripped-Inv-loop
-    put-items-stripped-μ-loop
+put-items-stripped-put-u32-requires : (t : ℕ) → put-items-stripped-lts.Need-put-u32-requires (put-items-stripped-claims t) (put-items-stripped-at t) put-items-stripped.Post put-items-stripped-Inv-loop put-items-stripped-μ-loop
 put-items-stripped-put-u32-requires t c κs = search needs
 
-put-items-stripped-loop-holds : (t : ℕ) → put-items-stripped-lts.Need-loop-holds (
-  put-u32-reads.Asked,
-  put-u32-reads.Learnt,
-  read-jentry-reads.Asked,
-  read-jentry-reads.Learnt,
-  put-item-stripped-below t,
-  put-item-stripped.Post,
-  part-behind-reads.Asked,
-  part-behind-reads.Learnt,
-)
-    (put-items-stripped-at t)
-    put-items-stripped.Post
-    put-items-stripped-Inv-loop
-    put-items-stripped-μ-loop
+put-items-stripped-loop-holds : (t : ℕ) → put-items-stripped-lts.Need-loop-holds (put-items-stripped-claims t) (put-items-stripped-at t) put-items-stripped.Post put-items-stripped-Inv-loop put-items-stripped-μ-loop
 put-items-stripped-loop-holds t c = ((array-at (c .before .before .before .before .before .before .before .args .s .now) (c .before .before .before .before .before .before .before .args .n) (c .before .before .before .before .before .before .before .args .allowance) (octets-of (c .before .before .before .before .before .before .before .args .s .now) (λ i. omega (arith, c .before .before .before .before .before .before .shared-slice-known .given i))) (c .before .before .before .before .before .before .before .pre .1 .0) (c .before .before .before .before .before .before .before .pre .1 .1)), storing-starts _ _ _ _ _ _)
 
 -- src/strip.rt:114:21
@@ -356,100 +266,22 @@ put-items-stripped-put-item-stripped-requires :
     put-items-stripped-μ-loop
 put-items-stripped-put-item-stripped-requires t c κs = (omega (arith, c .before .before .before .before .before .before .before .before .before .before .before .before .pre .0, c .before .before .before .before .loop .inv .0 .deep), (item-asks (c .before .before .before .before .before .before .before .before .before .before .before .before .args .s .now) (c .before .before .before .before .before .before .before .before .before .before .before .before .args .n) (c .before .before .before .before .before .before .before .before .before .before .before .before .args .allowance) (c .before .before .before .before .before .before .before .before .before .before .before .before .args .at) (c .before .before .before .before .loop .inv .0) _ _ _ _ (c .before .before .before .before .loop .inv .1) (c .before .before .if1 .taken) _ (c .before .read-jentry .ensures) refl, omega (arith, storing-room (c .before .before .before .before .before .before .before .before .before .before .before .before .args .s .now) (c .before .before .before .before .before .before .before .before .before .before .before .before .args .n) (c .before .before .before .before .before .before .before .before .before .before .before .before .args .allowance) (c .before .before .before .before .before .before .before .before .before .before .before .before .args .at) (c .before .before .before .before .loop .inv .0) _ _ _ _ (c .before .before .before .before .loop .inv .1), c .before .before .if1 .taken), omega (arith, storing-room (c .before .before .before .before .before .before .before .before .before .before .before .before .args .s .now) (c .before .before .before .before .before .before .before .before .before .before .before .before .args .n) (c .before .before .before .before .before .before .before .before .before .before .before .before .args .allowance) (c .before .before .before .before .before .before .before .before .before .before .before .before .args .at) (c .before .before .before .before .loop .inv .0) _ _ _ _ (c .before .before .before .before .loop .inv .1), c .before .before .before .before .before .before .before .before .before .before .before .before .pre .1 .2, c .before .before .before .before .loop .inv .0 .deep, c .before .before .before .before .loop .inv .0 .allowed)))
 
-put-items-stripped-enum-known-len : (t : ℕ) → put-items-stripped-lts.Need-enum-known-len (
-  put-u32-reads.Asked,
-  put-u32-reads.Learnt,
-  read-jentry-reads.Asked,
-  read-jentry-reads.Learnt,
-  put-item-stripped-below t,
-  put-item-stripped.Post,
-  part-behind-reads.Asked,
-  part-behind-reads.Learnt,
-)
-    (put-items-stripped-at t)
-    put-items-stripped.Post
-    put-items-stripped-Inv-loop
-    put-items-stripped-μ-loop
+put-items-stripped-enum-known-len : (t : ℕ) → put-items-stripped-lts.Need-enum-known-len (put-items-stripped-claims t) (put-items-stripped-at t) put-items-stripped.Post put-items-stripped-Inv-loop put-items-stripped-μ-loop
 put-items-stripped-enum-known-len t c = search needs
 
-put-items-stripped-enum-told : (t : ℕ) → put-items-stripped-lts.Need-enum-told (
-  put-u32-reads.Asked,
-  put-u32-reads.Learnt,
-  read-jentry-reads.Asked,
-  read-jentry-reads.Learnt,
-  put-item-stripped-below t,
-  put-item-stripped.Post,
-  part-behind-reads.Asked,
-  part-behind-reads.Learnt,
-)
-    (put-items-stripped-at t)
-    put-items-stripped.Post
-    put-items-stripped-Inv-loop
-    put-items-stripped-μ-loop
+put-items-stripped-enum-told : (t : ℕ) → put-items-stripped-lts.Need-enum-told (put-items-stripped-claims t) (put-items-stripped-at t) put-items-stripped.Post put-items-stripped-Inv-loop put-items-stripped-μ-loop
 put-items-stripped-enum-told t c = search needs
 
-put-items-stripped-same-length : (t : ℕ) → put-items-stripped-lts.Need-same-length (
-  put-u32-reads.Asked,
-  put-u32-reads.Learnt,
-  read-jentry-reads.Asked,
-  read-jentry-reads.Learnt,
-  put-item-stripped-below t,
-  put-item-stripped.Post,
-  part-behind-reads.Asked,
-  part-behind-reads.Learnt,
-)
-    (put-items-stripped-at t)
-    put-items-stripped.Post
-    put-items-stripped-Inv-loop
-    put-items-stripped-μ-loop
+put-items-stripped-same-length : (t : ℕ) → put-items-stripped-lts.Need-same-length (put-items-stripped-claims t) (put-items-stripped-at t) put-items-stripped.Post put-items-stripped-Inv-loop put-items-stripped-μ-loop
 put-items-stripped-same-length t c = search needs
 
-put-items-stripped-returns : (t : ℕ) → put-items-stripped-lts.Need-returns (
-  put-u32-reads.Asked,
-  put-u32-reads.Learnt,
-  read-jentry-reads.Asked,
-  read-jentry-reads.Learnt,
-  put-item-stripped-below t,
-  put-item-stripped.Post,
-  part-behind-reads.Asked,
-  part-behind-reads.Learnt,
-)
-    (put-items-stripped-at t)
-    put-items-stripped.Post
-    put-items-stripped-Inv-loop
-    put-items-stripped-μ-loop
+put-items-stripped-returns : (t : ℕ) → put-items-stripped-lts.Need-returns (put-items-stripped-claims t) (put-items-stripped-at t) put-items-stripped.Post put-items-stripped-Inv-loop put-items-stripped-μ-loop
 put-items-stripped-returns t c = storing-repeats (c .before .before .before .before .before .before .before .before .before .before .before .before .before .before .before .before .before .args .s .now) (c .before .before .before .before .before .before .before .before .before .before .before .before .before .before .before .before .before .args .n) (c .before .before .before .before .before .before .before .before .before .before .before .before .before .before .before .before .before .args .allowance) (c .before .before .before .before .before .before .before .before .before .before .before .before .before .before .before .before .before .args .at) (c .before .before .before .before .before .before .before .before .before .loop .inv .0) _ _ _ _ (c .before .before .before .before .before .before .before .before .before .loop .inv .1) (c .before .before .before .before .before .before .before .if1 .taken) _ (c .before .before .before .before .before .before .read-jentry .ensures) refl _ _ (c .before .before .before .before .put-item-stripped .ensures) (c .enum-told .given .1)
 
-put-items-stripped-add-t22 : (t : ℕ) → put-items-stripped-lts.Need-add-t22 (
-  put-u32-reads.Asked,
-  put-u32-reads.Learnt,
-  read-jentry-reads.Asked,
-  read-jentry-reads.Learnt,
-  put-item-stripped-below t,
-  put-item-stripped.Post,
-  part-behind-reads.Asked,
-  part-behind-reads.Learnt,
-)
-    (put-items-stripped-at t)
-    put-items-stripped.Post
-    put-items-stripped-Inv-loop
-    put-items-stripped-μ-loop
+put-items-stripped-add-t22 : (t : ℕ) → put-items-stripped-lts.Need-add-t22 (put-items-stripped-claims t) (put-items-stripped-at t) put-items-stripped.Post put-items-stripped-Inv-loop put-items-stripped-μ-loop
 put-items-stripped-add-t22 t c = omega (arith, storing-room (c .before .before .before .before .before .before .before .before .before .before .before .before .before .before .before .before .before .before .before .args .s .now) (c .before .before .before .before .before .before .before .before .before .before .before .before .before .before .before .before .before .before .before .args .n) (c .before .before .before .before .before .before .before .before .before .before .before .before .before .before .before .before .before .before .before .args .allowance) (c .before .before .before .before .before .before .before .before .before .before .before .before .before .before .before .before .before .before .before .args .at) (c .before .before .before .before .before .before .before .before .before .before .before .loop .inv .0) _ _ _ _ (c .before .before .before .before .before .before .before .before .before .before .before .loop .inv .1), c .before .before .before .before .before .before .before .before .before .before .before .before .before .before .before .before .before .before .before .pre .1 .2, c .before .before .before .before .before .before .before .before .before .if1 .taken)
 
-put-items-stripped-add-t23 : (t : ℕ) → put-items-stripped-lts.Need-add-t23 (
-  put-u32-reads.Asked,
-  put-u32-reads.Learnt,
-  read-jentry-reads.Asked,
-  read-jentry-reads.Learnt,
-  put-item-stripped-below t,
-  put-item-stripped.Post,
-  part-behind-reads.Asked,
-  part-behind-reads.Learnt,
-)
-    (put-items-stripped-at t)
-    put-items-stripped.Post
-    put-items-stripped-Inv-loop
-    put-items-stripped-μ-loop
+put-items-stripped-add-t23 : (t : ℕ) → put-items-stripped-lts.Need-add-t23 (put-items-stripped-claims t) (put-items-stripped-at t) put-items-stripped.Post put-items-stripped-Inv-loop put-items-stripped-μ-loop
 put-items-stripped-add-t23 t c = omega (arith, storing-room (c .before .before .before .before .before .before .before .before .before .before .before .before .before .before .before .before .before .before .before .before .args .s .now) (c .before .before .before .before .before .before .before .before .before .before .before .before .before .before .before .before .before .before .before .before .args .n) (c .before .before .before .before .before .before .before .before .before .before .before .before .before .before .before .before .before .before .before .before .args .allowance) (c .before .before .before .before .before .before .before .before .before .before .before .before .before .before .before .before .before .before .before .before .args .at) (c .before .before .before .before .before .before .before .before .before .before .before .before .loop .inv .0) _ _ _ _ (c .before .before .before .before .before .before .before .before .before .before .before .before .loop .inv .1), c .before .before .before .before .before .before .before .before .before .before .before .before .before .before .before .before .before .before .before .before .pre .1 .2, storing-len (c .before .before .before .before .before .before .before .before .before .before .before .before .before .before .before .before .before .before .before .before .args .s .now) (c .before .before .before .before .before .before .before .before .before .before .before .before .before .before .before .before .before .before .before .before .args .n) (c .before .before .before .before .before .before .before .before .before .before .before .before .before .before .before .before .before .before .before .before .args .allowance) (c .before .before .before .before .before .before .before .before .before .before .before .before .before .before .before .before .before .before .before .before .args .at) (c .before .before .before .before .before .before .before .before .before .before .before .before .loop .inv .0) _ _ _ _ (c .before .before .before .before .before .before .before .before .before .before .before .before .loop .inv .1) (c .before .before .before .before .before .before .before .before .before .before .if1 .taken) _ (c .before .before .before .before .before .before .before .before .before .read-jentry .ensures) refl _ _ (c .before .before .before .before .before .before .before .put-item-stripped .ensures) _ (c .before .before .before .len .given .1))
 
 -- src/strip.rt:124:9
@@ -470,84 +302,19 @@ put-items-stripped-part-behind-requires :
     put-items-stripped-μ-loop
 put-items-stripped-part-behind-requires t c κs = omega (arith, storing-room (c .before .before .before .before .before .before .before .before .before .before .before .before .before .before .before .before .before .before .before .before .args .s .now) (c .before .before .before .before .before .before .before .before .before .before .before .before .before .before .before .before .before .before .before .before .args .n) (c .before .before .before .before .before .before .before .before .before .before .before .before .before .before .before .before .before .before .before .before .args .allowance) (c .before .before .before .before .before .before .before .before .before .before .before .before .before .before .before .before .before .before .before .before .args .at) (c .before .before .before .before .before .before .before .before .before .before .before .before .loop .inv .0) _ _ _ _ (c .before .before .before .before .before .before .before .before .before .before .before .before .loop .inv .1))
 
-put-items-stripped-loop-less : (t : ℕ) → put-items-stripped-lts.Need-loop-less (
-  put-u32-reads.Asked,
-  put-u32-reads.Learnt,
-  read-jentry-reads.Asked,
-  read-jentry-reads.Learnt,
-  put-item-stripped-below t,
-  put-item-stripped.Post,
-  part-behind-reads.Asked,
-  part-behind-reads.Learnt,
-)
-    (put-items-stripped-at t)
-    put-items-stripped.Post
-    put-items-stripped-Inv-loop
-    put-items-stripped-μ-loop
+put-items-stripped-loop-less : (t : ℕ) → put-items-stripped-lts.Need-loop-less (put-items-stripped-claims t) (put-items-stripped-at t) put-items-stripped.Post put-items-stripped-Inv-loop put-items-stripped-μ-loop
 put-items-stripped-loop-less t c = omega (arith, c .before .before .before .before .before .before .before .before .before .before .before .if1 .taken, ap (λ (y : PartAt). y .index) (c .part-behind .ensures))
 
-put-items-stripped-loop-again : (t : ℕ) → put-items-stripped-lts.Need-loop-again (
-  put-u32-reads.Asked,
-  put-u32-reads.Learnt,
-  read-jentry-reads.Asked,
-  read-jentry-reads.Learnt,
-  put-item-stripped-below t,
-  put-item-stripped.Post,
-  part-behind-reads.Asked,
-  part-behind-reads.Learnt,
-)
-    (put-items-stripped-at t)
-    put-items-stripped.Post
-    put-items-stripped-Inv-loop
-    put-items-stripped-μ-loop
+put-items-stripped-loop-again : (t : ℕ) → put-items-stripped-lts.Need-loop-again (put-items-stripped-claims t) (put-items-stripped-at t) put-items-stripped.Post put-items-stripped-Inv-loop put-items-stripped-μ-loop
 put-items-stripped-loop-again t c = (c .before .before .before .before .before .before .before .before .before .before .before .before .before .loop .inv .0, storing-on (c .before .before .before .before .before .before .before .before .before .before .before .before .before .before .before .before .before .before .before .before .before .args .s .now) (c .before .before .before .before .before .before .before .before .before .before .before .before .before .before .before .before .before .before .before .before .before .args .n) (c .before .before .before .before .before .before .before .before .before .before .before .before .before .before .before .before .before .before .before .before .before .args .allowance) (c .before .before .before .before .before .before .before .before .before .before .before .before .before .before .before .before .before .before .before .before .before .args .at) (c .before .before .before .before .before .before .before .before .before .before .before .before .before .loop .inv .0) _ _ _ _ (c .before .before .before .before .before .before .before .before .before .before .before .before .before .loop .inv .1) (c .before .before .before .before .before .before .before .before .before .before .before .if1 .taken) _ (c .before .before .before .before .before .before .before .before .before .before .read-jentry .ensures) refl _ _ (c .before .before .before .before .before .before .before .before .put-item-stripped .ensures) _ (c .before .before .before .before .len .given .1) _ (c .part-behind .ensures))
 
-put-items-stripped-sub-t10 : (t : ℕ) → put-items-stripped-lts.Need-sub-t10 (
-  put-u32-reads.Asked,
-  put-u32-reads.Learnt,
-  read-jentry-reads.Asked,
-  read-jentry-reads.Learnt,
-  put-item-stripped-below t,
-  put-item-stripped.Post,
-  part-behind-reads.Asked,
-  part-behind-reads.Learnt,
-)
-    (put-items-stripped-at t)
-    put-items-stripped.Post
-    put-items-stripped-Inv-loop
-    put-items-stripped-μ-loop
+put-items-stripped-sub-t10 : (t : ℕ) → put-items-stripped-lts.Need-sub-t10 (put-items-stripped-claims t) (put-items-stripped-at t) put-items-stripped.Post put-items-stripped-Inv-loop put-items-stripped-μ-loop
 put-items-stripped-sub-t10 t c = omega (arith, storing-room (c .before .before .before .before .before .before .before .before .before .before .before .args .s .now) (c .before .before .before .before .before .before .before .before .before .before .before .args .n) (c .before .before .before .before .before .before .before .before .before .before .before .args .allowance) (c .before .before .before .before .before .before .before .before .before .before .before .args .at) (c .before .before .before .loop .inv .0) _ _ _ _ (c .before .before .before .loop .inv .1))
 
-put-items-stripped-same-length-2 : (t : ℕ) → put-items-stripped-lts.Need-same-length-2 (
-  put-u32-reads.Asked,
-  put-u32-reads.Learnt,
-  read-jentry-reads.Asked,
-  read-jentry-reads.Learnt,
-  put-item-stripped-below t,
-  put-item-stripped.Post,
-  part-behind-reads.Asked,
-  part-behind-reads.Learnt,
-)
-    (put-items-stripped-at t)
-    put-items-stripped.Post
-    put-items-stripped-Inv-loop
-    put-items-stripped-μ-loop
+put-items-stripped-same-length-2 : (t : ℕ) → put-items-stripped-lts.Need-same-length-2 (put-items-stripped-claims t) (put-items-stripped-at t) put-items-stripped.Post put-items-stripped-Inv-loop put-items-stripped-μ-loop
 put-items-stripped-same-length-2 t c = c .before .before .before .loop .inv .1 .as-long ∙ ap length (c .before .before .before .before .before .before .put-u32 .ensures) ∙ length-patch _ _ _
 
-put-items-stripped-returns-2 : (t : ℕ) → put-items-stripped-lts.Need-returns-2 (
-  put-u32-reads.Asked,
-  put-u32-reads.Learnt,
-  read-jentry-reads.Asked,
-  read-jentry-reads.Learnt,
-  put-item-stripped-below t,
-  put-item-stripped.Post,
-  part-behind-reads.Asked,
-  part-behind-reads.Learnt,
-)
-    (put-items-stripped-at t)
-    put-items-stripped.Post
-    put-items-stripped-Inv-loop
-    put-items-stripped-μ-loop
+put-items-stripped-returns-2 : (t : ℕ) → put-items-stripped-lts.Need-returns-2 (put-items-stripped-claims t) (put-items-stripped-at t) put-items-stripped.Post put-items-stripped-Inv-loop put-items-stripped-μ-loop
 put-items-stripped-returns-2 t c = storing-ends (c .before .before .before .before .before .before .before .before .before .before .before .args .s .now) (c .before .before .before .before .before .before .before .before .before .before .before .args .n) (c .before .before .before .before .before .before .before .before .before .before .before .args .allowance) (c .before .before .before .before .before .before .before .before .before .before .before .args .at) (c .before .before .before .loop .inv .0) _ _ _ _ (c .before .before .before .loop .inv .1) _ _ (c .before .if1 .left) refl (c .before .before .before .before .before .before .put-u32 .ensures)
 
 -- src/strip.rt:89:10
@@ -580,6 +347,9 @@ put-member-stripped-put-item-stripped-requires t c κs = (omega (arith, c .befor
 
 put-member-stripped-returns : (t : ℕ) → put-member-stripped-lts.Need-returns (put-member-stripped-claims t) (put-member-stripped-at t) put-member-stripped.Post
 put-member-stripped-returns t c = member-bare (c .before .before .before .before .before .before .before .before .before .before .before .before .before .before .before .args .s .now) (c .before .before .before .before .before .before .before .before .before .before .before .before .before .before .before .args .member) (c .before .before .before .before .before .before .before .before .before .before .before .before .before .before .before .args .at) _ (c .before .before .before .before .before .before .before .before .before .before .before .before .before .before .before .args .out .now) _ _ _ (c .before .before .put-item-stripped .result) (c .before .before .before .before .before .before .before .before .payload-at .ensures) (c .before .before .before .before .before .before .before .before .before .before .before .put-u32 .ensures) (c .before .before .before .before .before .before .copy .ensures) (c .before .before .before .before .before .before .before .before .before .before .before .before .before .before .before .pre .1 .3) (c .before .before .put-item-stripped .ensures)
+
+abbrev put-members-stripped-claims : ℕ → put-members-stripped-lts.Claims
+put-members-stripped-claims t = (members-ahead-reads.Asked, members-ahead-reads.Learnt, measure-ahead-reads.Asked, measure-ahead-reads.Learnt, places-for-reads.Asked, places-for-reads.Learnt, put-u32-reads.Asked, put-u32-reads.Learnt, slice-reads.Asked, slice-reads.Learnt, next-in-order-reads.Asked, next-in-order-reads.Learnt, put-member-stripped-below t, put-member-stripped.Post, payload-at-reads.Asked, payload-at-reads.Learnt)
 
 abbrev put-members-stripped-Inv-loop : put-members-stripped-lts.InvT-loop
 put-members-stripped-Inv-loop s n out₀ at allowance ahead₀ sizes to₀ last₀ i₀ out ahead to last i = Baring s n out₀ to₀ out last to ahead i
@@ -665,100 +435,16 @@ put-members-stripped-places-for-requires :
     put-members-stripped-μ-loop
 put-members-stripped-places-for-requires t c κs = (omega (arith, bare-sizes (c .before .before .before .before .args .s .now) (c .before .before .before .before .args .n) (c .before .before .before .before .args .allowance) (c .before .before .before .before .args .at) (bare-object (c .before .before .before .before .args .s .now) (c .before .before .before .before .args .n) (c .before .before .before .before .args .allowance) (octets-of (c .before .before .before .before .args .s .now) (λ i. omega (arith, c .before .before .before .shared-slice-known .given i))) (c .before .before .before .before .pre .1 .0) (c .before .before .before .before .pre .1 .1)) (c .before .before .before .before .pre .1 .2) _ (sizes-measured (c .before .before .before .before .args .s .now) (c .before .before .before .before .args .n) _ _ (c .before .members-ahead .ensures) (c .measure-ahead .ensures))), omega (arith, bare-sizes (c .before .before .before .before .args .s .now) (c .before .before .before .before .args .n) (c .before .before .before .before .args .allowance) (c .before .before .before .before .args .at) (bare-object (c .before .before .before .before .args .s .now) (c .before .before .before .before .args .n) (c .before .before .before .before .args .allowance) (octets-of (c .before .before .before .before .args .s .now) (λ i. omega (arith, c .before .before .before .shared-slice-known .given i))) (c .before .before .before .before .pre .1 .0) (c .before .before .before .before .pre .1 .1)) (c .before .before .before .before .pre .1 .2) _ (sizes-measured (c .before .before .before .before .args .s .now) (c .before .before .before .before .args .n) _ _ (c .before .members-ahead .ensures) (c .measure-ahead .ensures))), omega (arith, c .before .before .before .before .pre .1 .2))
 
-put-members-stripped-cast-put-u32 : (t : ℕ) → put-members-stripped-lts.Need-cast-put-u32 (
-  members-ahead-reads.Asked,
-  members-ahead-reads.Learnt,
-  measure-ahead-reads.Asked,
-  measure-ahead-reads.Learnt,
-  places-for-reads.Asked,
-  places-for-reads.Learnt,
-  put-u32-reads.Asked,
-  put-u32-reads.Learnt,
-  slice-reads.Asked,
-  slice-reads.Learnt,
-  next-in-order-reads.Asked,
-  next-in-order-reads.Learnt,
-  put-member-stripped-below t,
-  put-member-stripped.Post,
-  payload-at-reads.Asked,
-  payload-at-reads.Learnt,
-)
-    (put-members-stripped-at t)
-    put-members-stripped.Post
-    put-members-stripped-Inv-loop
-    put-members-stripped-μ-loop
+put-members-stripped-cast-put-u32 : (t : ℕ) → put-members-stripped-lts.Need-cast-put-u32 (put-members-stripped-claims t) (put-members-stripped-at t) put-members-stripped.Post put-members-stripped-Inv-loop put-members-stripped-μ-loop
 put-members-stripped-cast-put-u32 t c = omega (arith, bare-sizes (c .before .before .before .before .before .before .before .args .s .now) (c .before .before .before .before .before .before .before .args .n) (c .before .before .before .before .before .before .before .args .allowance) (c .before .before .before .before .before .before .before .args .at) (bare-object (c .before .before .before .before .before .before .before .args .s .now) (c .before .before .before .before .before .before .before .args .n) (c .before .before .before .before .before .before .before .args .allowance) (octets-of (c .before .before .before .before .before .before .before .args .s .now) (λ i. omega (arith, c .before .before .before .before .before .before .shared-slice-known .given i))) (c .before .before .before .before .before .before .before .pre .1 .0) (c .before .before .before .before .before .before .before .pre .1 .1)) (c .before .before .before .before .before .before .before .pre .1 .2) _ (sizes-measured (c .before .before .before .before .before .before .before .args .s .now) (c .before .before .before .before .before .before .before .args .n) _ _ (c .before .before .before .before .members-ahead .ensures) (c .before .before .before .measure-ahead .ensures)))
 
-put-members-stripped-put-u32-requires : (t : ℕ) → put-members-stripped-lts.Need-put-u32-requires (
-  members-ahead-reads.Asked,
-  members-ahead-reads.Learnt,
-  measure-ahead-reads.Asked,
-  measure-ahead-reads.Learnt,
-  places-for-reads.Asked,
-  places-for-reads.Learnt,
-  put-u32-reads.Asked,
-  put-u32-reads.Learnt,
-  slice-reads.Asked,
-  slice-reads.Learnt,
-  next-in-order-reads.Asked,
-  next-in-order-reads.Learnt,
-  put-member-stripped-below t,
-  put-member-stripped.Post,
-  payload-at-reads.Asked,
-  payload-at-reads.Learnt,
-)
-    (put-members-stripped-at t)
-    put-members-stripped.Post
-    put-members-stripped-Inv-loop
-    put-members-stripped-μ-loop
+put-members-stripped-put-u32-requires : (t : ℕ) → put-members-stripped-lts.Need-put-u32-requires (put-members-stripped-claims t) (put-members-stripped-at t) put-members-stripped.Post put-members-stripped-Inv-loop put-members-stripped-μ-loop
 put-members-stripped-put-u32-requires t c κs = search needs
 
-put-members-stripped-slice-requires : (t : ℕ) → put-members-stripped-lts.Need-slice-requires (
-  members-ahead-reads.Asked,
-  members-ahead-reads.Learnt,
-  measure-ahead-reads.Asked,
-  measure-ahead-reads.Learnt,
-  places-for-reads.Asked,
-  places-for-reads.Learnt,
-  put-u32-reads.Asked,
-  put-u32-reads.Learnt,
-  slice-reads.Asked,
-  slice-reads.Learnt,
-  next-in-order-reads.Asked,
-  next-in-order-reads.Learnt,
-  put-member-stripped-below t,
-  put-member-stripped.Post,
-  payload-at-reads.Asked,
-  payload-at-reads.Learnt,
-)
-    (put-members-stripped-at t)
-    put-members-stripped.Post
-    put-members-stripped-Inv-loop
-    put-members-stripped-μ-loop
+put-members-stripped-slice-requires : (t : ℕ) → put-members-stripped-lts.Need-slice-requires (put-members-stripped-claims t) (put-members-stripped-at t) put-members-stripped.Post put-members-stripped-Inv-loop put-members-stripped-μ-loop
 put-members-stripped-slice-requires t c κs = search needs
 
-put-members-stripped-loop-holds : (t : ℕ) → put-members-stripped-lts.Need-loop-holds (
-  members-ahead-reads.Asked,
-  members-ahead-reads.Learnt,
-  measure-ahead-reads.Asked,
-  measure-ahead-reads.Learnt,
-  places-for-reads.Asked,
-  places-for-reads.Learnt,
-  put-u32-reads.Asked,
-  put-u32-reads.Learnt,
-  slice-reads.Asked,
-  slice-reads.Learnt,
-  next-in-order-reads.Asked,
-  next-in-order-reads.Learnt,
-  put-member-stripped-below t,
-  put-member-stripped.Post,
-  payload-at-reads.Asked,
-  payload-at-reads.Learnt,
-)
-    (put-members-stripped-at t)
-    put-members-stripped.Post
-    put-members-stripped-Inv-loop
-    put-members-stripped-μ-loop
+put-members-stripped-loop-holds : (t : ℕ) → put-members-stripped-lts.Need-loop-holds (put-members-stripped-claims t) (put-members-stripped-at t) put-members-stripped.Post put-members-stripped-Inv-loop put-members-stripped-μ-loop
 put-members-stripped-loop-holds t c = baring-starts (c .before .before .before .before .before .before .before .before .before .before .before .args .s .now) (c .before .before .before .before .before .before .before .before .before .before .before .args .n) (c .before .before .before .before .before .before .before .before .before .before .before .args .allowance) (bare-object (c .before .before .before .before .before .before .before .before .before .before .before .args .s .now) (c .before .before .before .before .before .before .before .before .before .before .before .args .n) (c .before .before .before .before .before .before .before .before .before .before .before .args .allowance) (octets-of (c .before .before .before .before .before .before .before .before .before .before .before .args .s .now) (λ i. omega (arith, c .before .before .before .before .before .before .before .before .before .before .shared-slice-known .given i))) (c .before .before .before .before .before .before .before .before .before .before .before .pre .1 .0) (c .before .before .before .before .before .before .before .before .before .before .before .pre .1 .1)) _ _ _ _ (c .before .before .before .before .before .before .before .before .members-ahead .ensures)
 
 -- src/strip.rt:143:43
@@ -787,100 +473,16 @@ put-members-stripped-next-in-order-requires :
     put-members-stripped-μ-loop
 put-members-stripped-next-in-order-requires t c κs = ahead-ready _ _ _ _ _ (c .before .before .loop .inv .rest)
 
-put-members-stripped-enum-known-member : (t : ℕ) → put-members-stripped-lts.Need-enum-known-member (
-  members-ahead-reads.Asked,
-  members-ahead-reads.Learnt,
-  measure-ahead-reads.Asked,
-  measure-ahead-reads.Learnt,
-  places-for-reads.Asked,
-  places-for-reads.Learnt,
-  put-u32-reads.Asked,
-  put-u32-reads.Learnt,
-  slice-reads.Asked,
-  slice-reads.Learnt,
-  next-in-order-reads.Asked,
-  next-in-order-reads.Learnt,
-  put-member-stripped-below t,
-  put-member-stripped.Post,
-  payload-at-reads.Asked,
-  payload-at-reads.Learnt,
-)
-    (put-members-stripped-at t)
-    put-members-stripped.Post
-    put-members-stripped-Inv-loop
-    put-members-stripped-μ-loop
+put-members-stripped-enum-known-member : (t : ℕ) → put-members-stripped-lts.Need-enum-known-member (put-members-stripped-claims t) (put-members-stripped-at t) put-members-stripped.Post put-members-stripped-Inv-loop put-members-stripped-μ-loop
 put-members-stripped-enum-known-member t c = search needs
 
-put-members-stripped-enum-told : (t : ℕ) → put-members-stripped-lts.Need-enum-told (
-  members-ahead-reads.Asked,
-  members-ahead-reads.Learnt,
-  measure-ahead-reads.Asked,
-  measure-ahead-reads.Learnt,
-  places-for-reads.Asked,
-  places-for-reads.Learnt,
-  put-u32-reads.Asked,
-  put-u32-reads.Learnt,
-  slice-reads.Asked,
-  slice-reads.Learnt,
-  next-in-order-reads.Asked,
-  next-in-order-reads.Learnt,
-  put-member-stripped-below t,
-  put-member-stripped.Post,
-  payload-at-reads.Asked,
-  payload-at-reads.Learnt,
-)
-    (put-members-stripped-at t)
-    put-members-stripped.Post
-    put-members-stripped-Inv-loop
-    put-members-stripped-μ-loop
+put-members-stripped-enum-told : (t : ℕ) → put-members-stripped-lts.Need-enum-told (put-members-stripped-claims t) (put-members-stripped-at t) put-members-stripped.Post put-members-stripped-Inv-loop put-members-stripped-μ-loop
 put-members-stripped-enum-told t c = search needs
 
-put-members-stripped-same-length : (t : ℕ) → put-members-stripped-lts.Need-same-length (
-  members-ahead-reads.Asked,
-  members-ahead-reads.Learnt,
-  measure-ahead-reads.Asked,
-  measure-ahead-reads.Learnt,
-  places-for-reads.Asked,
-  places-for-reads.Learnt,
-  put-u32-reads.Asked,
-  put-u32-reads.Learnt,
-  slice-reads.Asked,
-  slice-reads.Learnt,
-  next-in-order-reads.Asked,
-  next-in-order-reads.Learnt,
-  put-member-stripped-below t,
-  put-member-stripped.Post,
-  payload-at-reads.Asked,
-  payload-at-reads.Learnt,
-)
-    (put-members-stripped-at t)
-    put-members-stripped.Post
-    put-members-stripped-Inv-loop
-    put-members-stripped-μ-loop
+put-members-stripped-same-length : (t : ℕ) → put-members-stripped-lts.Need-same-length (put-members-stripped-claims t) (put-members-stripped-at t) put-members-stripped.Post put-members-stripped-Inv-loop put-members-stripped-μ-loop
 put-members-stripped-same-length t c = c .before .before .before .before .before .loop .inv .stored .as-long ∙ ap length (c .before .before .before .before .before .before .before .before .before .put-u32 .ensures) ∙ length-patch _ _ _
 
-put-members-stripped-returns : (t : ℕ) → put-members-stripped-lts.Need-returns (
-  members-ahead-reads.Asked,
-  members-ahead-reads.Learnt,
-  measure-ahead-reads.Asked,
-  measure-ahead-reads.Learnt,
-  places-for-reads.Asked,
-  places-for-reads.Learnt,
-  put-u32-reads.Asked,
-  put-u32-reads.Learnt,
-  slice-reads.Asked,
-  slice-reads.Learnt,
-  next-in-order-reads.Asked,
-  next-in-order-reads.Learnt,
-  put-member-stripped-below t,
-  put-member-stripped.Post,
-  payload-at-reads.Asked,
-  payload-at-reads.Learnt,
-)
-    (put-members-stripped-at t)
-    put-members-stripped.Post
-    put-members-stripped-Inv-loop
-    put-members-stripped-μ-loop
+put-members-stripped-returns : (t : ℕ) → put-members-stripped-lts.Need-returns (put-members-stripped-claims t) (put-members-stripped-at t) put-members-stripped.Post put-members-stripped-Inv-loop put-members-stripped-μ-loop
 put-members-stripped-returns t c = baring-few (c .before .before .before .before .before .before .before .before .before .before .before .before .before .before .before .before .before .args .s .now) (c .before .before .before .before .before .before .before .before .before .before .before .before .before .before .before .before .before .args .n) (c .before .before .before .before .before .before .before .before .before .before .before .before .before .before .before .before .before .args .allowance) (c .before .before .before .before .before .before .before .before .before .before .before .before .before .before .before .before .before .args .at) (bare-object (c .before .before .before .before .before .before .before .before .before .before .before .before .before .before .before .before .before .args .s .now) (c .before .before .before .before .before .before .before .before .before .before .before .before .before .before .before .before .before .args .n) (c .before .before .before .before .before .before .before .before .before .before .before .before .before .before .before .before .before .args .allowance) (octets-of (c .before .before .before .before .before .before .before .before .before .before .before .before .before .before .before .before .before .args .s .now) (λ i. omega (arith, c .before .before .before .before .before .before .before .before .before .before .before .before .before .before .before .before .shared-slice-known .given i))) (c .before .before .before .before .before .before .before .before .before .before .before .before .before .before .before .before .before .pre .1 .0) (c .before .before .before .before .before .before .before .before .before .before .before .before .before .before .before .before .before .pre .1 .1)) (c .before .before .before .before .before .before .before .before .before .before .before .before .before .before .before .before .before .pre .1 .2) _ (sizes-measured (c .before .before .before .before .before .before .before .before .before .before .before .before .before .before .before .before .before .args .s .now) (c .before .before .before .before .before .before .before .before .before .before .before .before .before .before .before .before .before .args .n) _ _ (c .before .before .before .before .before .before .before .before .before .before .before .before .before .before .members-ahead .ensures) (c .before .before .before .before .before .before .before .before .before .before .before .before .before .measure-ahead .ensures)) _ _ (c .before .before .before .before .before .before .before .before .before .before .before .before .places-for .ensures) _ _ _ _ _ (c .before .before .before .before .before .loop .inv) _ (c .before .before .next-in-order .ensures) (c .before .before .before .if1 .taken) (c .enum-told .given .1)
 
 -- src/strip.rt:147:74
@@ -935,100 +537,16 @@ put-members-stripped-put-member-stripped-requires :
     put-members-stripped-μ-loop
 put-members-stripped-put-member-stripped-requires t c κs = let b = baring-room (c .before .before .before .before .before .before .before .before .before .before .before .before .before .before .before .before .before .before .before .args .s .now) (c .before .before .before .before .before .before .before .before .before .before .before .before .before .before .before .before .before .before .before .args .n) (c .before .before .before .before .before .before .before .before .before .before .before .before .before .before .before .before .before .before .before .args .allowance) (c .before .before .before .before .before .before .before .before .before .before .before .before .before .before .before .before .before .before .before .args .at) (bare-object (c .before .before .before .before .before .before .before .before .before .before .before .before .before .before .before .before .before .before .before .args .s .now) (c .before .before .before .before .before .before .before .before .before .before .before .before .before .before .before .before .before .before .before .args .n) (c .before .before .before .before .before .before .before .before .before .before .before .before .before .before .before .before .before .before .before .args .allowance) (octets-of (c .before .before .before .before .before .before .before .before .before .before .before .before .before .before .before .before .before .before .before .args .s .now) (λ i. omega (arith, c .before .before .before .before .before .before .before .before .before .before .before .before .before .before .before .before .before .before .shared-slice-known .given i))) (c .before .before .before .before .before .before .before .before .before .before .before .before .before .before .before .before .before .before .before .pre .1 .0) (c .before .before .before .before .before .before .before .before .before .before .before .before .before .before .before .before .before .before .before .pre .1 .1)) (c .before .before .before .before .before .before .before .before .before .before .before .before .before .before .before .before .before .before .before .pre .1 .2) _ (sizes-measured (c .before .before .before .before .before .before .before .before .before .before .before .before .before .before .before .before .before .before .before .args .s .now) (c .before .before .before .before .before .before .before .before .before .before .before .before .before .before .before .before .before .before .before .args .n) _ _ (c .before .before .before .before .before .before .before .before .before .before .before .before .before .before .before .before .members-ahead .ensures) (c .before .before .before .before .before .before .before .before .before .before .before .before .before .before .before .measure-ahead .ensures)) _ _ (c .before .before .before .before .before .before .before .before .before .before .before .before .before .before .places-for .ensures) _ _ _ _ _ (c .before .before .before .before .before .before .before .loop .inv) in (omega (arith, c .before .before .before .before .before .before .before .before .before .before .before .before .before .before .before .before .before .before .before .pre .0, (bare-object (c .before .before .before .before .before .before .before .before .before .before .before .before .before .before .before .before .before .before .before .args .s .now) (c .before .before .before .before .before .before .before .before .before .before .before .before .before .before .before .before .before .before .before .args .n) (c .before .before .before .before .before .before .before .before .before .before .before .before .before .before .before .before .before .before .before .args .allowance) (octets-of (c .before .before .before .before .before .before .before .before .before .before .before .before .before .before .before .before .before .before .before .args .s .now) (λ i. omega (arith, c .before .before .before .before .before .before .before .before .before .before .before .before .before .before .before .before .before .before .shared-slice-known .given i))) (c .before .before .before .before .before .before .before .before .before .before .before .before .before .before .before .before .before .before .before .pre .1 .0) (c .before .before .before .before .before .before .before .before .before .before .before .before .before .before .before .before .before .before .before .pre .1 .1)) .levels), (baring-asks (c .before .before .before .before .before .before .before .before .before .before .before .before .before .before .before .before .before .before .before .args .s .now) (c .before .before .before .before .before .before .before .before .before .before .before .before .before .before .before .before .before .before .before .args .n) (c .before .before .before .before .before .before .before .before .before .before .before .before .before .before .before .before .before .before .before .args .allowance) (c .before .before .before .before .before .before .before .before .before .before .before .before .before .before .before .before .before .before .before .args .at) (bare-object (c .before .before .before .before .before .before .before .before .before .before .before .before .before .before .before .before .before .before .before .args .s .now) (c .before .before .before .before .before .before .before .before .before .before .before .before .before .before .before .before .before .before .before .args .n) (c .before .before .before .before .before .before .before .before .before .before .before .before .before .before .before .before .before .before .before .args .allowance) (octets-of (c .before .before .before .before .before .before .before .before .before .before .before .before .before .before .before .before .before .before .before .args .s .now) (λ i. omega (arith, c .before .before .before .before .before .before .before .before .before .before .before .before .before .before .before .before .before .before .shared-slice-known .given i))) (c .before .before .before .before .before .before .before .before .before .before .before .before .before .before .before .before .before .before .before .pre .1 .0) (c .before .before .before .before .before .before .before .before .before .before .before .before .before .before .before .before .before .before .before .pre .1 .1)) (c .before .before .before .before .before .before .before .before .before .before .before .before .before .before .before .before .before .before .before .pre .1 .2) _ (sizes-measured (c .before .before .before .before .before .before .before .before .before .before .before .before .before .before .before .before .before .before .before .args .s .now) (c .before .before .before .before .before .before .before .before .before .before .before .before .before .before .before .before .before .before .before .args .n) _ _ (c .before .before .before .before .before .before .before .before .before .before .before .before .before .before .before .before .members-ahead .ensures) (c .before .before .before .before .before .before .before .before .before .before .before .before .before .before .before .measure-ahead .ensures)) _ _ (c .before .before .before .before .before .before .before .before .before .before .before .before .before .before .places-for .ensures) _ _ _ _ _ (c .before .before .before .before .before .before .before .loop .inv) _ (c .before .before .before .before .next-in-order .ensures) _ _ (c .before .before .member .given .1), omega (arith, b .0, c .before .before .before .before .before .before .before .before .before .before .before .before .before .before .before .before .before .before .before .pre .1 .2), omega (arith, b .3, b .6, bare-sizes (c .before .before .before .before .before .before .before .before .before .before .before .before .before .before .before .before .before .before .before .args .s .now) (c .before .before .before .before .before .before .before .before .before .before .before .before .before .before .before .before .before .before .before .args .n) (c .before .before .before .before .before .before .before .before .before .before .before .before .before .before .before .before .before .before .before .args .allowance) (c .before .before .before .before .before .before .before .before .before .before .before .before .before .before .before .before .before .before .before .args .at) (bare-object (c .before .before .before .before .before .before .before .before .before .before .before .before .before .before .before .before .before .before .before .args .s .now) (c .before .before .before .before .before .before .before .before .before .before .before .before .before .before .before .before .before .before .before .args .n) (c .before .before .before .before .before .before .before .before .before .before .before .before .before .before .before .before .before .before .before .args .allowance) (octets-of (c .before .before .before .before .before .before .before .before .before .before .before .before .before .before .before .before .before .before .before .args .s .now) (λ i. omega (arith, c .before .before .before .before .before .before .before .before .before .before .before .before .before .before .before .before .before .before .shared-slice-known .given i))) (c .before .before .before .before .before .before .before .before .before .before .before .before .before .before .before .before .before .before .before .pre .1 .0) (c .before .before .before .before .before .before .before .before .before .before .before .before .before .before .before .before .before .before .before .pre .1 .1)) (c .before .before .before .before .before .before .before .before .before .before .before .before .before .before .before .before .before .before .before .pre .1 .2) _ (sizes-measured (c .before .before .before .before .before .before .before .before .before .before .before .before .before .before .before .before .before .before .before .args .s .now) (c .before .before .before .before .before .before .before .before .before .before .before .before .before .before .before .before .before .before .before .args .n) _ _ (c .before .before .before .before .before .before .before .before .before .before .before .before .before .before .before .before .members-ahead .ensures) (c .before .before .before .before .before .before .before .before .before .before .before .before .before .before .before .measure-ahead .ensures)), c .before .before .before .before .before .if1 .taken), omega (arith, b .1, b .2, c .before .before .before .before .before .if1 .taken), omega (arith, b .1, b .4, c .before .before .before .before .before .if1 .taken), omega (arith, b .5, c .before .before .before .before .before .before .before .before .before .before .before .before .before .before .before .before .before .before .before .pre .1 .2, (bare-object (c .before .before .before .before .before .before .before .before .before .before .before .before .before .before .before .before .before .before .before .args .s .now) (c .before .before .before .before .before .before .before .before .before .before .before .before .before .before .before .before .before .before .before .args .n) (c .before .before .before .before .before .before .before .before .before .before .before .before .before .before .before .before .before .before .before .args .allowance) (octets-of (c .before .before .before .before .before .before .before .before .before .before .before .before .before .before .before .before .before .before .before .args .s .now) (λ i. omega (arith, c .before .before .before .before .before .before .before .before .before .before .before .before .before .before .before .before .before .before .shared-slice-known .given i))) (c .before .before .before .before .before .before .before .before .before .before .before .before .before .before .before .before .before .before .before .pre .1 .0) (c .before .before .before .before .before .before .before .before .before .before .before .before .before .before .before .before .before .before .before .pre .1 .1)) .levels, (bare-object (c .before .before .before .before .before .before .before .before .before .before .before .before .before .before .before .before .before .before .before .args .s .now) (c .before .before .before .before .before .before .before .before .before .before .before .before .before .before .before .before .before .before .before .args .n) (c .before .before .before .before .before .before .before .before .before .before .before .before .before .before .before .before .before .before .before .args .allowance) (octets-of (c .before .before .before .before .before .before .before .before .before .before .before .before .before .before .before .before .before .before .before .args .s .now) (λ i. omega (arith, c .before .before .before .before .before .before .before .before .before .before .before .before .before .before .before .before .before .before .shared-slice-known .given i))) (c .before .before .before .before .before .before .before .before .before .before .before .before .before .before .before .before .before .before .before .pre .1 .0) (c .before .before .before .before .before .before .before .before .before .before .before .before .before .before .before .before .before .before .before .pre .1 .1)) .allowed)))
 
-put-members-stripped-enum-known-len : (t : ℕ) → put-members-stripped-lts.Need-enum-known-len (
-  members-ahead-reads.Asked,
-  members-ahead-reads.Learnt,
-  measure-ahead-reads.Asked,
-  measure-ahead-reads.Learnt,
-  places-for-reads.Asked,
-  places-for-reads.Learnt,
-  put-u32-reads.Asked,
-  put-u32-reads.Learnt,
-  slice-reads.Asked,
-  slice-reads.Learnt,
-  next-in-order-reads.Asked,
-  next-in-order-reads.Learnt,
-  put-member-stripped-below t,
-  put-member-stripped.Post,
-  payload-at-reads.Asked,
-  payload-at-reads.Learnt,
-)
-    (put-members-stripped-at t)
-    put-members-stripped.Post
-    put-members-stripped-Inv-loop
-    put-members-stripped-μ-loop
+put-members-stripped-enum-known-len : (t : ℕ) → put-members-stripped-lts.Need-enum-known-len (put-members-stripped-claims t) (put-members-stripped-at t) put-members-stripped.Post put-members-stripped-Inv-loop put-members-stripped-μ-loop
 put-members-stripped-enum-known-len t c = search needs
 
-put-members-stripped-enum-told-2 : (t : ℕ) → put-members-stripped-lts.Need-enum-told-2 (
-  members-ahead-reads.Asked,
-  members-ahead-reads.Learnt,
-  measure-ahead-reads.Asked,
-  measure-ahead-reads.Learnt,
-  places-for-reads.Asked,
-  places-for-reads.Learnt,
-  put-u32-reads.Asked,
-  put-u32-reads.Learnt,
-  slice-reads.Asked,
-  slice-reads.Learnt,
-  next-in-order-reads.Asked,
-  next-in-order-reads.Learnt,
-  put-member-stripped-below t,
-  put-member-stripped.Post,
-  payload-at-reads.Asked,
-  payload-at-reads.Learnt,
-)
-    (put-members-stripped-at t)
-    put-members-stripped.Post
-    put-members-stripped-Inv-loop
-    put-members-stripped-μ-loop
+put-members-stripped-enum-told-2 : (t : ℕ) → put-members-stripped-lts.Need-enum-told-2 (put-members-stripped-claims t) (put-members-stripped-at t) put-members-stripped.Post put-members-stripped-Inv-loop put-members-stripped-μ-loop
 put-members-stripped-enum-told-2 t c = search needs
 
-put-members-stripped-same-length-2 : (t : ℕ) → put-members-stripped-lts.Need-same-length-2 (
-  members-ahead-reads.Asked,
-  members-ahead-reads.Learnt,
-  measure-ahead-reads.Asked,
-  measure-ahead-reads.Learnt,
-  places-for-reads.Asked,
-  places-for-reads.Learnt,
-  put-u32-reads.Asked,
-  put-u32-reads.Learnt,
-  slice-reads.Asked,
-  slice-reads.Learnt,
-  next-in-order-reads.Asked,
-  next-in-order-reads.Learnt,
-  put-member-stripped-below t,
-  put-member-stripped.Post,
-  payload-at-reads.Asked,
-  payload-at-reads.Learnt,
-)
-    (put-members-stripped-at t)
-    put-members-stripped.Post
-    put-members-stripped-Inv-loop
-    put-members-stripped-μ-loop
+put-members-stripped-same-length-2 : (t : ℕ) → put-members-stripped-lts.Need-same-length-2 (put-members-stripped-claims t) (put-members-stripped-at t) put-members-stripped.Post put-members-stripped-Inv-loop put-members-stripped-μ-loop
 put-members-stripped-same-length-2 t c = search needs
 
-put-members-stripped-returns-2 : (t : ℕ) → put-members-stripped-lts.Need-returns-2 (
-  members-ahead-reads.Asked,
-  members-ahead-reads.Learnt,
-  measure-ahead-reads.Asked,
-  measure-ahead-reads.Learnt,
-  places-for-reads.Asked,
-  places-for-reads.Learnt,
-  put-u32-reads.Asked,
-  put-u32-reads.Learnt,
-  slice-reads.Asked,
-  slice-reads.Learnt,
-  next-in-order-reads.Asked,
-  next-in-order-reads.Learnt,
-  put-member-stripped-below t,
-  put-member-stripped.Post,
-  payload-at-reads.Asked,
-  payload-at-reads.Learnt,
-)
-    (put-members-stripped-at t)
-    put-members-stripped.Post
-    put-members-stripped-Inv-loop
-    put-members-stripped-μ-loop
+put-members-stripped-returns-2 : (t : ℕ) → put-members-stripped-lts.Need-returns-2 (put-members-stripped-claims t) (put-members-stripped-at t) put-members-stripped.Post put-members-stripped-Inv-loop put-members-stripped-μ-loop
 put-members-stripped-returns-2 t c = baring-repeats (c .before .before .before .before .before .before .before .before .before .before .before .before .before .before .before .before .before .before .before .before .before .before .before .before .args .s .now) (c .before .before .before .before .before .before .before .before .before .before .before .before .before .before .before .before .before .before .before .before .before .before .before .before .args .n) (c .before .before .before .before .before .before .before .before .before .before .before .before .before .before .before .before .before .before .before .before .before .before .before .before .args .allowance) (c .before .before .before .before .before .before .before .before .before .before .before .before .before .before .before .before .before .before .before .before .before .before .before .before .args .at) (bare-object (c .before .before .before .before .before .before .before .before .before .before .before .before .before .before .before .before .before .before .before .before .before .before .before .before .args .s .now) (c .before .before .before .before .before .before .before .before .before .before .before .before .before .before .before .before .before .before .before .before .before .before .before .before .args .n) (c .before .before .before .before .before .before .before .before .before .before .before .before .before .before .before .before .before .before .before .before .before .before .before .before .args .allowance) (octets-of (c .before .before .before .before .before .before .before .before .before .before .before .before .before .before .before .before .before .before .before .before .before .before .before .before .args .s .now) (λ i. omega (arith, c .before .before .before .before .before .before .before .before .before .before .before .before .before .before .before .before .before .before .before .before .before .before .before .shared-slice-known .given i))) (c .before .before .before .before .before .before .before .before .before .before .before .before .before .before .before .before .before .before .before .before .before .before .before .before .pre .1 .0) (c .before .before .before .before .before .before .before .before .before .before .before .before .before .before .before .before .before .before .before .before .before .before .before .before .pre .1 .1)) (c .before .before .before .before .before .before .before .before .before .before .before .before .before .before .before .before .before .before .before .before .before .before .before .before .pre .1 .2) _ (sizes-measured (c .before .before .before .before .before .before .before .before .before .before .before .before .before .before .before .before .before .before .before .before .before .before .before .before .args .s .now) (c .before .before .before .before .before .before .before .before .before .before .before .before .before .before .before .before .before .before .before .before .before .before .before .before .args .n) _ _ (c .before .before .before .before .before .before .before .before .before .before .before .before .before .before .before .before .before .before .before .before .before .members-ahead .ensures) (c .before .before .before .before .before .before .before .before .before .before .before .before .before .before .before .before .before .before .before .before .measure-ahead .ensures)) _ _ (c .before .before .before .before .before .before .before .before .before .before .before .before .before .before .before .before .before .before .before .places-for .ensures) _ _ _ _ _ (c .before .before .before .before .before .before .before .before .before .before .before .before .loop .inv) _ (c .before .before .before .before .before .before .before .before .before .next-in-order .ensures) _ _ (c .before .before .before .before .before .before .before .member .given .1) _ _ (c .before .before .before .before .put-member-stripped .ensures) (c .enum-told2 .given .1)
 
 -- src/strip.rt:150:9
@@ -1057,244 +575,34 @@ put-members-stripped-payload-at-requires :
     put-members-stripped-μ-loop
 put-members-stripped-payload-at-requires t c κs = search needs
 
-put-members-stripped-add-t27 : (t : ℕ) → put-members-stripped-lts.Need-add-t27 (
-  members-ahead-reads.Asked,
-  members-ahead-reads.Learnt,
-  measure-ahead-reads.Asked,
-  measure-ahead-reads.Learnt,
-  places-for-reads.Asked,
-  places-for-reads.Learnt,
-  put-u32-reads.Asked,
-  put-u32-reads.Learnt,
-  slice-reads.Asked,
-  slice-reads.Learnt,
-  next-in-order-reads.Asked,
-  next-in-order-reads.Learnt,
-  put-member-stripped-below t,
-  put-member-stripped.Post,
-  payload-at-reads.Asked,
-  payload-at-reads.Learnt,
-)
-    (put-members-stripped-at t)
-    put-members-stripped.Post
-    put-members-stripped-Inv-loop
-    put-members-stripped-μ-loop
+put-members-stripped-add-t27 : (t : ℕ) → put-members-stripped-lts.Need-add-t27 (put-members-stripped-claims t) (put-members-stripped-at t) put-members-stripped.Post put-members-stripped-Inv-loop put-members-stripped-μ-loop
 put-members-stripped-add-t27 t c = omega (arith, baring-room (c .before .before .before .before .before .before .before .before .before .before .before .before .before .before .before .before .before .before .before .before .before .before .before .before .before .before .before .args .s .now) (c .before .before .before .before .before .before .before .before .before .before .before .before .before .before .before .before .before .before .before .before .before .before .before .before .before .before .before .args .n) (c .before .before .before .before .before .before .before .before .before .before .before .before .before .before .before .before .before .before .before .before .before .before .before .before .before .before .before .args .allowance) (c .before .before .before .before .before .before .before .before .before .before .before .before .before .before .before .before .before .before .before .before .before .before .before .before .before .before .before .args .at) (bare-object (c .before .before .before .before .before .before .before .before .before .before .before .before .before .before .before .before .before .before .before .before .before .before .before .before .before .before .before .args .s .now) (c .before .before .before .before .before .before .before .before .before .before .before .before .before .before .before .before .before .before .before .before .before .before .before .before .before .before .before .args .n) (c .before .before .before .before .before .before .before .before .before .before .before .before .before .before .before .before .before .before .before .before .before .before .before .before .before .before .before .args .allowance) (octets-of (c .before .before .before .before .before .before .before .before .before .before .before .before .before .before .before .before .before .before .before .before .before .before .before .before .before .before .before .args .s .now) (λ i. omega (arith, c .before .before .before .before .before .before .before .before .before .before .before .before .before .before .before .before .before .before .before .before .before .before .before .before .before .before .shared-slice-known .given i))) (c .before .before .before .before .before .before .before .before .before .before .before .before .before .before .before .before .before .before .before .before .before .before .before .before .before .before .before .pre .1 .0) (c .before .before .before .before .before .before .before .before .before .before .before .before .before .before .before .before .before .before .before .before .before .before .before .before .before .before .before .pre .1 .1)) (c .before .before .before .before .before .before .before .before .before .before .before .before .before .before .before .before .before .before .before .before .before .before .before .before .before .before .before .pre .1 .2) _ (sizes-measured (c .before .before .before .before .before .before .before .before .before .before .before .before .before .before .before .before .before .before .before .before .before .before .before .before .before .before .before .args .s .now) (c .before .before .before .before .before .before .before .before .before .before .before .before .before .before .before .before .before .before .before .before .before .before .before .before .before .before .before .args .n) _ _ (c .before .before .before .before .before .before .before .before .before .before .before .before .before .before .before .before .before .before .before .before .before .before .before .before .members-ahead .ensures) (c .before .before .before .before .before .before .before .before .before .before .before .before .before .before .before .before .before .before .before .before .before .before .before .measure-ahead .ensures)) _ _ (c .before .before .before .before .before .before .before .before .before .before .before .before .before .before .before .before .before .before .before .before .before .before .places-for .ensures) _ _ _ _ _ (c .before .before .before .before .before .before .before .before .before .before .before .before .before .before .before .loop .inv) .0, c .before .before .before .before .before .before .before .before .before .before .before .before .before .before .before .before .before .before .before .before .before .before .before .before .before .before .before .pre .1 .2)
 
-put-members-stripped-add-t28 : (t : ℕ) → put-members-stripped-lts.Need-add-t28 (
-  members-ahead-reads.Asked,
-  members-ahead-reads.Learnt,
-  measure-ahead-reads.Asked,
-  measure-ahead-reads.Learnt,
-  places-for-reads.Asked,
-  places-for-reads.Learnt,
-  put-u32-reads.Asked,
-  put-u32-reads.Learnt,
-  slice-reads.Asked,
-  slice-reads.Learnt,
-  next-in-order-reads.Asked,
-  next-in-order-reads.Learnt,
-  put-member-stripped-below t,
-  put-member-stripped.Post,
-  payload-at-reads.Asked,
-  payload-at-reads.Learnt,
-)
-    (put-members-stripped-at t)
-    put-members-stripped.Post
-    put-members-stripped-Inv-loop
-    put-members-stripped-μ-loop
+put-members-stripped-add-t28 : (t : ℕ) → put-members-stripped-lts.Need-add-t28 (put-members-stripped-claims t) (put-members-stripped-at t) put-members-stripped.Post put-members-stripped-Inv-loop put-members-stripped-μ-loop
 put-members-stripped-add-t28 t c = omega (arith, baring-room (c .before .before .before .before .before .before .before .before .before .before .before .before .before .before .before .before .before .before .before .before .before .before .before .before .before .before .before .before .args .s .now) (c .before .before .before .before .before .before .before .before .before .before .before .before .before .before .before .before .before .before .before .before .before .before .before .before .before .before .before .before .args .n) (c .before .before .before .before .before .before .before .before .before .before .before .before .before .before .before .before .before .before .before .before .before .before .before .before .before .before .before .before .args .allowance) (c .before .before .before .before .before .before .before .before .before .before .before .before .before .before .before .before .before .before .before .before .before .before .before .before .before .before .before .before .args .at) (bare-object (c .before .before .before .before .before .before .before .before .before .before .before .before .before .before .before .before .before .before .before .before .before .before .before .before .before .before .before .before .args .s .now) (c .before .before .before .before .before .before .before .before .before .before .before .before .before .before .before .before .before .before .before .before .before .before .before .before .before .before .before .before .args .n) (c .before .before .before .before .before .before .before .before .before .before .before .before .before .before .before .before .before .before .before .before .before .before .before .before .before .before .before .before .args .allowance) (octets-of (c .before .before .before .before .before .before .before .before .before .before .before .before .before .before .before .before .before .before .before .before .before .before .before .before .before .before .before .before .args .s .now) (λ i. omega (arith, c .before .before .before .before .before .before .before .before .before .before .before .before .before .before .before .before .before .before .before .before .before .before .before .before .before .before .before .shared-slice-known .given i))) (c .before .before .before .before .before .before .before .before .before .before .before .before .before .before .before .before .before .before .before .before .before .before .before .before .before .before .before .before .pre .1 .0) (c .before .before .before .before .before .before .before .before .before .before .before .before .before .before .before .before .before .before .before .before .before .before .before .before .before .before .before .before .pre .1 .1)) (c .before .before .before .before .before .before .before .before .before .before .before .before .before .before .before .before .before .before .before .before .before .before .before .before .before .before .before .before .pre .1 .2) _ (sizes-measured (c .before .before .before .before .before .before .before .before .before .before .before .before .before .before .before .before .before .before .before .before .before .before .before .before .before .before .before .before .args .s .now) (c .before .before .before .before .before .before .before .before .before .before .before .before .before .before .before .before .before .before .before .before .before .before .before .before .before .before .before .before .args .n) _ _ (c .before .before .before .before .before .before .before .before .before .before .before .before .before .before .before .before .before .before .before .before .before .before .before .before .before .members-ahead .ensures) (c .before .before .before .before .before .before .before .before .before .before .before .before .before .before .before .before .before .before .before .before .before .before .before .before .measure-ahead .ensures)) _ _ (c .before .before .before .before .before .before .before .before .before .before .before .before .before .before .before .before .before .before .before .before .before .before .before .places-for .ensures) _ _ _ _ _ (c .before .before .before .before .before .before .before .before .before .before .before .before .before .before .before .before .loop .inv) .1, bare-sizes (c .before .before .before .before .before .before .before .before .before .before .before .before .before .before .before .before .before .before .before .before .before .before .before .before .before .before .before .before .args .s .now) (c .before .before .before .before .before .before .before .before .before .before .before .before .before .before .before .before .before .before .before .before .before .before .before .before .before .before .before .before .args .n) (c .before .before .before .before .before .before .before .before .before .before .before .before .before .before .before .before .before .before .before .before .before .before .before .before .before .before .before .before .args .allowance) (c .before .before .before .before .before .before .before .before .before .before .before .before .before .before .before .before .before .before .before .before .before .before .before .before .before .before .before .before .args .at) (bare-object (c .before .before .before .before .before .before .before .before .before .before .before .before .before .before .before .before .before .before .before .before .before .before .before .before .before .before .before .before .args .s .now) (c .before .before .before .before .before .before .before .before .before .before .before .before .before .before .before .before .before .before .before .before .before .before .before .before .before .before .before .before .args .n) (c .before .before .before .before .before .before .before .before .before .before .before .before .before .before .before .before .before .before .before .before .before .before .before .before .before .before .before .before .args .allowance) (octets-of (c .before .before .before .before .before .before .before .before .before .before .before .before .before .before .before .before .before .before .before .before .before .before .before .before .before .before .before .before .args .s .now) (λ i. omega (arith, c .before .before .before .before .before .before .before .before .before .before .before .before .before .before .before .before .before .before .before .before .before .before .before .before .before .before .before .shared-slice-known .given i))) (c .before .before .before .before .before .before .before .before .before .before .before .before .before .before .before .before .before .before .before .before .before .before .before .before .before .before .before .before .pre .1 .0) (c .before .before .before .before .before .before .before .before .before .before .before .before .before .before .before .before .before .before .before .before .before .before .before .before .before .before .before .before .pre .1 .1)) (c .before .before .before .before .before .before .before .before .before .before .before .before .before .before .before .before .before .before .before .before .before .before .before .before .before .before .before .before .pre .1 .2) _ (sizes-measured (c .before .before .before .before .before .before .before .before .before .before .before .before .before .before .before .before .before .before .before .before .before .before .before .before .before .before .before .before .args .s .now) (c .before .before .before .before .before .before .before .before .before .before .before .before .before .before .before .before .before .before .before .before .before .before .before .before .before .before .before .before .args .n) _ _ (c .before .before .before .before .before .before .before .before .before .before .before .before .before .before .before .before .before .before .before .before .before .before .before .before .before .members-ahead .ensures) (c .before .before .before .before .before .before .before .before .before .before .before .before .before .before .before .before .before .before .before .before .before .before .before .before .measure-ahead .ensures)), c .before .before .before .before .before .before .before .before .before .before .before .before .before .before .before .before .before .before .before .before .before .before .before .before .before .before .before .before .pre .1 .2, baring-room (c .before .before .before .before .before .before .before .before .before .before .before .before .before .before .before .before .before .before .before .before .before .before .before .before .before .before .before .before .args .s .now) (c .before .before .before .before .before .before .before .before .before .before .before .before .before .before .before .before .before .before .before .before .before .before .before .before .before .before .before .before .args .n) (c .before .before .before .before .before .before .before .before .before .before .before .before .before .before .before .before .before .before .before .before .before .before .before .before .before .before .before .before .args .allowance) (c .before .before .before .before .before .before .before .before .before .before .before .before .before .before .before .before .before .before .before .before .before .before .before .before .before .before .before .before .args .at) (bare-object (c .before .before .before .before .before .before .before .before .before .before .before .before .before .before .before .before .before .before .before .before .before .before .before .before .before .before .before .before .args .s .now) (c .before .before .before .before .before .before .before .before .before .before .before .before .before .before .before .before .before .before .before .before .before .before .before .before .before .before .before .before .args .n) (c .before .before .before .before .before .before .before .before .before .before .before .before .before .before .before .before .before .before .before .before .before .before .before .before .before .before .before .before .args .allowance) (octets-of (c .before .before .before .before .before .before .before .before .before .before .before .before .before .before .before .before .before .before .before .before .before .before .before .before .before .before .before .before .args .s .now) (λ i. omega (arith, c .before .before .before .before .before .before .before .before .before .before .before .before .before .before .before .before .before .before .before .before .before .before .before .before .before .before .before .shared-slice-known .given i))) (c .before .before .before .before .before .before .before .before .before .before .before .before .before .before .before .before .before .before .before .before .before .before .before .before .before .before .before .before .pre .1 .0) (c .before .before .before .before .before .before .before .before .before .before .before .before .before .before .before .before .before .before .before .before .before .before .before .before .before .before .before .before .pre .1 .1)) (c .before .before .before .before .before .before .before .before .before .before .before .before .before .before .before .before .before .before .before .before .before .before .before .before .before .before .before .before .pre .1 .2) _ (sizes-measured (c .before .before .before .before .before .before .before .before .before .before .before .before .before .before .before .before .before .before .before .before .before .before .before .before .before .before .before .before .args .s .now) (c .before .before .before .before .before .before .before .before .before .before .before .before .before .before .before .before .before .before .before .before .before .before .before .before .before .before .before .before .args .n) _ _ (c .before .before .before .before .before .before .before .before .before .before .before .before .before .before .before .before .before .before .before .before .before .before .before .before .before .members-ahead .ensures) (c .before .before .before .before .before .before .before .before .before .before .before .before .before .before .before .before .before .before .before .before .before .before .before .before .measure-ahead .ensures)) _ _ (c .before .before .before .before .before .before .before .before .before .before .before .before .before .before .before .before .before .before .before .before .before .before .before .places-for .ensures) _ _ _ _ _ (c .before .before .before .before .before .before .before .before .before .before .before .before .before .before .before .before .loop .inv) .6)
 
-put-members-stripped-add-t30 : (t : ℕ) → put-members-stripped-lts.Need-add-t30 (
-  members-ahead-reads.Asked,
-  members-ahead-reads.Learnt,
-  measure-ahead-reads.Asked,
-  measure-ahead-reads.Learnt,
-  places-for-reads.Asked,
-  places-for-reads.Learnt,
-  put-u32-reads.Asked,
-  put-u32-reads.Learnt,
-  slice-reads.Asked,
-  slice-reads.Learnt,
-  next-in-order-reads.Asked,
-  next-in-order-reads.Learnt,
-  put-member-stripped-below t,
-  put-member-stripped.Post,
-  payload-at-reads.Asked,
-  payload-at-reads.Learnt,
-)
-    (put-members-stripped-at t)
-    put-members-stripped.Post
-    put-members-stripped-Inv-loop
-    put-members-stripped-μ-loop
+put-members-stripped-add-t30 : (t : ℕ) → put-members-stripped-lts.Need-add-t30 (put-members-stripped-claims t) (put-members-stripped-at t) put-members-stripped.Post put-members-stripped-Inv-loop put-members-stripped-μ-loop
 put-members-stripped-add-t30 t c = omega (arith, baring-room (c .before .before .before .before .before .before .before .before .before .before .before .before .before .before .before .before .before .before .before .before .before .before .before .before .before .before .before .before .before .args .s .now) (c .before .before .before .before .before .before .before .before .before .before .before .before .before .before .before .before .before .before .before .before .before .before .before .before .before .before .before .before .before .args .n) (c .before .before .before .before .before .before .before .before .before .before .before .before .before .before .before .before .before .before .before .before .before .before .before .before .before .before .before .before .before .args .allowance) (c .before .before .before .before .before .before .before .before .before .before .before .before .before .before .before .before .before .before .before .before .before .before .before .before .before .before .before .before .before .args .at) (bare-object (c .before .before .before .before .before .before .before .before .before .before .before .before .before .before .before .before .before .before .before .before .before .before .before .before .before .before .before .before .before .args .s .now) (c .before .before .before .before .before .before .before .before .before .before .before .before .before .before .before .before .before .before .before .before .before .before .before .before .before .before .before .before .before .args .n) (c .before .before .before .before .before .before .before .before .before .before .before .before .before .before .before .before .before .before .before .before .before .before .before .before .before .before .before .before .before .args .allowance) (octets-of (c .before .before .before .before .before .before .before .before .before .before .before .before .before .before .before .before .before .before .before .before .before .before .before .before .before .before .before .before .before .args .s .now) (λ i. omega (arith, c .before .before .before .before .before .before .before .before .before .before .before .before .before .before .before .before .before .before .before .before .before .before .before .before .before .before .before .before .shared-slice-known .given i))) (c .before .before .before .before .before .before .before .before .before .before .before .before .before .before .before .before .before .before .before .before .before .before .before .before .before .before .before .before .before .pre .1 .0) (c .before .before .before .before .before .before .before .before .before .before .before .before .before .before .before .before .before .before .before .before .before .before .before .before .before .before .before .before .before .pre .1 .1)) (c .before .before .before .before .before .before .before .before .before .before .before .before .before .before .before .before .before .before .before .before .before .before .before .before .before .before .before .before .before .pre .1 .2) _ (sizes-measured (c .before .before .before .before .before .before .before .before .before .before .before .before .before .before .before .before .before .before .before .before .before .before .before .before .before .before .before .before .before .args .s .now) (c .before .before .before .before .before .before .before .before .before .before .before .before .before .before .before .before .before .before .before .before .before .before .before .before .before .before .before .before .before .args .n) _ _ (c .before .before .before .before .before .before .before .before .before .before .before .before .before .before .before .before .before .before .before .before .before .before .before .before .before .before .members-ahead .ensures) (c .before .before .before .before .before .before .before .before .before .before .before .before .before .before .before .before .before .before .before .before .before .before .before .before .before .measure-ahead .ensures)) _ _ (c .before .before .before .before .before .before .before .before .before .before .before .before .before .before .before .before .before .before .before .before .before .before .before .before .places-for .ensures) _ _ _ _ _ (c .before .before .before .before .before .before .before .before .before .before .before .before .before .before .before .before .before .loop .inv) .3, baring-room (c .before .before .before .before .before .before .before .before .before .before .before .before .before .before .before .before .before .before .before .before .before .before .before .before .before .before .before .before .before .args .s .now) (c .before .before .before .before .before .before .before .before .before .before .before .before .before .before .before .before .before .before .before .before .before .before .before .before .before .before .before .before .before .args .n) (c .before .before .before .before .before .before .before .before .before .before .before .before .before .before .before .before .before .before .before .before .before .before .before .before .before .before .before .before .before .args .allowance) (c .before .before .before .before .before .before .before .before .before .before .before .before .before .before .before .before .before .before .before .before .before .before .before .before .before .before .before .before .before .args .at) (bare-object (c .before .before .before .before .before .before .before .before .before .before .before .before .before .before .before .before .before .before .before .before .before .before .before .before .before .before .before .before .before .args .s .now) (c .before .before .before .before .before .before .before .before .before .before .before .before .before .before .before .before .before .before .before .before .before .before .before .before .before .before .before .before .before .args .n) (c .before .before .before .before .before .before .before .before .before .before .before .before .before .before .before .before .before .before .before .before .before .before .before .before .before .before .before .before .before .args .allowance) (octets-of (c .before .before .before .before .before .before .before .before .before .before .before .before .before .before .before .before .before .before .before .before .before .before .before .before .before .before .before .before .before .args .s .now) (λ i. omega (arith, c .before .before .before .before .before .before .before .before .before .before .before .before .before .before .before .before .before .before .before .before .before .before .before .before .before .before .before .before .shared-slice-known .given i))) (c .before .before .before .before .before .before .before .before .before .before .before .before .before .before .before .before .before .before .before .before .before .before .before .before .before .before .before .before .before .pre .1 .0) (c .before .before .before .before .before .before .before .before .before .before .before .before .before .before .before .before .before .before .before .before .before .before .before .before .before .before .before .before .before .pre .1 .1)) (c .before .before .before .before .before .before .before .before .before .before .before .before .before .before .before .before .before .before .before .before .before .before .before .before .before .before .before .before .before .pre .1 .2) _ (sizes-measured (c .before .before .before .before .before .before .before .before .before .before .before .before .before .before .before .before .before .before .before .before .before .before .before .before .before .before .before .before .before .args .s .now) (c .before .before .before .before .before .before .before .before .before .before .before .before .before .before .before .before .before .before .before .before .before .before .before .before .before .before .before .before .before .args .n) _ _ (c .before .before .before .before .before .before .before .before .before .before .before .before .before .before .before .before .before .before .before .before .before .before .before .before .before .before .members-ahead .ensures) (c .before .before .before .before .before .before .before .before .before .before .before .before .before .before .before .before .before .before .before .before .before .before .before .before .before .measure-ahead .ensures)) _ _ (c .before .before .before .before .before .before .before .before .before .before .before .before .before .before .before .before .before .before .before .before .before .before .before .before .places-for .ensures) _ _ _ _ _ (c .before .before .before .before .before .before .before .before .before .before .before .before .before .before .before .before .before .loop .inv) .6, bare-sizes (c .before .before .before .before .before .before .before .before .before .before .before .before .before .before .before .before .before .before .before .before .before .before .before .before .before .before .before .before .before .args .s .now) (c .before .before .before .before .before .before .before .before .before .before .before .before .before .before .before .before .before .before .before .before .before .before .before .before .before .before .before .before .before .args .n) (c .before .before .before .before .before .before .before .before .before .before .before .before .before .before .before .before .before .before .before .before .before .before .before .before .before .before .before .before .before .args .allowance) (c .before .before .before .before .before .before .before .before .before .before .before .before .before .before .before .before .before .before .before .before .before .before .before .before .before .before .before .before .before .args .at) (bare-object (c .before .before .before .before .before .before .before .before .before .before .before .before .before .before .before .before .before .before .before .before .before .before .before .before .before .before .before .before .before .args .s .now) (c .before .before .before .before .before .before .before .before .before .before .before .before .before .before .before .before .before .before .before .before .before .before .before .before .before .before .before .before .before .args .n) (c .before .before .before .before .before .before .before .before .before .before .before .before .before .before .before .before .before .before .before .before .before .before .before .before .before .before .before .before .before .args .allowance) (octets-of (c .before .before .before .before .before .before .before .before .before .before .before .before .before .before .before .before .before .before .before .before .before .before .before .before .before .before .before .before .before .args .s .now) (λ i. omega (arith, c .before .before .before .before .before .before .before .before .before .before .before .before .before .before .before .before .before .before .before .before .before .before .before .before .before .before .before .before .shared-slice-known .given i))) (c .before .before .before .before .before .before .before .before .before .before .before .before .before .before .before .before .before .before .before .before .before .before .before .before .before .before .before .before .before .pre .1 .0) (c .before .before .before .before .before .before .before .before .before .before .before .before .before .before .before .before .before .before .before .before .before .before .before .before .before .before .before .before .before .pre .1 .1)) (c .before .before .before .before .before .before .before .before .before .before .before .before .before .before .before .before .before .before .before .before .before .before .before .before .before .before .before .before .before .pre .1 .2) _ (sizes-measured (c .before .before .before .before .before .before .before .before .before .before .before .before .before .before .before .before .before .before .before .before .before .before .before .before .before .before .before .before .before .args .s .now) (c .before .before .before .before .before .before .before .before .before .before .before .before .before .before .before .before .before .before .before .before .before .before .before .before .before .before .before .before .before .args .n) _ _ (c .before .before .before .before .before .before .before .before .before .before .before .before .before .before .before .before .before .before .before .before .before .before .before .before .before .before .members-ahead .ensures) (c .before .before .before .before .before .before .before .before .before .before .before .before .before .before .before .before .before .before .before .before .before .before .before .before .before .measure-ahead .ensures)), payload-short (c .before .before .before .before .before .before .before .before .before .before .before .before .before .before .before .before .before .before .before .before .before .before .before .before .before .before .before .before .before .args .s .now) _ (c .before .before .before .before .before .before .before .before .before .before .before .before .member .given .0 .0 .key) (c .before .before .before .payload-at .ensures))
 
-put-members-stripped-add-t31 : (t : ℕ) → put-members-stripped-lts.Need-add-t31 (
-  members-ahead-reads.Asked,
-  members-ahead-reads.Learnt,
-  measure-ahead-reads.Asked,
-  measure-ahead-reads.Learnt,
-  places-for-reads.Asked,
-  places-for-reads.Learnt,
-  put-u32-reads.Asked,
-  put-u32-reads.Learnt,
-  slice-reads.Asked,
-  slice-reads.Learnt,
-  next-in-order-reads.Asked,
-  next-in-order-reads.Learnt,
-  put-member-stripped-below t,
-  put-member-stripped.Post,
-  payload-at-reads.Asked,
-  payload-at-reads.Learnt,
-)
-    (put-members-stripped-at t)
-    put-members-stripped.Post
-    put-members-stripped-Inv-loop
-    put-members-stripped-μ-loop
+put-members-stripped-add-t31 : (t : ℕ) → put-members-stripped-lts.Need-add-t31 (put-members-stripped-claims t) (put-members-stripped-at t) put-members-stripped.Post put-members-stripped-Inv-loop put-members-stripped-μ-loop
 put-members-stripped-add-t31 t c = omega (arith, baring-room (c .before .before .before .before .before .before .before .before .before .before .before .before .before .before .before .before .before .before .before .before .before .before .before .before .before .before .before .before .before .before .args .s .now) (c .before .before .before .before .before .before .before .before .before .before .before .before .before .before .before .before .before .before .before .before .before .before .before .before .before .before .before .before .before .before .args .n) (c .before .before .before .before .before .before .before .before .before .before .before .before .before .before .before .before .before .before .before .before .before .before .before .before .before .before .before .before .before .before .args .allowance) (c .before .before .before .before .before .before .before .before .before .before .before .before .before .before .before .before .before .before .before .before .before .before .before .before .before .before .before .before .before .before .args .at) (bare-object (c .before .before .before .before .before .before .before .before .before .before .before .before .before .before .before .before .before .before .before .before .before .before .before .before .before .before .before .before .before .before .args .s .now) (c .before .before .before .before .before .before .before .before .before .before .before .before .before .before .before .before .before .before .before .before .before .before .before .before .before .before .before .before .before .before .args .n) (c .before .before .before .before .before .before .before .before .before .before .before .before .before .before .before .before .before .before .before .before .before .before .before .before .before .before .before .before .before .before .args .allowance) (octets-of (c .before .before .before .before .before .before .before .before .before .before .before .before .before .before .before .before .before .before .before .before .before .before .before .before .before .before .before .before .before .before .args .s .now) (λ i. omega (arith, c .before .before .before .before .before .before .before .before .before .before .before .before .before .before .before .before .before .before .before .before .before .before .before .before .before .before .before .before .before .shared-slice-known .given i))) (c .before .before .before .before .before .before .before .before .before .before .before .before .before .before .before .before .before .before .before .before .before .before .before .before .before .before .before .before .before .before .pre .1 .0) (c .before .before .before .before .before .before .before .before .before .before .before .before .before .before .before .before .before .before .before .before .before .before .before .before .before .before .before .before .before .before .pre .1 .1)) (c .before .before .before .before .before .before .before .before .before .before .before .before .before .before .before .before .before .before .before .before .before .before .before .before .before .before .before .before .before .before .pre .1 .2) _ (sizes-measured (c .before .before .before .before .before .before .before .before .before .before .before .before .before .before .before .before .before .before .before .before .before .before .before .before .before .before .before .before .before .before .args .s .now) (c .before .before .before .before .before .before .before .before .before .before .before .before .before .before .before .before .before .before .before .before .before .before .before .before .before .before .before .before .before .before .args .n) _ _ (c .before .before .before .before .before .before .before .before .before .before .before .before .before .before .before .before .before .before .before .before .before .before .before .before .before .before .before .members-ahead .ensures) (c .before .before .before .before .before .before .before .before .before .before .before .before .before .before .before .before .before .before .before .before .before .before .before .before .before .before .measure-ahead .ensures)) _ _ (c .before .before .before .before .before .before .before .before .before .before .before .before .before .before .before .before .before .before .before .before .before .before .before .before .before .places-for .ensures) _ _ _ _ _ (c .before .before .before .before .before .before .before .before .before .before .before .before .before .before .before .before .before .before .loop .inv) .5, c .before .before .before .before .before .before .before .before .before .before .before .before .before .before .before .before .before .before .before .before .before .before .before .before .before .before .before .before .before .before .pre .1 .2, len-short (c .before .before .before .before .before .before .before .before .before .before .before .before .before .before .before .before .before .before .before .before .before .before .before .before .before .before .before .before .before .before .args .s .now) (c .before .before .before .before .before .before .before .before .before .before .before .before .before .before .before .before .before .before .before .before .before .before .before .before .before .before .before .before .before .before .args .n) (c .before .before .before .before .before .before .before .before .before .before .before .before .before .before .before .before .before .before .before .before .before .before .before .before .before .before .before .before .before .before .args .allowance) (c .before .before .before .before .before .before .before .before .before .before .before .before .before .before .before .before .before .before .before .before .before .before .before .before .before .before .before .before .before .before .args .at) (bare-object (c .before .before .before .before .before .before .before .before .before .before .before .before .before .before .before .before .before .before .before .before .before .before .before .before .before .before .before .before .before .before .args .s .now) (c .before .before .before .before .before .before .before .before .before .before .before .before .before .before .before .before .before .before .before .before .before .before .before .before .before .before .before .before .before .before .args .n) (c .before .before .before .before .before .before .before .before .before .before .before .before .before .before .before .before .before .before .before .before .before .before .before .before .before .before .before .before .before .before .args .allowance) (octets-of (c .before .before .before .before .before .before .before .before .before .before .before .before .before .before .before .before .before .before .before .before .before .before .before .before .before .before .before .before .before .before .args .s .now) (λ i. omega (arith, c .before .before .before .before .before .before .before .before .before .before .before .before .before .before .before .before .before .before .before .before .before .before .before .before .before .before .before .before .before .shared-slice-known .given i))) (c .before .before .before .before .before .before .before .before .before .before .before .before .before .before .before .before .before .before .before .before .before .before .before .before .before .before .before .before .before .before .pre .1 .0) (c .before .before .before .before .before .before .before .before .before .before .before .before .before .before .before .before .before .before .before .before .before .before .before .before .before .before .before .before .before .before .pre .1 .1)) (c .before .before .before .before .before .before .before .before .before .before .before .before .before .before .before .before .before .before .before .before .before .before .before .before .before .before .before .before .before .before .pre .1 .2) _ (sizes-measured (c .before .before .before .before .before .before .before .before .before .before .before .before .before .before .before .before .before .before .before .before .before .before .before .before .before .before .before .before .before .before .args .s .now) (c .before .before .before .before .before .before .before .before .before .before .before .before .before .before .before .before .before .before .before .before .before .before .before .before .before .before .before .before .before .before .args .n) _ _ (c .before .before .before .before .before .before .before .before .before .before .before .before .before .before .before .before .before .before .before .before .before .before .before .before .before .before .before .members-ahead .ensures) (c .before .before .before .before .before .before .before .before .before .before .before .before .before .before .before .before .before .before .before .before .before .before .before .before .before .before .measure-ahead .ensures)) _ _ (c .before .before .before .before .before .before .before .before .before .before .before .before .before .before .before .before .before .before .before .before .before .before .before .before .before .places-for .ensures) _ _ _ _ _ (c .before .before .before .before .before .before .before .before .before .before .before .before .before .before .before .before .before .before .loop .inv) _ (c .before .before .before .before .before .before .before .before .before .before .before .before .before .before .before .next-in-order .ensures) _ _ (c .before .before .before .before .before .before .before .before .before .before .before .before .before .member .given .1) _ _ (c .before .before .before .before .before .before .before .before .before .before .put-member-stripped .ensures) _ (c .before .before .before .before .before .before .len .given .1))
 
-put-members-stripped-add-i : (t : ℕ) → put-members-stripped-lts.Need-add-i (
-  members-ahead-reads.Asked,
-  members-ahead-reads.Learnt,
-  measure-ahead-reads.Asked,
-  measure-ahead-reads.Learnt,
-  places-for-reads.Asked,
-  places-for-reads.Learnt,
-  put-u32-reads.Asked,
-  put-u32-reads.Learnt,
-  slice-reads.Asked,
-  slice-reads.Learnt,
-  next-in-order-reads.Asked,
-  next-in-order-reads.Learnt,
-  put-member-stripped-below t,
-  put-member-stripped.Post,
-  payload-at-reads.Asked,
-  payload-at-reads.Learnt,
-)
-    (put-members-stripped-at t)
-    put-members-stripped.Post
-    put-members-stripped-Inv-loop
-    put-members-stripped-μ-loop
+put-members-stripped-add-i : (t : ℕ) → put-members-stripped-lts.Need-add-i (put-members-stripped-claims t) (put-members-stripped-at t) put-members-stripped.Post put-members-stripped-Inv-loop put-members-stripped-μ-loop
 put-members-stripped-add-i t c = omega (arith, baring-room (c .before .before .before .before .before .before .before .before .before .before .before .before .before .before .before .before .before .before .before .before .before .before .before .before .before .before .before .before .before .before .args .s .now) (c .before .before .before .before .before .before .before .before .before .before .before .before .before .before .before .before .before .before .before .before .before .before .before .before .before .before .before .before .before .before .args .n) (c .before .before .before .before .before .before .before .before .before .before .before .before .before .before .before .before .before .before .before .before .before .before .before .before .before .before .before .before .before .before .args .allowance) (c .before .before .before .before .before .before .before .before .before .before .before .before .before .before .before .before .before .before .before .before .before .before .before .before .before .before .before .before .before .before .args .at) (bare-object (c .before .before .before .before .before .before .before .before .before .before .before .before .before .before .before .before .before .before .before .before .before .before .before .before .before .before .before .before .before .before .args .s .now) (c .before .before .before .before .before .before .before .before .before .before .before .before .before .before .before .before .before .before .before .before .before .before .before .before .before .before .before .before .before .before .args .n) (c .before .before .before .before .before .before .before .before .before .before .before .before .before .before .before .before .before .before .before .before .before .before .before .before .before .before .before .before .before .before .args .allowance) (octets-of (c .before .before .before .before .before .before .before .before .before .before .before .before .before .before .before .before .before .before .before .before .before .before .before .before .before .before .before .before .before .before .args .s .now) (λ i. omega (arith, c .before .before .before .before .before .before .before .before .before .before .before .before .before .before .before .before .before .before .before .before .before .before .before .before .before .before .before .before .before .shared-slice-known .given i))) (c .before .before .before .before .before .before .before .before .before .before .before .before .before .before .before .before .before .before .before .before .before .before .before .before .before .before .before .before .before .before .pre .1 .0) (c .before .before .before .before .before .before .before .before .before .before .before .before .before .before .before .before .before .before .before .before .before .before .before .before .before .before .before .before .before .before .pre .1 .1)) (c .before .before .before .before .before .before .before .before .before .before .before .before .before .before .before .before .before .before .before .before .before .before .before .before .before .before .before .before .before .before .pre .1 .2) _ (sizes-measured (c .before .before .before .before .before .before .before .before .before .before .before .before .before .before .before .before .before .before .before .before .before .before .before .before .before .before .before .before .before .before .args .s .now) (c .before .before .before .before .before .before .before .before .before .before .before .before .before .before .before .before .before .before .before .before .before .before .before .before .before .before .before .before .before .before .args .n) _ _ (c .before .before .before .before .before .before .before .before .before .before .before .before .before .before .before .before .before .before .before .before .before .before .before .before .before .before .before .members-ahead .ensures) (c .before .before .before .before .before .before .before .before .before .before .before .before .before .before .before .before .before .before .before .before .before .before .before .before .before .before .measure-ahead .ensures)) _ _ (c .before .before .before .before .before .before .before .before .before .before .before .before .before .before .before .before .before .before .before .before .before .before .before .before .before .places-for .ensures) _ _ _ _ _ (c .before .before .before .before .before .before .before .before .before .before .before .before .before .before .before .before .before .before .loop .inv) .6, bare-sizes (c .before .before .before .before .before .before .before .before .before .before .before .before .before .before .before .before .before .before .before .before .before .before .before .before .before .before .before .before .before .before .args .s .now) (c .before .before .before .before .before .before .before .before .before .before .before .before .before .before .before .before .before .before .before .before .before .before .before .before .before .before .before .before .before .before .args .n) (c .before .before .before .before .before .before .before .before .before .before .before .before .before .before .before .before .before .before .before .before .before .before .before .before .before .before .before .before .before .before .args .allowance) (c .before .before .before .before .before .before .before .before .before .before .before .before .before .before .before .before .before .before .before .before .before .before .before .before .before .before .before .before .before .before .args .at) (bare-object (c .before .before .before .before .before .before .before .before .before .before .before .before .before .before .before .before .before .before .before .before .before .before .before .before .before .before .before .before .before .before .args .s .now) (c .before .before .before .before .before .before .before .before .before .before .before .before .before .before .before .before .before .before .before .before .before .before .before .before .before .before .before .before .before .before .args .n) (c .before .before .before .before .before .before .before .before .before .before .before .before .before .before .before .before .before .before .before .before .before .before .before .before .before .before .before .before .before .before .args .allowance) (octets-of (c .before .before .before .before .before .before .before .before .before .before .before .before .before .before .before .before .before .before .before .before .before .before .before .before .before .before .before .before .before .before .args .s .now) (λ i. omega (arith, c .before .before .before .before .before .before .before .before .before .before .before .before .before .before .before .before .before .before .before .before .before .before .before .before .before .before .before .before .before .shared-slice-known .given i))) (c .before .before .before .before .before .before .before .before .before .before .before .before .before .before .before .before .before .before .before .before .before .before .before .before .before .before .before .before .before .before .pre .1 .0) (c .before .before .before .before .before .before .before .before .before .before .before .before .before .before .before .before .before .before .before .before .before .before .before .before .before .before .before .before .before .before .pre .1 .1)) (c .before .before .before .before .before .before .before .before .before .before .before .before .before .before .before .before .before .before .before .before .before .before .before .before .before .before .before .before .before .before .pre .1 .2) _ (sizes-measured (c .before .before .before .before .before .before .before .before .before .before .before .before .before .before .before .before .before .before .before .before .before .before .before .before .before .before .before .before .before .before .args .s .now) (c .before .before .before .before .before .before .before .before .before .before .before .before .before .before .before .before .before .before .before .before .before .before .before .before .before .before .before .before .before .before .args .n) _ _ (c .before .before .before .before .before .before .before .before .before .before .before .before .before .before .before .before .before .before .before .before .before .before .before .before .before .before .before .members-ahead .ensures) (c .before .before .before .before .before .before .before .before .before .before .before .before .before .before .before .before .before .before .before .before .before .before .before .before .before .before .measure-ahead .ensures)))
 
-put-members-stripped-loop-less : (t : ℕ) → put-members-stripped-lts.Need-loop-less (
-  members-ahead-reads.Asked,
-  members-ahead-reads.Learnt,
-  measure-ahead-reads.Asked,
-  measure-ahead-reads.Learnt,
-  places-for-reads.Asked,
-  places-for-reads.Learnt,
-  put-u32-reads.Asked,
-  put-u32-reads.Learnt,
-  slice-reads.Asked,
-  slice-reads.Learnt,
-  next-in-order-reads.Asked,
-  next-in-order-reads.Learnt,
-  put-member-stripped-below t,
-  put-member-stripped.Post,
-  payload-at-reads.Asked,
-  payload-at-reads.Learnt,
-)
-    (put-members-stripped-at t)
-    put-members-stripped.Post
-    put-members-stripped-Inv-loop
-    put-members-stripped-μ-loop
+put-members-stripped-loop-less : (t : ℕ) → put-members-stripped-lts.Need-loop-less (put-members-stripped-claims t) (put-members-stripped-at t) put-members-stripped.Post put-members-stripped-Inv-loop put-members-stripped-μ-loop
 put-members-stripped-loop-less t c = omega (arith, c .before .before .before .before .before .before .before .before .before .before .before .before .before .before .before .before .if1 .taken)
 
-put-members-stripped-loop-again : (t : ℕ) → put-members-stripped-lts.Need-loop-again (
-  members-ahead-reads.Asked,
-  members-ahead-reads.Learnt,
-  measure-ahead-reads.Asked,
-  measure-ahead-reads.Learnt,
-  places-for-reads.Asked,
-  places-for-reads.Learnt,
-  put-u32-reads.Asked,
-  put-u32-reads.Learnt,
-  slice-reads.Asked,
-  slice-reads.Learnt,
-  next-in-order-reads.Asked,
-  next-in-order-reads.Learnt,
-  put-member-stripped-below t,
-  put-member-stripped.Post,
-  payload-at-reads.Asked,
-  payload-at-reads.Learnt,
-)
-    (put-members-stripped-at t)
-    put-members-stripped.Post
-    put-members-stripped-Inv-loop
-    put-members-stripped-μ-loop
+put-members-stripped-loop-again : (t : ℕ) → put-members-stripped-lts.Need-loop-again (put-members-stripped-claims t) (put-members-stripped-at t) put-members-stripped.Post put-members-stripped-Inv-loop put-members-stripped-μ-loop
 put-members-stripped-loop-again t c = baring-on (c .before .before .before .before .before .before .before .before .before .before .before .before .before .before .before .before .before .before .before .before .before .before .before .before .before .before .before .before .before .before .args .s .now) (c .before .before .before .before .before .before .before .before .before .before .before .before .before .before .before .before .before .before .before .before .before .before .before .before .before .before .before .before .before .before .args .n) (c .before .before .before .before .before .before .before .before .before .before .before .before .before .before .before .before .before .before .before .before .before .before .before .before .before .before .before .before .before .before .args .allowance) (c .before .before .before .before .before .before .before .before .before .before .before .before .before .before .before .before .before .before .before .before .before .before .before .before .before .before .before .before .before .before .args .at) (bare-object (c .before .before .before .before .before .before .before .before .before .before .before .before .before .before .before .before .before .before .before .before .before .before .before .before .before .before .before .before .before .before .args .s .now) (c .before .before .before .before .before .before .before .before .before .before .before .before .before .before .before .before .before .before .before .before .before .before .before .before .before .before .before .before .before .before .args .n) (c .before .before .before .before .before .before .before .before .before .before .before .before .before .before .before .before .before .before .before .before .before .before .before .before .before .before .before .before .before .before .args .allowance) (octets-of (c .before .before .before .before .before .before .before .before .before .before .before .before .before .before .before .before .before .before .before .before .before .before .before .before .before .before .before .before .before .before .args .s .now) (λ i. omega (arith, c .before .before .before .before .before .before .before .before .before .before .before .before .before .before .before .before .before .before .before .before .before .before .before .before .before .before .before .before .before .shared-slice-known .given i))) (c .before .before .before .before .before .before .before .before .before .before .before .before .before .before .before .before .before .before .before .before .before .before .before .before .before .before .before .before .before .before .pre .1 .0) (c .before .before .before .before .before .before .before .before .before .before .before .before .before .before .before .before .before .before .before .before .before .before .before .before .before .before .before .before .before .before .pre .1 .1)) (c .before .before .before .before .before .before .before .before .before .before .before .before .before .before .before .before .before .before .before .before .before .before .before .before .before .before .before .before .before .before .pre .1 .2) _ (sizes-measured (c .before .before .before .before .before .before .before .before .before .before .before .before .before .before .before .before .before .before .before .before .before .before .before .before .before .before .before .before .before .before .args .s .now) (c .before .before .before .before .before .before .before .before .before .before .before .before .before .before .before .before .before .before .before .before .before .before .before .before .before .before .before .before .before .before .args .n) _ _ (c .before .before .before .before .before .before .before .before .before .before .before .before .before .before .before .before .before .before .before .before .before .before .before .before .before .before .before .members-ahead .ensures) (c .before .before .before .before .before .before .before .before .before .before .before .before .before .before .before .before .before .before .before .before .before .before .before .before .before .before .measure-ahead .ensures)) _ _ (c .before .before .before .before .before .before .before .before .before .before .before .before .before .before .before .before .before .before .before .before .before .before .before .before .before .places-for .ensures) _ _ _ _ _ (c .before .before .before .before .before .before .before .before .before .before .before .before .before .before .before .before .before .before .loop .inv) _ (c .before .before .before .before .before .before .before .before .before .before .before .before .before .before .before .next-in-order .ensures) _ _ (c .before .before .before .before .before .before .before .before .before .before .before .before .before .member .given .1) _ _ (c .before .before .before .before .before .before .before .before .before .before .put-member-stripped .ensures) _ (c .before .before .before .before .before .before .len .given .1) _ (c .before .before .before .before .payload-at .ensures)
 
-put-members-stripped-sub-t32 : (t : ℕ) → put-members-stripped-lts.Need-sub-t32 (
-  members-ahead-reads.Asked,
-  members-ahead-reads.Learnt,
-  measure-ahead-reads.Asked,
-  measure-ahead-reads.Learnt,
-  places-for-reads.Asked,
-  places-for-reads.Learnt,
-  put-u32-reads.Asked,
-  put-u32-reads.Learnt,
-  slice-reads.Asked,
-  slice-reads.Learnt,
-  next-in-order-reads.Asked,
-  next-in-order-reads.Learnt,
-  put-member-stripped-below t,
-  put-member-stripped.Post,
-  payload-at-reads.Asked,
-  payload-at-reads.Learnt,
-)
-    (put-members-stripped-at t)
-    put-members-stripped.Post
-    put-members-stripped-Inv-loop
-    put-members-stripped-μ-loop
+put-members-stripped-sub-t32 : (t : ℕ) → put-members-stripped-lts.Need-sub-t32 (put-members-stripped-claims t) (put-members-stripped-at t) put-members-stripped.Post put-members-stripped-Inv-loop put-members-stripped-μ-loop
 put-members-stripped-sub-t32 t c = omega (arith, baring-room (c .before .before .before .before .before .before .before .before .before .before .before .before .before .before .before .args .s .now) (c .before .before .before .before .before .before .before .before .before .before .before .before .before .before .before .args .n) (c .before .before .before .before .before .before .before .before .before .before .before .before .before .before .before .args .allowance) (c .before .before .before .before .before .before .before .before .before .before .before .before .before .before .before .args .at) (bare-object (c .before .before .before .before .before .before .before .before .before .before .before .before .before .before .before .args .s .now) (c .before .before .before .before .before .before .before .before .before .before .before .before .before .before .before .args .n) (c .before .before .before .before .before .before .before .before .before .before .before .before .before .before .before .args .allowance) (octets-of (c .before .before .before .before .before .before .before .before .before .before .before .before .before .before .before .args .s .now) (λ i. omega (arith, c .before .before .before .before .before .before .before .before .before .before .before .before .before .before .shared-slice-known .given i))) (c .before .before .before .before .before .before .before .before .before .before .before .before .before .before .before .pre .1 .0) (c .before .before .before .before .before .before .before .before .before .before .before .before .before .before .before .pre .1 .1)) (c .before .before .before .before .before .before .before .before .before .before .before .before .before .before .before .pre .1 .2) _ (sizes-measured (c .before .before .before .before .before .before .before .before .before .before .before .before .before .before .before .args .s .now) (c .before .before .before .before .before .before .before .before .before .before .before .before .before .before .before .args .n) _ _ (c .before .before .before .before .before .before .before .before .before .before .before .before .members-ahead .ensures) (c .before .before .before .before .before .before .before .before .before .before .before .measure-ahead .ensures)) _ _ (c .before .before .before .before .before .before .before .before .before .before .places-for .ensures) _ _ _ _ _ (c .before .before .before .loop .inv) .4)
 
-put-members-stripped-same-length-3 : (t : ℕ) → put-members-stripped-lts.Need-same-length-3 (
-  members-ahead-reads.Asked,
-  members-ahead-reads.Learnt,
-  measure-ahead-reads.Asked,
-  measure-ahead-reads.Learnt,
-  places-for-reads.Asked,
-  places-for-reads.Learnt,
-  put-u32-reads.Asked,
-  put-u32-reads.Learnt,
-  slice-reads.Asked,
-  slice-reads.Learnt,
-  next-in-order-reads.Asked,
-  next-in-order-reads.Learnt,
-  put-member-stripped-below t,
-  put-member-stripped.Post,
-  payload-at-reads.Asked,
-  payload-at-reads.Learnt,
-)
-    (put-members-stripped-at t)
-    put-members-stripped.Post
-    put-members-stripped-Inv-loop
-    put-members-stripped-μ-loop
+put-members-stripped-same-length-3 : (t : ℕ) → put-members-stripped-lts.Need-same-length-3 (put-members-stripped-claims t) (put-members-stripped-at t) put-members-stripped.Post put-members-stripped-Inv-loop put-members-stripped-μ-loop
 put-members-stripped-same-length-3 t c = c .before .before .before .loop .inv .stored .as-long ∙ ap length (c .before .before .before .before .before .before .before .put-u32 .ensures) ∙ length-patch _ _ _
 
-put-members-stripped-returns-3 : (t : ℕ) → put-members-stripped-lts.Need-returns-3 (
-  members-ahead-reads.Asked,
-  members-ahead-reads.Learnt,
-  measure-ahead-reads.Asked,
-  measure-ahead-reads.Learnt,
-  places-for-reads.Asked,
-  places-for-reads.Learnt,
-  put-u32-reads.Asked,
-  put-u32-reads.Learnt,
-  slice-reads.Asked,
-  slice-reads.Learnt,
-  next-in-order-reads.Asked,
-  next-in-order-reads.Learnt,
-  put-member-stripped-below t,
-  put-member-stripped.Post,
-  payload-at-reads.Asked,
-  payload-at-reads.Learnt,
-)
-    (put-members-stripped-at t)
-    put-members-stripped.Post
-    put-members-stripped-Inv-loop
-    put-members-stripped-μ-loop
+put-members-stripped-returns-3 : (t : ℕ) → put-members-stripped-lts.Need-returns-3 (put-members-stripped-claims t) (put-members-stripped-at t) put-members-stripped.Post put-members-stripped-Inv-loop put-members-stripped-μ-loop
 put-members-stripped-returns-3 t c = baring-ends (c .before .before .before .before .before .before .before .before .before .before .before .before .before .before .before .args .s .now) (c .before .before .before .before .before .before .before .before .before .before .before .before .before .before .before .args .n) (c .before .before .before .before .before .before .before .before .before .before .before .before .before .before .before .args .allowance) (c .before .before .before .before .before .before .before .before .before .before .before .before .before .before .before .args .at) (bare-object (c .before .before .before .before .before .before .before .before .before .before .before .before .before .before .before .args .s .now) (c .before .before .before .before .before .before .before .before .before .before .before .before .before .before .before .args .n) (c .before .before .before .before .before .before .before .before .before .before .before .before .before .before .before .args .allowance) (octets-of (c .before .before .before .before .before .before .before .before .before .before .before .before .before .before .before .args .s .now) (λ i. omega (arith, c .before .before .before .before .before .before .before .before .before .before .before .before .before .before .shared-slice-known .given i))) (c .before .before .before .before .before .before .before .before .before .before .before .before .before .before .before .pre .1 .0) (c .before .before .before .before .before .before .before .before .before .before .before .before .before .before .before .pre .1 .1)) (c .before .before .before .before .before .before .before .before .before .before .before .before .before .before .before .pre .1 .2) _ (sizes-measured (c .before .before .before .before .before .before .before .before .before .before .before .before .before .before .before .args .s .now) (c .before .before .before .before .before .before .before .before .before .before .before .before .before .before .before .args .n) _ _ (c .before .before .before .before .before .before .before .before .before .before .before .before .members-ahead .ensures) (c .before .before .before .before .before .before .before .before .before .before .before .measure-ahead .ensures)) _ _ (c .before .before .before .before .before .before .before .before .before .before .places-for .ensures) _ _ _ _ _ (c .before .before .before .loop .inv) _ _ (c .before .if1 .left) refl (c .before .before .before .before .before .before .before .put-u32 .ensures)
 
 -- src/strip.rt:170:29
