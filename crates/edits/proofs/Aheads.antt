@@ -1,19 +1,16 @@
 -- The members of an object taken one by one: whether they are taken as they stand or searched for, each is the next one in byte
 -- order.
-use Prim.Native.Nat.{ℕ, _+_, _*_, _-_, _^_, _≤_, _<_}
+use Prim.Native.Nat.{ℕ, _+_, _-_}
 use native.Mathlib.Nat.{sub-zero}
 use native.Mathlib.Omega.{arith}
 use mathlib.Core.Path.{_≡_, refl, ap, sym, _∙_}
 use mathlib.Core.Logic.{inl, inr}
 use mathlib.Core.Bool.{Bool, true, false}
 use mathlib.Core.List.{List, [], _∷_, _++_, append-assoc}
-use lib.ListN.{length}
 use Rattle.layout.specs.Bytes.{Bytes}
-use Rattle.layout.specs.Entry.{lengths}
 use Rattle.layout.specs.Tree.{Members, empty, member, names}
 use Rattle.layout.specs.Order.{order}
 use Rattle.layout.specs.Sound.{Rising}
-use Rattle.layout.specs.Place.{parts-at, rising-parts}
 use Rattle.layout.specs.declared.order.Ordering.the-variants.{Less}
 use Rattle.layout.proofs.Values.{In, rising-tail, rising-all}
 use Rattle.builders.specs.Search.{name-in, members-at, kept-of, Bound, start, after, over, least}
@@ -22,7 +19,7 @@ use Rattle.builders.specs.declared.search.MemberAt.{MemberAt}
 use Rattle.builders.specs.declared.search.Found.{Found}
 use Rattle.builders.specs.declared.search.Found.the-variants.{Nothing, At}
 use Rattle.builders.proofs.Orderings.{order-less}
-use Rattle.builders.proofs.Searches.{Above, Ascending, Passed, above-trans, least-append, least-passed, least-first, passed-later, over-less, over-itself, ascending-kept}
+use Rattle.builders.proofs.Searches.{Above, Ascending, Passed, least-append, least-passed, least-first, passed-later, over-less, over-itself, ascending-kept}
 use Rattle.builders.proofs.Stands.{Stand}
 use Rattle.edits.specs.Members.{members-of, all-ahead, kept-ahead, Near, Stands, Searched, Next}
 use Rattle.edits.specs.Merge.{Ready}

@@ -18,7 +18,7 @@ use Rattle.builders.specs.declared.search.Found.{Found}
 use Rattle.builders.specs.declared.search.Found.the-variants.{Nothing, At}
 use Rattle.builders.proofs.Searches.{length-kept, length-members, bytes-short}
 use Rattle.builders.proofs.Storing.{column-cons, column-none}
-use Rattle.edits.specs.Members.{kept-ahead, sizes-of, Near, Stands, Searched, Next}
+use Rattle.edits.specs.Members.{kept-ahead, sizes-of, Near, Stands, Next}
 use Rattle.edits.specs.declared.members.Ahead.{Ahead}
 use Rattle.edits.specs.declared.members.Sizes.{Sizes}
 use Rattle.edits.specs.declared.members.Taken.{Taken}

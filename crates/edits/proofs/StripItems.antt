@@ -14,7 +14,7 @@ use Rattle.layout.specs.Read.{header}
 use Rattle.layout.specs.Limits.{ValidItems, Valid, depth, depth-items}
 use Rattle.layout.specs.Patch.{patch}
 use Rattle.layout.specs.declared.util.Header.the-variants.{Array}
-use Rattle.layout.proofs.Words.{length-be32, octets-take, octets-drop}
+use Rattle.layout.proofs.Words.{octets-take, octets-drop}
 use Rattle.layout.proofs.Fields.{length-entry}
 use Rattle.layout.proofs.Level.{AllFit}
 use Rattle.layout.proofs.Patches.{length-patch}
@@ -38,7 +38,7 @@ use Rattle.edits.proofs.Rows.{row-entry, row-bytes, row-lengths}
 use Rattle.edits.proofs.Runs.{laid, laid-append, laid-record}
 use Rattle.edits.proofs.Withouts.{array-word}
 use Rattle.edits.proofs.Tables.{Contains}
-use Rattle.edits.proofs.Stripped.{Bared, bared, Tree-at, strippable-at, stripped-at}
+use Rattle.edits.proofs.Stripped.{bared, Tree-at, strippable-at, stripped-at}
 
 -- Some items and one more.
 abbrev one-more : Items → Tree → Items

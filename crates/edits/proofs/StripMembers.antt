@@ -5,7 +5,7 @@ use native.Mathlib.Decide.{decLe}
 use mathlib.Core.Path.{_≡_, refl, ap, sym, _∙_}
 use mathlib.Core.Bool.{Bool, true, false, not, cond, _&&_}
 use mathlib.Core.List.{List, [], _∷_}
-use mathlib.Core.Option.{Option, none as nothing, some}
+use mathlib.Core.Option.{some}
 use lib.Bits.{bitOr}
 use lib.Dec.{eqb}
 use borrow.Author.Tests.{ne-eqb}
@@ -13,16 +13,15 @@ use lib.ListN.{length, drop, length-take, length-drop}
 use Rattle.layout.specs.Bytes.{Bytes, Octets, be32}
 use Rattle.layout.specs.Entry.{code, code-of, length-of}
 use Rattle.layout.specs.Tree.{Tree, null, boolean, number, string, extension, array, object, Members, empty, member, names, kind}
-use Rattle.layout.specs.Encode.{entry-word, payloads, payload, name-parts, member-parts, part}
+use Rattle.layout.specs.Encode.{payload, member-parts}
 use Rattle.layout.specs.Order.{order}
 use Rattle.layout.specs.Sound.{Rising}
 use Rattle.layout.specs.Read.{header}
 use Rattle.layout.specs.Check.{checked}
-use Rattle.layout.specs.Limits.{Valid, ValidMembers, depth, depth-members, size, size-members}
+use Rattle.layout.specs.Limits.{Valid, ValidMembers, depth, depth-members, size-members}
 use Rattle.layout.specs.Patch.{patch}
 use Rattle.layout.specs.declared.order.Ordering.{Ordering}
 use Rattle.layout.specs.declared.order.Ordering.the-variants.{Less, Equal, Greater}
-use Rattle.layout.specs.declared.item.Kind.the-variants.{Container}
 use Rattle.layout.specs.declared.util.Header.the-variants.{Object}
 use Rattle.layout.proofs.Words.{octets-take, octets-drop}
 use Rattle.layout.proofs.Fields.{code-entry}
@@ -31,7 +30,7 @@ use Rattle.layout.proofs.Readables.{size-payload}
 use Rattle.layout.proofs.Answers.{gives-inj}
 use Rattle.layout.proofs.Values.{rising-tail, rising-all, ≺-irrefl}
 use Rattle.builders.specs.Order.{by, insert, insert-all, in-order, find, distinct}
-use Rattle.builders.specs.Search.{bytes-at, name-in, value-in, members-at, is-kept, kept-of, bound, least, sorted, nth}
+use Rattle.builders.specs.Search.{name-in, value-in, members-at, is-kept, kept-of, bound, least, sorted, nth}
 use Rattle.builders.specs.Weave.{own-entry, stored, woven, column}
 use Rattle.builders.specs.declared.search.Kept.the-variants.{NonNull}
 use Rattle.builders.specs.declared.search.MemberAt.{MemberAt}
@@ -52,13 +51,13 @@ use Rattle.edits.specs.declared.members.Sizes.{Sizes}
 use Rattle.edits.specs.declared.strip.Stripped.{Stripped}
 use Rattle.edits.specs.declared.strip.Stripped.the-variants.{Len, Repeated}
 use Rattle.edits.proofs.Deletes.{some-inj, nothing-some}
-use Rattle.edits.proofs.Strips.{in-order-unrepeated, kept-unrepeated, find-unrepeated, stripped-kept-names}
+use Rattle.edits.proofs.Strips.{in-order-unrepeated, kept-unrepeated, find-unrepeated}
 use Rattle.edits.proofs.Tables.{Contains}
 use Rattle.edits.proofs.Withouts.{object-word}
 use Rattle.edits.proofs.Sorteds.{Object-at, object-at, stand-count, stand-sizes, stand-woven}
 use Rattle.edits.proofs.SortedAnews.{nth-in, column-part}
 use Rattle.edits.proofs.Aheads.{searched, all-is, found-of, AheadOf, ahead-starts, ahead-taken, next-is}
-use Rattle.edits.proofs.Stripped.{Bared, bared, no-longer, Tree-at, strippable-at, stripped-at}
+use Rattle.edits.proofs.Stripped.{bared, no-longer, Tree-at, strippable-at, stripped-at}
 
 -- Only null has code 0.
 null-code : (t : Tree) → eqb (code (kind t)) 0 ≡ is-null t

@@ -4,16 +4,16 @@ use Prim.Native.Nat.{ℕ, _+_, _≤_, _<_}
 use native.Mathlib.Omega.{arith}
 use mathlib.Core.Path.{_≡_, refl, ap, sym, _∙_}
 use mathlib.Core.Bool.{Bool, true, false, cond}
-use mathlib.Core.List.{List, [], _∷_, _++_}
+use mathlib.Core.List.{[], _∷_, _++_}
 use lib.ListN.{length, length-append}
 use Rattle.layout.specs.Bytes.{Bytes, Octets}
-use Rattle.layout.specs.Answer.{gives, refused, _>>=_}
+use Rattle.layout.specs.Answer.{gives, _>>=_}
 use Rattle.layout.specs.Tree.{Tree, null, boolean, number, string, extension, array, object, kind}
-use Rattle.layout.specs.Encode.{payload, encode}
+use Rattle.layout.specs.Encode.{payload}
 use Rattle.layout.specs.Read.{header, nested, read}
 use Rattle.layout.specs.Check.{checked}
 use Rattle.layout.specs.Patch.{patch}
-use Rattle.layout.specs.Ended.{Ended, Outcome, refusal, into}
+use Rattle.layout.specs.Ended.{Ended, refusal, into}
 use Rattle.layout.specs.declared.check.Check.{Check}
 use Rattle.layout.specs.declared.check.Check.the-variants.{Readable, Refused as NotReadable}
 use Rattle.layout.specs.declared.refusal.Refusal.{Refusal}

@@ -20,11 +20,8 @@ use Rattle.layout.specs.declared.check.Check.the-variants.{Readable}
 use Rattle.layout.specs.declared.util.Header.{Header}
 use Rattle.layout.specs.declared.util.Header.the-variants.{Array, Object, Scalar, Refused}
 use Rattle.builders.specs.Order.{same}
-use Rattle.builders.specs.Search.{name-in, value-in, members-at, kept-of, sorted}
-use Rattle.builders.specs.Weave.{column}
-use Rattle.builders.specs.declared.search.Kept.{Kept}
+use Rattle.builders.specs.Search.{name-in, value-in}
 use Rattle.builders.specs.declared.search.MemberAt.{MemberAt}
-use Rattle.builders.specs.declared.search.Places.{Places}
 use Rattle.edits.specs.Path.{Step}
 use Rattle.edits.specs.Delete.{left}
 use Rattle.edits.specs.Steps.{part-step, part-steps}
@@ -36,7 +33,6 @@ use Rattle.edits.specs.declared.delete.Cursor.{Cursor}
 use Rattle.edits.specs.declared.delete.Way.{Way}
 use Rattle.edits.specs.declared.delete.Manner.{Manner}
 use Rattle.edits.specs.declared.delete.Manner.the-variants.{Items, Rising, Unsorted, Neither}
-use Rattle.edits.specs.declared.members.Sizes.{Sizes}
 
 -- The bytes of what is left of a container, by its bytes.
 abbrev pub left-payload : Option Tree → Bytes

@@ -1,6 +1,5 @@
 -- What two records give to an array, as the code of concat goes. proofs/Joinings.antt ties it to `concat`.
 use mathlib.Core.Path.{_≡_}
-use mathlib.Core.Logic.{_⊎_}
 use mathlib.Core.Bool.{Bool, true, false}
 use Prim.Native.Nat.{ℕ}
 use Rattle.layout.specs.declared.util.Header.{Header}

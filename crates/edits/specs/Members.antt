@@ -13,7 +13,6 @@ use Rattle.builders.specs.Weave.{column}
 use Rattle.builders.specs.declared.search.Kept.{Kept}
 use Rattle.builders.specs.declared.search.MemberAt.{MemberAt}
 use Rattle.builders.specs.declared.search.Places.{Places}
-use Rattle.builders.specs.declared.search.Found.{Found}
 use Rattle.builders.specs.declared.search.Found.the-variants.{Nothing, At}
 use Rattle.edits.specs.declared.members.Sizes.{Sizes}
 use Rattle.edits.specs.declared.members.Ahead.{Ahead}
