@@ -3,11 +3,9 @@ use Prim.Native.Nat.{ℕ, zero, suc, _-_, _<_, _≤_}
 use native.Mathlib.Omega.{arith}
 use mathlib.Core.Path.{_≡_, refl, ap, sym, _∙_}
 use mathlib.Core.Logic.{_⊎_, inl, inr, ⊎-elim}
-use mathlib.Core.Bool.{Bool, true, false, cond}
+use mathlib.Core.Bool.{true, false}
 use mathlib.Core.List.{_∷_}
 use mathlib.Core.Option.{Option, none as nothing, some}
-use lib.Dec.{T, ltb, ltb→lt}
-use lib.IntN.{ℤ, pos, negsuc}
 use Rattle.layout.specs.Bytes.{Bytes}
 use Rattle.layout.specs.Order.{order}
 use Rattle.layout.specs.Tree.{Tree, Items, none, item, Members, empty, member, names}
@@ -21,6 +19,7 @@ use Rattle.builders.proofs.InOrders.{unlike, rising-cons, in-order-rising, find
 use Rattle.edits.specs.Path.{Step, name, index}
 use Rattle.edits.specs.Find.{_then_, place, step-place, item-at}
 use Rattle.edits.specs.Delete.{kept-member, change-item, change-member}
+use Rattle.edits.proofs.Finds.{place-lt}
 
 -- ---- something or nothing
 
@@ -198,22 +197,9 @@ change-in-order n u ms =
 -- ---- places
 
 -- The place that a step means is one of the array's.
-place-below : (z : ℤ) (n i : ℕ) → place z n ≡ some i → i < n
-unfolding place
-place-below (pos k) n i e = go (ltb k n) (ltb→lt k n) e
-  where
-    go : (b : Bool) → (T b → k < n) → cond b (some k) nothing ≡ some i → i < n
-    go true h e = let w : k ≡ i = some-inj e in omega (arith, h tt)
-    go false h e = nothing-some e
-place-below (negsuc k) n i e = go (ltb k n) (ltb→lt k n) e
-  where
-    go : (b : Bool) → (T b → k < n) → cond b (some (n - suc k)) nothing ≡ some i → i < n
-    go true h e = let w : n - suc k ≡ i = some-inj e in omega (arith, h tt)
-    go false h e = nothing-some e
-
 pub step-below : (s : Step) (n i : ℕ) → step-place s n ≡ some i → i < n
 step-below (name b) n i e = nothing-some e
-step-below (index z) n i e = place-below z n i e
+step-below (index z) n i e = place-lt z n i e
 
 pub item-there : (ts : Items) (i : ℕ) → i < count ts → (c : Tree) × (item-at ts i ≡ some c)
 item-there none i h = let w : ⊥ = omega arith in absurd w

@@ -141,11 +141,11 @@ look-up-readable p t u e r = no-more-readable u t (look-up-kept p t u e) r
 -- ---- delete
 
 -- What is left of an item, if anything, is no more than it was.
-abbrev Left : Option Tree → Tree → Type 0
-Left nothing c = Unit {0}
-Left (some u) c = NoMore u c
+abbrev NoMoreLeft : Option Tree → Tree → Type 0
+NoMoreLeft nothing c = Unit {0}
+NoMoreLeft (some u) c = NoMore u c
 
-item-kept : (o : Option Tree) (i : ℕ) (ts : Items) (c : Tree) → item-at ts i ≡ some c → Left o c → NoMoreItems (change-item o i ts) ts
+item-kept : (o : Option Tree) (i : ℕ) (ts : Items) (c : Tree) → item-at ts i ≡ some c → NoMoreLeft o c → NoMoreItems (change-item o i ts) ts
 item-kept o i none c e l = nothing-some e
 item-kept nothing zero (item t ts) c e l =
     record { valid = λ v. v .1; sound = λ s. s .1; deep = omega arith; payload = omega arith }
@@ -156,7 +156,7 @@ item-kept o (suc i) (item t ts) c e l =
     let k = item-kept o i ts c e l in
     record { valid = λ v. (v .0, k .valid (v .1)); sound = λ s. (s .0, k .sound (s .1)); deep = omega arith; payload = omega arith }
 
-member-kept : (o : Option Tree) (n : Bytes) (ms : Members) (c : Tree) → find n ms ≡ some c → Left o c → NoMoreMembers (change-member o n ms) ms
+member-kept : (o : Option Tree) (n : Bytes) (ms : Members) (c : Tree) → find n ms ≡ some c → NoMoreLeft o c → NoMoreMembers (change-member o n ms) ms
 member-kept o n empty c e l = nothing-some e
 member-kept o n (member m t ms) c e l =
     order-cases n m
@@ -171,7 +171,7 @@ member-kept o n (member m t ms) c e l =
     later ns k =
         record { valid = λ v. (v .0, v .1, k .valid (v .2)); sound = λ s. (s .0, k .sound (s .1)); deep = omega arith; payload = omega arith }
 
-    here : (o : Option Tree) → Left o t → NoMoreMembers (kept-member m o ms) (member m t ms)
+    here : (o : Option Tree) → NoMoreLeft o t → NoMoreMembers (kept-member m o ms) (member m t ms)
     here nothing k = record { valid = λ v. v .2; sound = λ s. s .1; deep = omega arith; payload = omega arith }
     here (some u) k =
         record { valid = λ v. (v .0, k .valid (v .1), v .2); sound = λ s. (k .sound (s .0), s .1); deep = omega arith; payload = omega arith }
@@ -191,7 +191,7 @@ pub in-order-shorter : (ms : Members) → size-members (in-order ms) ≤ size-me
 in-order-shorter ms = omega (arith, all-size ms empty)
 
 -- A container written anew.
-anew-kept : (o : Option Tree) (s : Step) (t c : Tree) → step-into s t ≡ some c → Left o c → NoMore (anew o s t) t
+anew-kept : (o : Option Tree) (s : Step) (t c : Tree) → step-into s t ≡ some c → NoMoreLeft o c → NoMore (anew o s t) t
 anew-kept o s null c e l = nothing-some e
 anew-kept o s (boolean x) c e l = nothing-some e
 anew-kept o s (number b) c e l = nothing-some e
@@ -214,7 +214,7 @@ anew-kept o s (object ms) c e l =
       long = omega arith;
     }
 
-left-kept : (p : List Step) (t v : Tree) → look-up p t ≡ some v → Left (left p t) t
+left-kept : (p : List Step) (t v : Tree) → look-up p t ≡ some v → NoMoreLeft (left p t) t
 left-kept [] t v e = tt
 left-kept (s ∷ p) t v e =
     let f = then-some (step-into s t) (look-up p) v e in
@@ -223,7 +223,7 @@ left-kept (s ∷ p) t v e =
 pub delete-kept : (p : List Step) (t : Tree) → NoMore (delete p t) t
 delete-kept p t = by-found (look-up p t) refl
   where
-    or-same-kept : (o : Option Tree) → Left o t → NoMore (or-same t o) t
+    or-same-kept : (o : Option Tree) → NoMoreLeft o t → NoMore (or-same t o) t
     or-same-kept nothing l = no-more-same t
     or-same-kept (some u) l = l
 

@@ -146,7 +146,7 @@ steps-length path n = length-part-steps (parts-at path 0 (4 + 4 * n) n) ∙ leng
 
 -- ---- look-up
 
-get-is : (p : List Step) (t : Tree) → get-by p t ≡ gives (look-up p t)
+pub get-is : (p : List Step) (t : Tree) → get-by p t ≡ gives (look-up p t)
 unfolding get-by
 get-is p t = refl
 

@@ -9,13 +9,14 @@ use mathlib.Core.Option.{Option, none as nothing, some}
 use lib.Dec.{T, ltb, nltb→le}
 use lib.IntN.{pos, negsuc}
 use borrow.Author.Tests.{lt-ltb}
+use Rattle.layout.specs.Bytes.{Bytes}
 use Rattle.layout.specs.Tree.{Tree, null, boolean, number, string, extension, array, object, Items, item, Members, names}
 use Rattle.layout.specs.Sound.{Rising, Sound}
 use Rattle.layout.specs.Value.{Taken}
 use Rattle.builders.specs.Order.{in-order, find}
 use Rattle.builders.specs.Build.{count, join}
 use Rattle.builders.proofs.InOrders.{in-order-rising, rising-in-order, find-in-order}
-use Rattle.edits.specs.Path.{Step, index}
+use Rattle.edits.specs.Path.{Step, index, name}
 use Rattle.edits.specs.Find.{_then_, place, step-place, step-name, item-at, step-into, look-up}
 use Rattle.edits.specs.Delete.{change-item, change-at, change-member, anew, left, or-same, delete}
 use Rattle.edits.proofs.Deletes.{some-inj, nothing-some, then-some, found-or-not, find-other, find-changed, find-gone, change-rising, change-taken, step-below, item-there, item-past, item-changed, item-other, item-before, item-behind, count-changed, count-gone, change-split}
@@ -271,6 +272,11 @@ module _ (r : List Step) (t : Tree) (ts : Items) (e : look-up r t ≡ some (arra
         ∙ item-behind i (count (change-item nothing i ts) - suc k) ts (omega (arith, c, l))
         ∙ ap (item-at ts) n
         ∙ sym (back-finds k ts (omega (arith, l)))))
+
+    -- A name on it finds nothing, as before.
+    pub deleted-item-name : (n : Bytes) (q : List Step)
+        → look-up (r ++ (name n ∷ q)) (delete (r ++ (s ∷ [])) t) ≡ look-up (r ++ (name n ∷ q)) t
+    deleted-item-name n q = as-before r t (array ts) e s [] (name n ∷ q) (name n ∷ q) (ap (look-up (name n ∷ q)) (item-gone ts s i h))
 
     -- The array then has every item but that one, in their order.
     pub deleted-item : (front back : Items) × (v : Tree) × (ts ≡ join front (item v back)) × (count front ≡ i)

@@ -24,6 +24,7 @@ use Rattle.edits.specs.Find.{look-up}
 use Rattle.edits.specs.Delete.{delete, deletable}
 use Rattle.edits.specs.Keypath.{get-by, delete-by, found, on-path}
 use Rattle.edits.proofs.Deletes.{some-inj}
+use Rattle.edits.proofs.Lookups.{get-is}
 use Rattle.edits.proofs.Kept.{NoMore, look-up-kept, delete-kept}
 
 into-result : (room : ℕ) (x b : Bytes) → into room x ≡ result b → b ≡ x
@@ -85,9 +86,6 @@ path-made edit keeps target path b room o e =
 
 pub get-made : (target path b : Bytes) (room : ℕ) → Octets target → on-path get-by target path room ≡ result b → PathMade get-by target path b
 get-made = path-made get-by (λ p t v e. look-up-kept p t v (gives-inj (sym (get-is p t) ∙ e)))
-  where
-    get-is : (p : List Step) (t : Tree) → get-by p t ≡ gives (look-up p t)
-    get-is p t = unfold get-by in refl
 
 deletable-same : (t u : Tree) → deletable t ≡ gives u → t ≡ u
 deletable-same null u e = refused-gives e

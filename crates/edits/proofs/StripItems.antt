@@ -238,9 +238,6 @@ module _ (s : Bytes) (n a at : ℕ) (w : Array-at s n a) (o : Bytes) where
               let z : ⊥ = omega (arith, few, now .index) in
               absurd z
 
-      abbrev here-tree : Tree
-      here-tree = next-item .0
-
       whole : join (now .done) (item (next-item .0) (next-item .1)) ≡ w .items
       whole = ap (join (now .done)) (sym (next-item .2)) ∙ now .split
 
