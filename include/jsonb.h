@@ -2,9 +2,10 @@
  * JSONB records for the flight computer: the check and the edits.
  *
  * The functions are those of the static library that `rt staticlib edits` makes, target/staticlib/libedits.a, for x86-64 Linux.
- * Each is proved to end, and to answer what crates/edits/specs/Keypath.antt and crates/builders/specs/Build.antt define (the check:
- * crates/layout/specs/Read.antt) as a number by crates/edits/specs/C.antt, on every record, path and buffer. They keep nothing
- * between calls, take no memory but the stack, and may be called from several threads at once.
+ * Each is proved to end, and to answer what Keypath.antt, Concat.antt and Strip.antt of crates/edits/specs and
+ * crates/builders/specs/Build.antt define (the check: crates/layout/specs/Read.antt) as a number by crates/edits/specs/C.antt, on
+ * every record, path and buffer. They keep nothing between calls, take no memory but the stack, and may be called from several
+ * threads at once.
  *
  * A record, a path and a buffer are each a pointer and a length in bytes. What the caller owes:
  *
@@ -59,8 +60,9 @@ extern "C" {
  *    6  the writer of a path           the path is unreadable, no array, or holds what is neither a name nor an index
  *    7  the author of an edit          delete on a root null, boolean, number or string; append to what is no array; object build
  *                                      with what is no array, a name that is no string, or unequal counts
- *    8  the author of an edit          object build with a repeated name
- *    9  the author of an edit          the result would be over 65,536 bytes or deeper than 64: append and object build
+ *    8  the author of an edit          a repeated name: in the right one of two objects of a concat, among the members that strip
+ *                                      keeps, in an object build
+ *    9  the author of an edit          the result would be over 65,536 bytes or deeper than 64: concat, append and object build
  *   10  the lender of the buffer       it is shorter than the result
  */
 #define JSONB_SHORT JSONB_REFUSED(1)
@@ -93,6 +95,21 @@ uint64_t jsonb_get_by_keypath(const uint8_t *target, size_t target_length, const
  */
 uint64_t jsonb_delete_by_keypath(const uint8_t *target, size_t target_length, const uint8_t *path, size_t path_length,
                                  uint8_t *out, size_t out_length);
+
+/*
+ * Overlays a record with another. Two objects become one: the right one's members, and those of the left one whose names the right
+ * one has not, in byte order of the names. Of a name that the left one has twice the first member counts; a name that the right
+ * one has twice gives 8. Any other two become an array, the left one's items and then the right one's, where a record that is no
+ * array is one item. Items and values are copied as they are.
+ */
+uint64_t jsonb_concat(const uint8_t *left, size_t left_length, const uint8_t *right, size_t right_length,
+                      uint8_t *out, size_t out_length);
+
+/*
+ * Takes the members whose value is null out of a record, at every level. Nulls in arrays and at the root stay. Every container is
+ * written anew, its objects in byte order of the names; a name that is repeated among the members kept gives 8.
+ */
+uint64_t jsonb_strip_nulls(const uint8_t *target, size_t target_length, uint8_t *out, size_t out_length);
 
 /* Puts a record, as one item, at the end of an array record. */
 uint64_t jsonb_append(const uint8_t *array, size_t array_length, const uint8_t *item, size_t item_length,

@@ -19,8 +19,17 @@
 /* Some of document 01's records: A is {"a":1}, D has the name "a" twice, with null and true. */
 #define A "40000001 10000001 20000002 61 5001"
 #define D "40000002 10000001 10000001 00000000 40000000 61 61"
+#define EMPTY_OBJECT "40000000"
+#define EMPTY_ARRAY "80000000"
+#define NULL_A "40000001 10000001 00000000 61"
+#define TRUE_A "40000001 10000001 40000000 61"
+#define TRUE_B "40000001 10000001 40000000 62"
+#define A_AND_TRUE_B "40000002 10000001 10000001 20000002 40000000 61 62 5001"
 #define NULLS "80000001 00000000"
+#define TWO_NULLS "80000002 00000000 00000000"
 #define ROOT_NULL "20000000 00000000"
+#define ROOT_STRING "20000000 10000001 61"
+#define ROOT_EXTENSION "20000000 60000001 AB"
 
 /* Paths: the names "a" and "b", and the indexes 0, 1, -1 and -2. */
 #define NAME_A "80000001 10000001 61"
@@ -77,24 +86,71 @@ static void store(uint8_t *at, uint32_t word) {
     at[3] = (uint8_t)word;
 }
 
-/* So many arrays, one in another. */
-static void nest(uint32_t arrays, Record *record) {
+/* Puts a container into so many arrays, one in another. */
+static void wrap_in_arrays(uint32_t arrays, Record *record) {
     uint32_t i;
-    uint32_t last = arrays - 1;
-    for (i = 0; i < last; i++) {
-        store(record->bytes + 8 * i, 0x80000001);
-        store(record->bytes + 8 * i + 4, 0x50000000 + 8 * (last - i) - 4);
+    for (i = 0; i < arrays; i++) {
+        memmove(record->bytes + 8, record->bytes, record->length);
+        store(record->bytes, 0x80000001);
+        store(record->bytes + 4, 0x50000000 + (uint32_t)record->length);
+        record->length += 8;
     }
-    store(record->bytes + 8 * last, 0x80000000);
-    record->length = 8 * last + 4;
 }
 
-/* An extension, as a scalar record of a length. */
-static void extend(size_t length, Record *record) {
-    memset(record->bytes, 0, length);
-    store(record->bytes, 0x20000000);
-    store(record->bytes + 4, 0x60000000 + (uint32_t)length - 8);
+/* Puts a container into so many objects, one in another, as the value of an empty name. */
+static void wrap_in_objects(uint32_t objects, Record *record) {
+    uint32_t i;
+    for (i = 0; i < objects; i++) {
+        memmove(record->bytes + 12, record->bytes, record->length);
+        store(record->bytes, 0x40000001);
+        store(record->bytes + 4, 0x10000000);
+        store(record->bytes + 8, 0x50000000 + (uint32_t)record->length);
+        record->length += 12;
+    }
+}
+
+/* So many arrays, one in another, the innermost of them empty; and so many objects. */
+static void nest(uint32_t arrays, Record *record) {
+    spell(EMPTY_ARRAY, record);
+    wrap_in_arrays(arrays - 1, record);
+}
+
+static void nest_objects(uint32_t objects, Record *record) {
+    spell(EMPTY_OBJECT, record);
+    wrap_in_objects(objects - 1, record);
+}
+
+/* A path of so many steps, each the index 0. */
+static void descend(uint32_t steps, Record *record) {
+    uint32_t i;
+    store(record->bytes, 0x80000000 + steps);
+    for (i = 0; i < steps; i++) {
+        store(record->bytes + 4 + 4 * i, 0x20000001);
+        record->bytes[4 + 4 * steps + i] = 0;
+    }
+    record->length = 4 + 5 * steps;
+}
+
+/* A record of a length: the bytes that a text spells, and behind them zeros, whose number goes into the entry at a place. */
+static void fill(const char *text, size_t entry, size_t length, Record *record) {
+    spell(text, record);
+    memset(record->bytes + record->length, 0, length - record->length);
+    record->bytes[entry + 2] = (uint8_t)((length - record->length) >> 8);
+    record->bytes[entry + 3] = (uint8_t)(length - record->length);
     record->length = length;
+}
+
+/* An extension, as a scalar record of a length; one that is the value of "a" in an object; and one name as a path. */
+static void extend(size_t length, Record *record) {
+    fill("20000000 60000000", 4, length, record);
+}
+
+static void extend_a(size_t length, Record *record) {
+    fill("40000001 10000001 60000000 61", 8, length, record);
+}
+
+static void long_name(size_t length, Record *record) {
+    fill("80000001 10000000", 4, length, record);
 }
 
 static Record left_record, right_record, wanted, kept_left, kept_right;
@@ -126,22 +182,38 @@ static void run(const char *what, Edit *edit, size_t room, uint64_t answer) {
 }
 
 /* "A buffer of exactly the result's length serves; one byte less: 10"; and a longer one. */
-static void gives(const char *what, Edit *edit, const char *left, const char *right, const char *result) {
-    spell(left, &left_record);
-    spell(right, &right_record);
-    spell(result, &wanted);
+static void gives_made(const char *what, Edit *edit) {
     run(what, edit, JSONB_ROOM, wanted.length);
     run(what, edit, wanted.length, wanted.length);
     run(what, edit, wanted.length - 1, JSONB_BUFFER);
     run(what, edit, 0, JSONB_BUFFER);
 }
 
+static void gives(const char *what, Edit *edit, const char *left, const char *right, const char *result) {
+    spell(left, &left_record);
+    spell(right, &right_record);
+    spell(result, &wanted);
+    gives_made(what, edit);
+}
+
 /* An absence, or a number that stands before 10, with and without room. */
+static void ends_made(const char *what, Edit *edit, uint64_t answer) {
+    run(what, edit, JSONB_ROOM, answer);
+    run(what, edit, 0, answer);
+}
+
 static void ends(const char *what, Edit *edit, const char *left, const char *right, uint64_t answer) {
     spell(left, &left_record);
     spell(right, &right_record);
-    run(what, edit, JSONB_ROOM, answer);
-    run(what, edit, 0, answer);
+    ends_made(what, edit, answer);
+}
+
+/* Strip as an edit of two records, of which it takes the first. */
+static uint64_t strip(const uint8_t *left, size_t left_length, const uint8_t *right, size_t right_length, uint8_t *out,
+                      size_t out_length) {
+    (void)right;
+    (void)right_length;
+    return jsonb_strip_nulls(left, left_length, out, out_length);
 }
 
 static void checks(const char *record, uint64_t answer) {
@@ -188,8 +260,60 @@ static void test_check(void) {
     checks_made("65,537 bytes", JSONB_LIMIT);
 }
 
+/* The records that document 01 turns down, by their numbers, and one of another kind of damage to stand beside each. */
+static const struct {
+    const char *record;
+    uint64_t answer;
+    const char *other;
+} damaged[] = {
+    {"", JSONB_SHORT, "80000000 00"},
+    {"400000", JSONB_SHORT, "80000000 00"},
+    {"80000001", JSONB_SHORT, "20000000 10000001 FF"},
+    {"80000000 00", JSONB_LAYOUT, "400000"},
+    {"80000001 70000000", JSONB_LAYOUT, "20000000 10000001 FF"},
+    {"80000001 80000000", JSONB_LAYOUT, "20000000 20000001 01"},
+    {"20000000 10000001 FF", JSONB_TEXT, "80000001 70000000"},
+    {"20000000 20000001 01", JSONB_NUMBER, "20000000 10000001 FF"},
+};
+
+/*
+ * An edit with a damaged record: the left one's number, also beside a right one that is damaged in another way, and then the right
+ * one's, or 6 where that is a path. Beside it on the left stands an object: what append and object build have 7 for comes later.
+ */
+static void refuses(const char *what, Edit *edit, int is_path) {
+    size_t i;
+    for (i = 0; i < sizeof damaged / sizeof damaged[0]; i++) {
+        ends(what, edit, damaged[i].record, NAME_A, damaged[i].answer);
+        ends(what, edit, damaged[i].record, damaged[i].other, damaged[i].answer);
+        ends(what, edit, A, damaged[i].record, is_path ? JSONB_PATH : damaged[i].answer);
+    }
+    spell("400000", &right_record);
+    nest(65, &left_record);
+    ends_made(what, edit, JSONB_LIMIT);
+    extend(65537, &left_record);
+    ends_made(what, edit, JSONB_LIMIT);
+    spell(A, &left_record);
+    nest(65, &right_record);
+    ends_made(what, edit, is_path ? JSONB_PATH : JSONB_LIMIT);
+    extend(65537, &right_record);
+    ends_made(what, edit, is_path ? JSONB_PATH : JSONB_LIMIT);
+}
+
+/* The same of an edit of one record. */
+static void refuses_one(const char *what, Edit *edit) {
+    size_t i;
+    for (i = 0; i < sizeof damaged / sizeof damaged[0]; i++) {
+        ends(what, edit, damaged[i].record, "", damaged[i].answer);
+    }
+    nest(65, &left_record);
+    ends_made(what, edit, JSONB_LIMIT);
+    extend(65537, &left_record);
+    ends_made(what, edit, JSONB_LIMIT);
+}
+
 static void test_get(void) {
     Edit *get = jsonb_get_by_keypath;
+    refuses("get of a damaged record or by a damaged path", get, 1);
     gives("get \"a\" of A", get, A, NAME_A, "20000000 20000002 5001");
     gives("get \"a\" of D", get, D, NAME_A, ROOT_NULL);
     gives("get index 0", get, NULLS, INDEX_0, ROOT_NULL);
@@ -204,26 +328,235 @@ static void test_get(void) {
     ends("get by a path that is cut short", get, A, "400000", JSONB_PATH);
     ends("get by a path of a null", get, A, NULLS, JSONB_PATH);
     ends("get of a damaged record, by a damaged path", get, "20000000 10000001 FF", "400000", JSONB_TEXT);
-    ends("get of no bytes", get, "", NAME_A, JSONB_SHORT);
-    ends("get by a path of no bytes", get, A, "", JSONB_PATH);
+    nest(64, &left_record);
+    descend(63, &right_record);
+    spell(EMPTY_ARRAY, &wanted);
+    gives_made("get at depth 64", get);
+    descend(64, &right_record);
+    ends_made("get at depth 65", get, JSONB_ABSENT);
+    spell(A, &left_record);
+    long_name(65536, &right_record);
+    ends_made("get by a path of 65,536 bytes", get, JSONB_ABSENT);
+    long_name(65537, &right_record);
+    ends_made("get by a path of 65,537 bytes", get, JSONB_PATH);
+    extend(65536, &left_record);
+    extend(65536, &wanted);
+    spell(NO_STEPS, &right_record);
+    gives_made("get of a record of 65,536 bytes", get);
 }
 
 static void test_delete(void) {
     Edit *delete = jsonb_delete_by_keypath;
+    refuses("delete in a damaged record or by a damaged path", delete, 1);
     gives("delete index 0", delete, NULLS, INDEX_0, "80000000");
-    gives("delete \"a\" of D", delete, D, NAME_A, "40000001 10000001 40000000 61");
-    gives("delete \"a\" of A", delete, A, NAME_A, "40000000");
+    gives("delete \"a\" of D", delete, D, NAME_A, TRUE_A);
+    gives("delete \"a\" of A", delete, A, NAME_A, EMPTY_OBJECT);
     gives("delete \"b\" of A, which it has not", delete, A, NAME_B, A);
     gives("delete with an empty path", delete, D, NO_STEPS, D);
     gives("delete in a nested array", delete, "80000001 50000008 80000001 00000000", "80000002 20000001 20000001 00 00",
           "80000001 50000004 80000000");
-    gives("delete in a root extension", delete, "20000000 60000001 AB", INDEX_0, "20000000 60000001 AB");
+    gives("delete in a root extension", delete, ROOT_EXTENSION, INDEX_0, ROOT_EXTENSION);
     ends("delete in a root null", delete, ROOT_NULL, INDEX_0, JSONB_KIND);
     ends("delete in a root null, by a path that is no array", delete, ROOT_NULL, A, JSONB_PATH);
-    ends("delete in a damaged record", delete, "80000000 00", A, JSONB_LAYOUT);
+    ends("delete in a root null, by a damaged path", delete, ROOT_NULL, "400000", JSONB_PATH);
+    ends("delete in a root string, with an empty path", delete, ROOT_STRING, NO_STEPS, JSONB_KIND);
+    nest(64, &left_record);
+    descend(63, &right_record);
+    nest(63, &wanted);
+    gives_made("delete at depth 64", delete);
+    descend(64, &right_record);
+    nest(64, &wanted);
+    gives_made("delete at depth 65, which finds nothing", delete);
+    spell(A, &left_record);
+    spell(A, &wanted);
+    long_name(65536, &right_record);
+    gives_made("delete by a path of 65,536 bytes", delete);
+    long_name(65537, &right_record);
+    ends_made("delete by a path of 65,537 bytes", delete, JSONB_PATH);
+    extend_a(65536, &left_record);
+    spell(NAME_A, &right_record);
+    spell(EMPTY_OBJECT, &wanted);
+    gives_made("delete in a record of 65,536 bytes", delete);
+}
+
+/* Concat of two objects. */
+static void test_overlay(void) {
+    Edit *concat = jsonb_concat;
+    refuses("concat of a damaged record", concat, 0);
+    gives("concat A, {\"b\":true}", concat, A, TRUE_B, A_AND_TRUE_B);
+    gives("concat {\"b\":true}, A", concat, TRUE_B, A, A_AND_TRUE_B);
+    gives("concat A, {}", concat, A, EMPTY_OBJECT, A);
+    gives("concat {}, A", concat, EMPTY_OBJECT, A, A);
+    gives("concat {}, {}", concat, EMPTY_OBJECT, EMPTY_OBJECT, EMPTY_OBJECT);
+    gives("concat A, {\"a\":true}: a name on both sides", concat, A, TRUE_A, TRUE_A);
+    gives("concat {\"a\":true}, A: a name on both sides", concat, TRUE_A, A, A);
+    gives("concat A, {\"a\":null}: a null overlays too", concat, A, NULL_A, NULL_A);
+    gives("concat D, {}: the first counts", concat, D, EMPTY_OBJECT, NULL_A);
+    gives("concat D, A: a repeated name that is on both sides", concat, D, A, A);
+    gives("concat {\"b\":1,\"a\":true,\"b\":false}, {\"aa\":null}", concat,
+          "40000003 10000001 10000001 10000001 20000002 40000000 30000000 62 61 62 5001", "40000001 10000002 00000000 6161",
+          "40000003 10000001 10000002 10000001 40000000 00000000 20000002 61 6161 62 5001");
+    gives("concat {}, {\"a\":D}: what is inside is copied", concat, EMPTY_OBJECT, "40000001 10000001 50000016 61 " D,
+          "40000001 10000001 50000016 61 " D);
+    gives("concat {\"a\":D}, {\"b\":true}: what is inside is copied", concat, "40000001 10000001 50000016 61 " D, TRUE_B,
+          "40000002 10000001 10000001 50000016 40000000 61 62 " D);
+    ends("concat {}, D", concat, EMPTY_OBJECT, D, JSONB_REPEATED);
+    ends("concat A, D", concat, A, D, JSONB_REPEATED);
+    ends("concat D, D", concat, D, D, JSONB_REPEATED);
+    ends("concat {}, {\"b\":1,\"a\":true,\"b\":false}", concat, EMPTY_OBJECT,
+         "40000003 10000001 10000001 10000001 20000002 40000000 30000000 62 61 62 5001", JSONB_REPEATED);
+    nest_objects(64, &left_record);
+    nest_objects(64, &right_record);
+    nest_objects(64, &wanted);
+    gives_made("concat two objects of depth 64", concat);
+    /* The extension's bytes behind 22 others. */
+    extend_a(65527, &left_record);
+    spell(TRUE_B, &right_record);
+    fill("40000002 10000001 10000001 60000000 40000000 61 62", 12, 65536, &wanted);
+    gives_made("concat two objects to 65,536 bytes", concat);
+    extend_a(65528, &left_record);
+    ends_made("concat two objects to 65,537 bytes", concat, JSONB_RESULT);
+    spell(D, &right_record);
+    ends_made("concat two objects, 8 before 9", concat, JSONB_REPEATED);
+    spell(TRUE_A, &right_record);
+    spell(TRUE_A, &wanted);
+    gives_made("concat two objects that are long, to a short one", concat);
+}
+
+/* Concat of any other pair. */
+static void test_join(void) {
+    Edit *concat = jsonb_concat;
+    gives("concat root null, root null", concat, ROOT_NULL, ROOT_NULL, TWO_NULLS);
+    gives("concat [null], [null]", concat, NULLS, NULLS, TWO_NULLS);
+    gives("concat [null], null", concat, NULLS, ROOT_NULL, TWO_NULLS);
+    gives("concat null, [null]", concat, ROOT_NULL, NULLS, TWO_NULLS);
+    gives("concat [], []", concat, EMPTY_ARRAY, EMPTY_ARRAY, EMPTY_ARRAY);
+    gives("concat [], null", concat, EMPTY_ARRAY, ROOT_NULL, NULLS);
+    gives("concat [1], [\"a\"]", concat, "80000001 20000002 5001", "80000001 10000001 61",
+          "80000002 20000002 10000001 5001 61");
+    gives("concat \"a\", an extension", concat, ROOT_STRING, ROOT_EXTENSION, "80000002 10000001 60000001 61 AB");
+    gives("concat [[]], []", concat, "80000001 50000004 80000000", EMPTY_ARRAY, "80000001 50000004 80000000");
+    gives("concat A, []", concat, A, EMPTY_ARRAY, "80000001 5000000F " A);
+    gives("concat [], A", concat, EMPTY_ARRAY, A, "80000001 5000000F " A);
+    gives("concat A, null", concat, A, ROOT_NULL, "80000002 5000000F 00000000 " A);
+    gives("concat null, A", concat, ROOT_NULL, A, "80000002 00000000 5000000F " A);
+    gives("concat [], D: 8 is for two objects", concat, EMPTY_ARRAY, D, "80000001 50000016 " D);
+    gives("concat D, []", concat, D, EMPTY_ARRAY, "80000001 50000016 " D);
+    gives("concat null, D", concat, ROOT_NULL, D, "80000002 00000000 50000016 " D);
+    gives("concat [D], D", concat, "80000001 50000016 " D, D, "80000002 50000016 50000016 " D D);
+    /* An array of depth 64 keeps it; an object is one deeper as an item. */
+    spell(ROOT_NULL, &right_record);
+    nest(64, &left_record);
+    nest(63, &wanted);
+    memmove(wanted.bytes + 12, wanted.bytes, wanted.length);
+    store(wanted.bytes, 0x80000002);
+    store(wanted.bytes + 4, 0x50000000 + (uint32_t)wanted.length);
+    store(wanted.bytes + 8, 0x00000000);
+    wanted.length += 12;
+    gives_made("concat 64 arrays, null", concat);
+    nest_objects(64, &left_record);
+    ends_made("concat 64 objects, null", concat, JSONB_RESULT);
+    spell(EMPTY_ARRAY, &right_record);
+    ends_made("concat 64 objects, []", concat, JSONB_RESULT);
+    nest_objects(63, &left_record);
+    nest_objects(63, &wanted);
+    wrap_in_arrays(1, &wanted);
+    gives_made("concat 63 objects, []", concat);
+    nest_objects(64, &right_record);
+    spell(ROOT_NULL, &left_record);
+    ends_made("concat null, 64 objects", concat, JSONB_RESULT);
+    spell(EMPTY_ARRAY, &left_record);
+    ends_made("concat [], 64 objects", concat, JSONB_RESULT);
+    nest_objects(63, &right_record);
+    gives_made("concat [], 63 objects", concat);
+    nest(64, &left_record);
+    nest_objects(64, &right_record);
+    ends_made("concat 64 arrays, 64 objects", concat, JSONB_RESULT);
+    nest(64, &right_record);
+    nest(63, &wanted);
+    memmove(wanted.bytes + 12 + wanted.length, wanted.bytes, wanted.length);
+    memmove(wanted.bytes + 12, wanted.bytes, wanted.length);
+    store(wanted.bytes, 0x80000002);
+    store(wanted.bytes + 4, 0x50000000 + (uint32_t)wanted.length);
+    store(wanted.bytes + 8, 0x50000000 + (uint32_t)wanted.length);
+    wanted.length += 12 + wanted.length;
+    gives_made("concat 64 arrays, 64 arrays", concat);
+    /* The extension's bytes behind 12 others, where it had 8. */
+    extend(65532, &left_record);
+    spell(ROOT_NULL, &right_record);
+    fill("80000002 60000000 00000000", 4, 65536, &wanted);
+    gives_made("concat to 65,536 bytes", concat);
+    extend(65533, &left_record);
+    ends_made("concat to 65,537 bytes", concat, JSONB_RESULT);
+    /* A deep record beside a long one: 9 for either. */
+    nest_objects(64, &right_record);
+    ends_made("concat to 65,537 bytes and more, too deep", concat, JSONB_RESULT);
+    extend(65536, &left_record);
+    fill("80000001 60000000", 4, 65536, &wanted);
+    spell(EMPTY_ARRAY, &right_record);
+    gives_made("concat an extension of 65,536 bytes, []", concat);
+}
+
+static void test_strip(void) {
+    refuses_one("strip of a damaged record", strip);
+    gives("strip [null]", strip, NULLS, "", NULLS);
+    gives("strip D", strip, D, "", TRUE_A);
+    gives("strip A", strip, A, "", A);
+    gives("strip {\"a\":null}", strip, NULL_A, "", EMPTY_OBJECT);
+    gives("strip {}", strip, EMPTY_OBJECT, "", EMPTY_OBJECT);
+    gives("strip []", strip, EMPTY_ARRAY, "", EMPTY_ARRAY);
+    gives("strip a root null", strip, ROOT_NULL, "", ROOT_NULL);
+    gives("strip a root true", strip, "20000000 40000000", "", "20000000 40000000");
+    gives("strip a root number", strip, "20000000 20000002 5001", "", "20000000 20000002 5001");
+    gives("strip a root string", strip, ROOT_STRING, "", ROOT_STRING);
+    gives("strip a root extension", strip, ROOT_EXTENSION, "", ROOT_EXTENSION);
+    gives("strip two nulls of one name", strip, "40000002 10000001 10000001 00000000 00000000 61 61", "", EMPTY_OBJECT);
+    gives("strip a member between two nulls of its name", strip,
+          "40000003 10000001 10000001 10000001 00000000 40000000 00000000 61 61 61", "", TRUE_A);
+    gives("strip {\"a\":{\"a\":1,\"b\":null}}", strip,
+          "40000001 10000001 50000018 61 40000002 10000001 10000001 20000002 00000000 61 62 5001", "",
+          "40000001 10000001 5000000F 61 " A);
+    gives("strip [null,{\"a\":null}]: nulls in arrays stay", strip, "80000002 00000000 5000000D " NULL_A, "",
+          "80000002 00000000 50000004 " EMPTY_OBJECT);
+    gives("strip {\"a\":[null,[null]]}", strip, "40000001 10000001 50000014 61 80000002 00000000 50000008 " NULLS, "",
+          "40000001 10000001 50000014 61 80000002 00000000 50000008 " NULLS);
+    gives("strip {\"b\":{\"d\":true,\"c\":false},\"aa\":1}: names in order, at every level", strip,
+          "40000002 10000001 10000002 50000016 20000002 62 6161"
+          " 40000002 10000001 10000001 40000000 30000000 64 63 5001", "",
+          "40000002 10000002 10000001 20000002 50000016 6161 62 5001"
+          " 40000002 10000001 10000001 30000000 40000000 63 64");
+    ends("strip {\"a\":1,\"a\":true}", strip, "40000002 10000001 10000001 20000002 40000000 61 61 5001", "", JSONB_REPEATED);
+    ends("strip {\"b\":1,\"a\":true,\"b\":false}", strip,
+         "40000003 10000001 10000001 10000001 20000002 40000000 30000000 62 61 62 5001", "", JSONB_REPEATED);
+    ends("strip [{\"a\":true,\"a\":true}]: 8 at depth 2", strip,
+         "80000001 50000016 40000002 10000001 10000001 40000000 40000000 61 61", "", JSONB_REPEATED);
+    ends("strip {\"a\":{\"a\":true,\"a\":true},\"b\":null}: 8 at depth 2", strip,
+         "40000002 10000001 10000001 50000016 00000000 61 62 40000002 10000001 10000001 40000000 40000000 61 61", "",
+         JSONB_REPEATED);
+    gives("strip [D]", strip, "80000001 50000016 " D, "", "80000001 5000000D " TRUE_A);
+    spell(NULL_A, &left_record);
+    spell(EMPTY_OBJECT, &wanted);
+    wrap_in_objects(63, &left_record);
+    wrap_in_objects(63, &wanted);
+    gives_made("strip a null at depth 64", strip);
+    spell(NULL_A, &left_record);
+    spell(EMPTY_OBJECT, &wanted);
+    wrap_in_arrays(63, &left_record);
+    wrap_in_arrays(63, &wanted);
+    gives_made("strip a null in 63 arrays", strip);
+    spell("40000002 10000001 10000001 40000000 40000000 61 61", &left_record);
+    wrap_in_objects(63, &left_record);
+    ends_made("strip: 8 at depth 64", strip, JSONB_REPEATED);
+    extend(65536, &left_record);
+    extend(65536, &wanted);
+    gives_made("strip a scalar of 65,536 bytes", strip);
+    extend_a(65536, &left_record);
+    extend_a(65536, &wanted);
+    gives_made("strip an object of 65,536 bytes", strip);
 }
 
 static void test_append(void) {
+    refuses("append to a damaged record, or of one", jsonb_append, 0);
     gives("append to an empty array", jsonb_append, "80000000", ROOT_NULL, NULLS);
     gives("append a string", jsonb_append, "80000001 20000002 5001", "20000000 10000001 61",
           "80000002 20000002 10000001 5001 61");
@@ -249,12 +582,13 @@ static void test_append(void) {
 }
 
 static void test_build(void) {
+    refuses("build of damaged names or values", jsonb_build_object, 0);
     gives("build {}", jsonb_build_object, "80000000", "80000000", "40000000");
     gives("build A", jsonb_build_object, "80000001 10000001 61", "80000001 20000002 5001", A);
     gives("build {\"a\":1,\"b\":true}", jsonb_build_object, "80000002 10000001 10000001 61 62",
-          "80000002 20000002 40000000 5001", "40000002 10000001 10000001 20000002 40000000 61 62 5001");
+          "80000002 20000002 40000000 5001", A_AND_TRUE_B);
     gives("build it of names that fall", jsonb_build_object, "80000002 10000001 10000001 62 61",
-          "80000002 40000000 20000002 5001", "40000002 10000001 10000001 20000002 40000000 61 62 5001");
+          "80000002 40000000 20000002 5001", A_AND_TRUE_B);
     ends("build with a repeated name", jsonb_build_object, "80000002 10000001 10000001 61 61",
          "80000002 00000000 00000000", JSONB_REPEATED);
     ends("build with unequal counts", jsonb_build_object, "80000002 10000001 10000001 61 61", NULLS, JSONB_KIND);
@@ -263,7 +597,10 @@ static void test_build(void) {
     ends("build of damaged values", jsonb_build_object, A, "400000", JSONB_SHORT);
 }
 
-/* Records and paths may be the same bytes: [0] looked up by itself, whose one step is the index 0, and appended to itself. */
+/*
+ * Records and paths may be the same bytes: [0] looked up by itself, whose one step is the index 0, appended to itself and put
+ * behind itself.
+ */
 static void test_same_bytes(void) {
     spell("80000001 20000001 00", &left_record);
     spell("20000000 20000001 00", &wanted);
@@ -272,6 +609,9 @@ static void test_same_bytes(void) {
     spell("80000002 20000001 50000009 00 80000001 20000001 00", &wanted);
     answer = jsonb_append(left_record.bytes, left_record.length, left_record.bytes, left_record.length, buffer, ROOM);
     expect(answer == wanted.length && memcmp(buffer, wanted.bytes, wanted.length) == 0, "append", "one slice as both records");
+    spell("80000002 20000001 20000001 00 00", &wanted);
+    answer = jsonb_concat(left_record.bytes, left_record.length, left_record.bytes, left_record.length, buffer, ROOM);
+    expect(answer == wanted.length && memcmp(buffer, wanted.bytes, wanted.length) == 0, "concat", "one slice as both records");
 }
 
 int main(void) {
@@ -279,6 +619,9 @@ int main(void) {
     test_check();
     test_get();
     test_delete();
+    test_overlay();
+    test_join();
+    test_strip();
     test_append();
     test_build();
     test_same_bytes();

@@ -2,20 +2,24 @@
 use Prim.Native.Nat.{ℕ, _+_, _-_, _<_, _≤_}
 use native.Mathlib.Omega.{arith}
 use native.Mathlib.Nat.{sub-zero}
-use mathlib.Core.Path.{_≡_, refl, ap, _∙_}
-use mathlib.Core.Bool.{Bool, true, false}
+use mathlib.Core.Path.{_≡_, refl, ap, sym, _∙_}
+use mathlib.Core.Bool.{Bool, true, false, _&&_}
+use mathlib.Core.List.{List, [], _∷_}
 use lib.ListN.{length, take, drop}
 use borrow.Author.Tests.{eq-eqb, ne-eqb}
 use Rattle.layout.specs.Bytes.{Bytes}
 use Rattle.layout.specs.Entry.{code-of, length-of, entry-at}
-use Rattle.layout.specs.Place.{parts-at}
-use Rattle.layout.specs.Order.{order}
+use Rattle.layout.specs.Encode.{Part}
+use Rattle.layout.specs.Place.{parts-at, rising-from, rising-parts}
+use Rattle.layout.specs.Order.{order, before, rising}
 use Rattle.layout.specs.declared.order.Ordering.{Ordering}
 use Rattle.layout.specs.declared.order.Ordering.the-variants.{Less, Equal, Greater}
 use Rattle.layout.proofs.Orders.{Says, says}
 use Rattle.layout.proofs.Checks.{one-less, parts-step}
+use Rattle.layout.proofs.Sounds.{rising-test}
 use Rattle.builders.specs.Order.{by, same, has, distinct}
 use Rattle.builders.specs.Search.{texts, strings-at}
+use Rattle.builders.proofs.InOrders.{rising-distinct}
 
 -- Strings.
 module _ (s : Bytes) (n i : ℕ) (inv : strings-at s 0 n ≡ strings-at s i (n - i)) where
@@ -64,7 +68,25 @@ module _ (name s : Bytes) (from start n i p : ℕ)
   unfolding has parts-at
   among-end h = let z : n - i ≡ 0 = omega arith in rw (inv, z)
 
--- Distinct.
+-- Distinct: names that rise are.
+texts-rise-from : (n : Bytes) (ps : List Part) → rising-from n ps ≡ rising (n ∷ texts ps)
+unfolding rising-from
+texts-rise-from n [] = refl
+texts-rise-from n (p ∷ ps) = ap (λ b. before n (p .bytes) && b) (texts-rise-from (p .bytes) ps)
+
+texts-rise : (ps : List Part) → rising-parts ps ≡ rising (texts ps)
+unfolding rising-parts
+texts-rise [] = refl
+texts-rise (p ∷ ps) = texts-rise-from (p .bytes) ps
+
+pub distinct-rising : (s : Bytes) (start n : ℕ) (g : Bool) → g ≡ rising-parts (parts-at s 0 start n) → g ≡ true
+    → true ≡ distinct (texts (parts-at s 0 start n))
+distinct-rising s start n g e q =
+    let ns = texts (parts-at s 0 start n) in
+    let r : rising ns ≡ true = sym (texts-rise (parts-at s 0 start n)) ∙ sym e ∙ q in
+    sym (rising-distinct ns (rising-test ns .0 (rw r tt)))
+
+-- Others are compared.
 pub distinct-start : (s : Bytes) (start n : ℕ)
     → distinct (texts (parts-at s 0 start n)) ≡ distinct (texts (parts-at s 0 start (n - 0)))
 distinct-start s start n = rw (sub-zero n)

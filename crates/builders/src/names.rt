@@ -5,6 +5,7 @@ use layout::jentry::read_jentry;
 use layout::jentry::type_code;
 use layout::order::Ordering;
 use layout::order::compare;
+use layout::sound::is_rising;
 use layout::util::slice;
 ghost use mathlib.Core.Path.{_≡_};
 ghost use Prim.Native.Nat.{_-_, _^_, _≤_, _<_};
@@ -59,11 +60,14 @@ fn is_among(name: &[u8], s: &[u8], from: usize, n: usize, start: usize) -> bool
     false
 }
 
-// Whether no name is there twice.
+// Whether no name is there twice. Names that rise are gone through once; of others each is compared with all behind it.
 pub fn is_distinct(s: &[u8], n: usize, start: usize) -> bool
     requires { ⌜ (n < 2 ^ 29) × (start < 2 ^ 33) ⌝ }
     ensures { λ r. ⌜ r ≡ distinct (texts (partsAt (now (s .entry)) 0 start n)) ⌝ }
 {
+    if is_rising(s, n, start) {
+        return true;
+    }
     let mut place = start;
     let mut i = 0;
     while i < n {

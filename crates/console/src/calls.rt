@@ -9,6 +9,7 @@ use crate::text::count_arguments;
 use crate::text::trim;
 use crate::text::word_end;
 use crate::writing::Edit;
+use crate::writing::answer_strip;
 use crate::writing::answer_two;
 use builders::names::is_same;
 use layout::check::Check;
@@ -80,11 +81,19 @@ pub(crate) fn answer(line: &[u8]) {
     if is_same(word, b"delete") {
         return answer_two(Edit::Delete, rest);
     }
+    if is_same(word, b"concat") {
+        return answer_two(Edit::Concat, rest);
+    }
+    if is_same(word, b"strip") {
+        return answer_strip(rest);
+    }
     if is_same(word, b"append") {
         return answer_two(Edit::Append, rest);
     }
     if is_same(word, b"build") {
         return answer_two(Edit::Build, rest);
     }
-    say(b"? there is no such call; there are check, sound, get, delete, append and build\n");
+    say(
+        b"? there is no such call; there are check, sound, get, delete, concat, strip, append and build\n",
+    );
 }

@@ -4,6 +4,8 @@
 //   sound R            sound, unsound, or refused N WORDS
 //   get R ; PATH       result HEX, absent, or refused N WORDS: what the path finds in the record R
 //   delete R ; PATH    result HEX, or refused N WORDS: the record R without what the path finds in it
+//   concat L ; R       result HEX, or refused N WORDS: the record L overlaid with the record R
+//   strip R            result HEX, or refused N WORDS: the record R without the members whose value is null, at every level
 //   append A ; R       result HEX, or refused N WORDS: the record R, as one item, at the end of the array A
 //   build N ; V        result HEX, or refused N WORDS: an object of the names in the array N with the values in the array V
 //

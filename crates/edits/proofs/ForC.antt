@@ -22,8 +22,12 @@ use Rattle.layout.proofs.Decoding.{read-is}
 use Rattle.builders.specs.Build.{append, build, on-two}
 use Rattle.builders.proofs.Results.{Keeps, result-made, append-keeps, build-keeps}
 use Rattle.edits.specs.Keypath.{get-by, delete-by, on-path}
+use Rattle.edits.specs.Concat.{concat}
+use Rattle.edits.specs.Strip.{strip, on-one}
 use Rattle.edits.specs.C.{c-check, c-ending, c-outcome, EndedC}
+use Rattle.edits.proofs.Concats.{concat-keeps}
 use Rattle.edits.proofs.PathResults.{get-made, delete-made}
+use Rattle.edits.proofs.OperatorResults.{strip-made}
 
 -- ---- the functions
 
@@ -58,11 +62,20 @@ two-limited : (edit : Tree → Tree → Answer Tree) → Keeps edit → (l r : B
 two-limited edit keeps l r room ol or b e =
     from-require _ _ _ (sym (read-is b) ∙ result-made edit keeps l r b room ol or e .reads) λ test _. leb→le (length b) 65536 test
 
+pub concat-limited : (left right : Bytes) (room : ℕ) → Octets left → Octets right → Limited (on-two concat left right room)
+concat-limited = two-limited concat concat-keeps
+
 pub append-limited : (array item : Bytes) (room : ℕ) → Octets array → Octets item → Limited (on-two append array item room)
 append-limited = two-limited append append-keeps
 
 pub build-limited : (names values : Bytes) (room : ℕ) → Octets names → Octets values → Limited (on-two build names values room)
 build-limited = two-limited build build-keeps
+
+-- Strip's is no longer than the record, which could be read.
+pub strip-limited : (target : Bytes) (room : ℕ) → Octets target → Limited (on-one strip target room)
+strip-limited target room o b e =
+    let m = strip-made target b room o e in
+    from-require _ _ _ (sym (read-is b) ∙ m .reads) λ test _. leb→le (length b) 65536 test
 
 -- ---- no answer stands for two endings
 

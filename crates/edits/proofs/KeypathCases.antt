@@ -1,4 +1,5 @@
--- Cases of look-up and delete worked out: what document 01 says of them, and the order of their numbers.
+-- Cases of look-up and delete worked out: what document 01 says of them, and the order of their numbers. Its starred lines are in
+-- `Worked`.
 use Prim.Native.Nat.{ℕ, _+_}
 use mathlib.Core.Path.{_≡_, refl}
 use mathlib.Core.List.{[], _∷_, _++_}
@@ -55,31 +56,10 @@ name-a = by-name (0x61 ∷ [])
 
 -- ---- look-up
 
--- "A, path 80000001 10000001 61": a scalar found is written as a scalar record. One byte less of room: 10.
-finds-a : on-path get-by object-a name-a 10 ≡ result (0x20 ∷ 0 ∷ 0 ∷ 0 ∷ 0x20 ∷ 0 ∷ 0 ∷ 2 ∷ 0x50 ∷ 1 ∷ [])
-unfolding on-path be32 order
-finds-a = refl
-
+-- "One byte less: 10."
 finds-a-short : on-path get-by object-a name-a 9 ≡ refusal Buffer
 unfolding on-path be32 order
 finds-a-short = refl
-
--- "80000001 00000000 at index 0 and −1"; "at 1 and −2: absent", with a buffer of no bytes.
-index-0 : on-path get-by nulls (by-number (0 ∷ [])) 8 ≡ result root-null
-unfolding on-path be32 place number-of
-index-0 = refl
-
-index-last : on-path get-by nulls (by-number (0x40 ∷ 0xFF ∷ [])) 8 ≡ result root-null
-unfolding on-path be32 place number-of signed be-value
-index-last = refl
-
-index-count : on-path get-by nulls (by-number (0x50 ∷ 1 ∷ [])) 0 ≡ absence
-unfolding on-path place number-of be-value
-index-count = refl
-
-index-before-first : on-path get-by nulls (by-number (0x40 ∷ 0xFE ∷ [])) 0 ≡ absence
-unfolding on-path place number-of signed be-value
-index-before-first = refl
 
 -- Indexes of other widths; 255 is not −1.
 index-0-in-two-bytes : on-path get-by nulls (by-number (0x50 ∷ 0 ∷ 0 ∷ [])) 8 ≡ result root-null
@@ -337,22 +317,10 @@ record-first-in-delete = refl
 
 -- ---- delete
 
--- "Its deletion at 0: 80000000."
-deletes-only : on-path delete-by nulls (by-number (0 ∷ [])) 4 ≡ result no-steps
-unfolding on-path be32 place number-of
-deletes-only = refl
-
+-- "One byte less: 10."
 deletes-only-short : on-path delete-by nulls (by-number (0 ∷ [])) 3 ≡ refusal Buffer
 unfolding on-path be32 place number-of
 deletes-only-short = refl
-
--- D's deletion of "a": the first goes, and the second stays.
-deletes-first :
-    on-path delete-by twice-a
-    name-a 13
-    ≡ result (0x40 ∷ 0 ∷ 0 ∷ 1 ∷ 0x10 ∷ 0 ∷ 0 ∷ 1 ∷ 0x40 ∷ 0 ∷ 0 ∷ 0 ∷ 0x61 ∷ [])
-unfolding on-path be32 order
-deletes-first = refl
 
 -- An item within, and the last.
 deletes-middle :

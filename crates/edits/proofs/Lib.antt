@@ -47,3 +47,4 @@ pub mod ConcatCases
 pub mod PathResults
 pub mod OperatorResults
 pub mod ForC
+pub mod Worked

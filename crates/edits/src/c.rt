@@ -1,4 +1,6 @@
 // The functions for the flight computer's C code; include/jsonb.h is for its programmers. A slice is a pointer and a length there.
+use crate::operator::concat;
+use crate::operator::strip_nulls;
 use crate::path::delete_by_keypath;
 use crate::path::get_by_keypath;
 use builders::builder::append;
@@ -15,6 +17,8 @@ ghost use Rattle.layout.specs.Check.{checked};
 ghost use Rattle.layout.specs.Refusal.{number};
 ghost use Rattle.builders.specs.Build.{append as appendOf, build, «on-two» as onTwo};
 ghost use Rattle.edits.specs.Keypath.{«get-by» as getBy, «delete-by» as deleteBy, «on-path» as onPath};
+ghost use Rattle.edits.specs.Concat.{concat as concatOf};
+ghost use Rattle.edits.specs.Strip.{strip, «on-one» as onOne};
 ghost use Rattle.edits.specs.C.{«c-check» as cCheck, «c-ending» as cEnding, EndedC};
 
 // The answer where the record is readable, and that of an absence, which is above every length. A refusal's number is added to
@@ -66,6 +70,24 @@ pub extern "C" fn jsonb_delete_by_keypath(target: &[u8], path: &[u8], out: &mut 
         (onPath deleteBy (now (target .entry)) (now (path .entry)) (length (now (out .entry)))) ⌝ }
 {
     c_ending(delete_by_keypath(target, path, out))
+}
+
+// Overlays a record with another: two objects become one, anything else an array.
+#[no_mangle]
+pub extern "C" fn jsonb_concat(left: &[u8], right: &[u8], out: &mut [u8]) -> u64
+    ensures { λ r. ⌜ EndedC r (now (out .entry)) (now (out .exit))
+        (onTwo concatOf (now (left .entry)) (now (right .entry)) (length (now (out .entry)))) ⌝ }
+{
+    c_ending(concat(left, right, out))
+}
+
+// Takes the members whose value is null out of a record, at every level.
+#[no_mangle]
+pub extern "C" fn jsonb_strip_nulls(target: &[u8], out: &mut [u8]) -> u64
+    ensures { λ r. ⌜ EndedC r (now (out .entry)) (now (out .exit))
+        (onOne strip (now (target .entry)) (length (now (out .entry)))) ⌝ }
+{
+    c_ending(strip_nulls(target, out))
 }
 
 // Puts a record, as one item, at the end of an array record.

@@ -1,63 +1,20 @@
--- Cases of the reading worked out: document 01's bytes for records, and one for each place where the order of the rules shows.
+-- Cases of the reading worked out: document 01's bytes for records, but for the starred ones, which stand in the edits' `Worked`, and
+-- one for each place where the order of the rules shows.
 use Prim.Native.Nat.{ℕ, zero, suc}
-use native.Mathlib.Omega.{arith}
 use mathlib.Core.Path.{_≡_, refl}
-use mathlib.Core.Bool.{true}
 use mathlib.Core.List.{[], _∷_}
-use mathlib.Core.Logic.{⊎-elim}
 use lib.ListN.{replicate}
-use Rattle.layout.specs.Bytes.{Bytes, be32}
+use Rattle.layout.specs.Bytes.{be32}
 use Rattle.layout.specs.Answer.{gives, refused}
-use Rattle.layout.specs.Tree.{Tree, null, boolean, number, extension, array, object, none, item, empty, member}
+use Rattle.layout.specs.Tree.{Tree, extension, array, none, item}
 use Rattle.layout.specs.Encode.{encode}
 use Rattle.layout.specs.Read.{read}
-use Rattle.layout.specs.Sound.{Sound}
 use Rattle.layout.specs.declared.refusal.Refusal.the-variants.{Short, Layout, Text, Number, Limit}
 
--- "A is 40000001 10000001 20000002 61 5001, that is {"a":1}."
-abbrev A : Bytes
-A = 0x40 ∷ 0 ∷ 0 ∷ 1 ∷ 0x10 ∷ 0 ∷ 0 ∷ 1 ∷ 0x20 ∷ 0 ∷ 0 ∷ 2 ∷ 0x61 ∷ 0x50 ∷ 1 ∷ []
-
-abbrev A-tree : Tree
-A-tree = object (member (0x61 ∷ []) (number (0x50 ∷ 1 ∷ [])) empty)
-
-A-reads : read A ≡ gives A-tree
-unfolding read
-A-reads = refl
-
-A-encodes : encode A-tree ≡ A
-unfolding be32
-A-encodes = refl
-
--- "D is 40000002 10000001 10000001 00000000 40000000 61 61."
-abbrev D : Bytes
-D =
-    0x40 ∷ 0 ∷ 0 ∷ 2 ∷ 0x10 ∷ 0 ∷ 0 ∷ 1 ∷ 0x10 ∷ 0 ∷ 0 ∷ 1 ∷ 0 ∷ 0 ∷ 0 ∷ 0 ∷ 0x40 ∷ 0 ∷ 0 ∷ 0 ∷ 0x61 ∷ 0x61 ∷ []
-
-abbrev D-tree : Tree
-D-tree = object (member (0x61 ∷ []) null (member (0x61 ∷ []) (boolean true) empty))
-
--- "D is readable, not sound."
-D-reads : read D ≡ gives D-tree
-unfolding read
-D-reads = refl
-
-D-unsound : Sound D-tree → ⊥
-D-unsound h = ⊎-elim (λ l. omega arith) (λ e. e .1) (h .0 .0)
-
--- "400000: 1. 80000001: 1. 80000000 00: 2. 80000001 70000000: 2. 80000001 80000000: 2. 20000000 10000001 FF: 3.
--- 20000000 20000001 01: 4."
-short-header : read (0x40 ∷ 0 ∷ 0 ∷ []) ≡ refused Short
-unfolding read
-short-header = refl
-
+-- "80000001: 1. .. 80000001 70000000: 2. 80000001 80000000: 2. 20000000 10000001 FF: 3. 20000000 20000001 01: 4."
 short-table : read (0x80 ∷ 0 ∷ 0 ∷ 1 ∷ []) ≡ refused Short
 unfolding read
 short-table = refl
-
-byte-over : read (0x80 ∷ 0 ∷ 0 ∷ 0 ∷ 0 ∷ []) ≡ refused Layout
-unfolding read
-byte-over = refl
 
 code-seven : read (0x80 ∷ 0 ∷ 0 ∷ 1 ∷ 0x70 ∷ 0 ∷ 0 ∷ 0 ∷ []) ≡ refused Layout
 unfolding read

@@ -7,7 +7,7 @@ use Rattle.layout.specs.Place.{parts-at}
 use Rattle.layout.proofs.Fields.{length-lt}
 use Rattle.builders.specs.Order.{distinct}
 use Rattle.builders.specs.Search.{texts}
-use Rattle.builders.proofs.Naming.{distinct-start, distinct-twice, distinct-more, distinct-end}
+use Rattle.builders.proofs.Naming.{distinct-rising, distinct-start, distinct-twice, distinct-more, distinct-end}
 use Rattle.builders.proofs.names.is_distinct.Statement.{statement}
 use Rattle.builders.proofs.names.is_distinct.Tie as tie
 
@@ -20,17 +20,20 @@ Inv-loop s n start place₀ i₀ place i =
 abbrev μ-loop : tie.MeasureT-loop
 μ-loop s n start place₀ i₀ place i = n - i
 
-loop-holds : tie.Need-loop-holds Inv-loop μ-loop
-loop-holds c = (omega arith, omega arith, distinct-start (c .before .args .s .now) (c .before .args .start) (c .before .args .n))
-
 returns : tie.Need-returns Inv-loop μ-loop
-returns c = distinct-twice _ _ _ _ _ (c .before .before .before .before .before .before .loop .inv .2) (c .before .before .before .before .before .loop-test .taken) _ _ _ _ (c .before .before .before .before .read-jentry .ensures) (c .before .before .before .payload-len .ensures) (c .before .before .slice .ensures) (c .before .is-among .ensures) (c .if1 .taken)
+returns c = distinct-rising _ _ _ _ (c .before .is-rising .ensures) (c .if1 .taken)
 
-loop-again : tie.Need-loop-again Inv-loop μ-loop
-loop-again c = (omega arith, omega (arith, c .before .before .before .payload-len .ensures, length-lt (c .before .before .before .before .read-jentry .result)), distinct-more _ _ _ _ _ (c .before .before .before .before .before .before .loop .inv .2) (c .before .before .before .before .before .loop-test .taken) _ _ _ _ (c .before .before .before .before .read-jentry .ensures) (c .before .before .before .payload-len .ensures) (c .before .before .slice .ensures) (c .before .is-among .ensures) (c .if1 .left))
+loop-holds : tie.Need-loop-holds Inv-loop μ-loop
+loop-holds c = (omega arith, omega arith, distinct-start (c .before .before .before .args .s .now) (c .before .before .before .args .start) (c .before .before .before .args .n))
 
 returns-2 : tie.Need-returns-2 Inv-loop μ-loop
-returns-2 c = distinct-end _ _ _ _ _ (c .before .loop .inv .2) (c .loop-test .left)
+returns-2 c = distinct-twice _ _ _ _ _ (c .before .before .before .before .before .before .loop .inv .2) (c .before .before .before .before .before .loop-test .taken) _ _ _ _ (c .before .before .before .before .read-jentry .ensures) (c .before .before .before .payload-len .ensures) (c .before .before .slice .ensures) (c .before .is-among .ensures) (c .if2 .taken)
+
+loop-again : tie.Need-loop-again Inv-loop μ-loop
+loop-again c = (omega arith, omega (arith, c .before .before .before .payload-len .ensures, length-lt (c .before .before .before .before .read-jentry .result)), distinct-more _ _ _ _ _ (c .before .before .before .before .before .before .loop .inv .2) (c .before .before .before .before .before .loop-test .taken) _ _ _ _ (c .before .before .before .before .read-jentry .ensures) (c .before .before .before .payload-len .ensures) (c .before .before .slice .ensures) (c .before .is-among .ensures) (c .if2 .left))
+
+returns-3 : tie.Need-returns-3 Inv-loop μ-loop
+returns-3 c = distinct-end _ _ _ _ _ (c .before .loop .inv .2) (c .loop-test .left)
 
 pub is-distinct-spec : {M : Type 1} → statement M
 is-distinct-spec =
@@ -38,6 +41,8 @@ is-distinct-spec =
     (tie.spec
     Inv-loop
     μ-loop
+    (λ c κs. search needs)
+    returns
     loop-holds
     (λ c κs. search needs)
     (λ c κs. search needs)
@@ -46,8 +51,8 @@ is-distinct-spec =
     (λ c κs. search needs)
     (λ c. search needs)
     (λ c κs. search needs)
-    returns
+    returns-2
     (λ c. search needs)
     (λ c. search needs)
     loop-again
-    returns-2)
+    returns-3)

@@ -1,0 +1,11 @@
+-- `edits::c::jsonb_concat` meets its contract.
+use Rattle.edits.proofs.ForC.{ended-c}
+use borrow.Author.Needs.{needs}
+use Rattle.edits.proofs.c.jsonb_concat.Statement.{statement}
+use Rattle.edits.proofs.c.jsonb_concat.Tie as tie
+
+returns : tie.Need-returns
+returns c = ended-c _ _ _ _ (c .before .before .before .concat .ensures) _ (c .c-ending .ensures)
+
+pub jsonb-concat-spec : {M : Type 1} → statement M
+jsonb-concat-spec = tie.close (tie.spec (λ c κs. search needs) (λ c κs. search needs) (λ c. search needs) returns)
