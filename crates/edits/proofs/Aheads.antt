@@ -21,7 +21,7 @@ use Rattle.builders.specs.declared.search.Found.the-variants.{Nothing, At}
 use Rattle.builders.proofs.Orderings.{order-less}
 use Rattle.builders.proofs.Searches.{Above, Ascending, Passed, least-append, least-passed, least-first, passed-later, over-less, over-itself, ascending-kept}
 use Rattle.builders.proofs.Stands.{Stand}
-use Rattle.edits.specs.Members.{members-of, all-ahead, kept-ahead, Near, Stands, Searched, Next}
+use Rattle.edits.specs.Members.{members-of, all-ahead, kept-ahead, Near, Standing, Searching, Next}
 use Rattle.edits.specs.Merge.{Ready}
 use Rattle.edits.specs.declared.members.Ahead.{Ahead}
 use Rattle.edits.specs.declared.members.Taken.{Taken}
@@ -120,11 +120,11 @@ module _ (s : Bytes) (n : ℕ) (kept : Kept) (last : Bound) (a : Ahead) (h : Ahe
       ∙ least-append (name-in s) last Nothing (r .gone) []
       ∙ least-passed (name-in s) last Nothing (r .gone) (r .passed)
 
-  stands-is : (r : Taken) → Rest s n kept last a → Stands s kept a r → found-of r ≡ least (name-in s) last Nothing (searched s n kept)
+  stands-is : (r : Taken) → Rest s n kept last a → Standing s kept a r → found-of r ≡ least (name-in s) last Nothing (searched s n kept)
   stands-is End g e = sym (none-rest g e)
   stands-is (Member m b) g e = sym (first-rest (kept-ahead s kept b) m g (e .0))
 
-  searched-is : (r : Taken) → a ≡ all-ahead s n → Searched s kept last a r → found-of r ≡ least (name-in s) last Nothing (searched s n kept)
+  searched-is : (r : Taken) → a ≡ all-ahead s n → Searching s kept last a r → found-of r ≡ least (name-in s) last Nothing (searched s n kept)
   searched-is End q e = sym e ∙ ap (λ (x : Ahead). least (name-in s) last Nothing (kept-ahead s kept x)) q ∙ ap (least (name-in s) last Nothing) (all-is s n kept)
   searched-is (Member m b) q e = sym (e .0) ∙ ap (λ (x : Ahead). least (name-in s) last Nothing (kept-ahead s kept x)) q ∙ ap (least (name-in s) last Nothing) (all-is s n kept)
 
@@ -190,6 +190,6 @@ module _ (s : Bytes) (n : ℕ) (kept : Kept) (last : Bound) (a : Ahead) (h : Ahe
             };
       }
     where
-      head : (r : Taken) (m : MemberAt) (ms : List MemberAt) → kept-ahead s kept a ≡ m ∷ ms → Stands s kept a r → below-next x r → order x (name-in s m) ≡ Less
+      head : (r : Taken) (m : MemberAt) (ms : List MemberAt) → kept-ahead s kept a ≡ m ∷ ms → Standing s kept a r → below-next x r → order x (name-in s m) ≡ Less
       head End m ms q st l = let z : [] ≡ m ∷ ms = sym st ∙ q in let y : _≡_ {A = ℕ} 0 1 = cc in let w : ⊥ = omega arith in absurd w
       head (Member k b) m ms q st l = let z : k ∷ kept-ahead s kept b ≡ m ∷ ms = sym (st .0) ∙ q in let y : k ≡ m = cc in rw (← y) l

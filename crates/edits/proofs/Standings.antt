@@ -18,7 +18,7 @@ use Rattle.builders.specs.declared.search.Found.{Found}
 use Rattle.builders.specs.declared.search.Found.the-variants.{Nothing, At}
 use Rattle.builders.proofs.Searches.{length-kept, length-members, bytes-short}
 use Rattle.builders.proofs.Storing.{column-cons, column-none}
-use Rattle.edits.specs.Members.{kept-ahead, sizes-of, Near, Stands, Next}
+use Rattle.edits.specs.Members.{kept-ahead, sizes-of, Near, Standing, Next}
 use Rattle.edits.specs.declared.members.Ahead.{Ahead}
 use Rattle.edits.specs.declared.members.Sizes.{Sizes}
 use Rattle.edits.specs.declared.members.Taken.{Taken}
@@ -126,7 +126,7 @@ module _ (s : Bytes) (kept : Kept) (all : Ahead) where
       sized-falls = omega (arith, ap length e)
 
 -- The next as it stands, by the case.
-module _ (s : Bytes) (kept : Kept) (a : Ahead) (r : Taken) (st : Stands s kept a r) where
+module _ (s : Bytes) (kept : Kept) (a : Ahead) (r : Taken) (st : Standing s kept a r) where
   pub stands-end : r ≡ End → kept-ahead s kept a ≡ []
   stands-end e = rw e at st
 
@@ -136,7 +136,7 @@ module _ (s : Bytes) (kept : Kept) (a : Ahead) (r : Taken) (st : Stands s kept a
 
 -- The next in byte order, by how it was taken.
 module _ (s : Bytes) (kept : Kept) (last : Bound) (a : Ahead) where
-  pub next-stands : (r : Taken) → a .«is_rising» ≡ true → Stands s kept a r → Next s kept last a r
+  pub next-stands : (r : Taken) → a .«is_rising» ≡ true → Standing s kept a r → Next s kept last a r
   next-stands r t st = record { stands = λ _. st; searched = λ f. let z : true ≡ false = sym t ∙ f in let y : _≡_ {A = ℕ} 0 1 = cc in let w : ⊥ = omega arith in absurd w }
 
   -- All are searched.

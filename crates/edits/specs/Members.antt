@@ -69,17 +69,17 @@ pub record Near (a : Ahead) : Type 0 where
   pub val : a .at .val ≤ 2 ^ 31 + 2 ^ 28 * a .index
 
 -- The next member as it stands, and what is ahead behind it.
-abbrev pub Stands : Bytes → Kept → Ahead → Taken → Type 0
-Stands s kept a End = kept-ahead s kept a ≡ []
-Stands s kept a (Member m b) =
+abbrev pub Standing : Bytes → Kept → Ahead → Taken → Type 0
+Standing s kept a End = kept-ahead s kept a ≡ []
+Standing s kept a (Member m b) =
     (kept-ahead s kept a ≡ m ∷ kept-ahead s kept b) × (b .«is_rising» ≡ a .«is_rising») × Near b
 
 -- The next member by the search, behind which the same are searched.
-abbrev pub Searched : Bytes → Kept → Bound → Ahead → Taken → Type 0
-Searched s kept last a End = least (name-in s) last Nothing (kept-ahead s kept a) ≡ Nothing
-Searched s kept last a (Member m b) = (least (name-in s) last Nothing (kept-ahead s kept a) ≡ At m) × (b ≡ a)
+abbrev pub Searching : Bytes → Kept → Bound → Ahead → Taken → Type 0
+Searching s kept last a End = least (name-in s) last Nothing (kept-ahead s kept a) ≡ Nothing
+Searching s kept last a (Member m b) = (least (name-in s) last Nothing (kept-ahead s kept a) ≡ At m) × (b ≡ a)
 
 -- The next member in byte order, behind the last one taken.
 pub record Next (s : Bytes) (kept : Kept) (last : Bound) (a : Ahead) (r : Taken) : Type 0 where
-  pub stands : a .«is_rising» ≡ true → Stands s kept a r
-  pub searched : a .«is_rising» ≡ false → Searched s kept last a r
+  pub stands : a .«is_rising» ≡ true → Standing s kept a r
+  pub searched : a .«is_rising» ≡ false → Searching s kept last a r

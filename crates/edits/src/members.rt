@@ -21,7 +21,7 @@ ghost use Rattle.builders.specs.Search.{bound};
 ghost use Rattle.edits.specs.Members.{«members-of» as membersOf, «places-for» as placesFor};
 ghost use Rattle.edits.specs.Members.{«in-turn» as inTurn, «sizes-of» as sizesOf, «all-ahead» as allAhead};
 ghost use Rattle.edits.specs.Members.{«kept-ahead» as keptAhead};
-ghost use Rattle.edits.specs.Members.{Near, Stands, Next};
+ghost use Rattle.edits.specs.Members.{Near, Standing, Next};
 
 // How many members are written anew, and how long their names and values are.
 pub struct Sizes {
@@ -120,7 +120,7 @@ pub(crate) fn members_ahead(s: &[u8], n: usize) -> Ahead
 // The next member as they stand, those left out aside.
 fn next_standing(s: &[u8], ahead: Ahead, kept: Kept) -> Taken
     requires { ⌜ Near ahead ⌝ }
-    ensures { λ r. ⌜ Stands (now (s .entry)) kept ahead r ⌝ }
+    ensures { λ r. ⌜ Standing (now (s .entry)) kept ahead r ⌝ }
 {
     let mut here = ahead;
     while here.index < here.count {
