@@ -18,7 +18,7 @@ use layout::util::read_header;
 ghost use mathlib.Core.Path.{_≡_};
 ghost use lib.ListN.{length};
 ghost use Rattle.layout.specs.Read.{header, read};
-ghost use Rattle.layout.specs.Check.{checked};
+ghost use Rattle.layout.specs.Check.{checked, nesting as nestingOf};
 ghost use Rattle.layout.specs.Ended.{Ended};
 ghost use Rattle.layout.specs.declared.check.Check.the-variants.{Readable};
 ghost use Rattle.builders.specs.Build.{«on-two» as onTwo};
@@ -51,17 +51,25 @@ fn is_deep(given: Given, nesting: Nesting) -> bool
 }
 
 // Writes the items of two records, not both objects, as one array, where it is not too deep and there is room for it.
-fn write_items(left: &[u8], right: &[u8], out: &mut [u8]) -> Ending
-    requires { ⌜ (checked (read (now left)) ≡ Readable) × (checked (read (now right)) ≡ Readable) × NoPair (header (now left)) (header (now right)) ⌝ }
+fn write_items(
+    left: &[u8],
+    left_nesting: Nesting,
+    right: &[u8],
+    right_nesting: Nesting,
+    out: &mut [u8],
+) -> Ending
+    requires { ⌜ (checked (read (now left)) ≡ Readable) × (checked (read (now right)) ≡ Readable)
+        × («left_nesting» ≡ nestingOf (read (now left))) × («right_nesting» ≡ nestingOf (read (now right)))
+        × NoPair (header (now left)) (header (now right)) ⌝ }
     ensures { λ e. ⌜ Ended e (now (out .entry)) (now (out .exit))
         (onTwo concatOf (now (left .entry)) (now (right .entry)) (length (now (out .entry)))) ⌝ }
 {
     let l = items_of(left);
     let r = items_of(right);
-    if is_deep(l, check_nesting(left)) {
+    if is_deep(l, left_nesting) {
         return Ending::Refused(Refusal::Result);
     }
-    if is_deep(r, check_nesting(right)) {
+    if is_deep(r, right_nesting) {
         return Ending::Refused(Refusal::Result);
     }
     let header = ARRAY_CONTAINER_TAG | (given_count(l) + given_count(r)) as u32;
@@ -73,17 +81,19 @@ pub fn concat(left: &[u8], right: &[u8], out: &mut [u8]) -> Ending
     ensures { λ e. ⌜ Ended e (now (out .entry)) (now (out .exit))
         (onTwo concatOf (now (left .entry)) (now (right .entry)) (length (now (out .entry)))) ⌝ }
 {
-    if let Check::Refused(refusal) = check_record(left) {
+    let left_nesting = check_nesting(left);
+    if let Nesting::Refused(refusal) = left_nesting {
         return Ending::Refused(refusal);
     }
-    if let Check::Refused(refusal) = check_record(right) {
+    let right_nesting = check_nesting(right);
+    if let Nesting::Refused(refusal) = right_nesting {
         return Ending::Refused(refusal);
     }
     let Header::Object(m) = read_header(left) else {
-        return write_items(left, right, out);
+        return write_items(left, left_nesting, right, right_nesting, out);
     };
     let Header::Object(n) = read_header(right) else {
-        return write_items(left, right, out);
+        return write_items(left, left_nesting, right, right_nesting, out);
     };
     write_merged(left, m, right, n, out)
 }
