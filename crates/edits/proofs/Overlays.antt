@@ -10,7 +10,7 @@ use lib.ListN.{length}
 use Rattle.layout.specs.Bytes.{Bytes, Octets, be32}
 use Rattle.layout.specs.Answer.{gives}
 use Rattle.layout.specs.Tree.{object, Members, names}
-use Rattle.layout.specs.Encode.{payload, name-parts}
+use Rattle.layout.specs.Encode.{payload}
 use Rattle.layout.specs.Read.{read}
 use Rattle.layout.specs.Place.{parts-at}
 use Rattle.layout.specs.Patch.{patch}
@@ -37,15 +37,12 @@ use Rattle.edits.specs.Concat.{concat}
 use Rattle.edits.specs.Members.{members-of, places-for}
 use Rattle.edits.specs.Merge.{Objects, in-a-row, merged, behind-all}
 use Rattle.edits.proofs.Concats.{concat-given, concat-refused, concat-depth, concat-size}
+use Rattle.edits.proofs.Spots.{texts-names}
 use Rattle.edits.proofs.Tables.{object-names}
 use Rattle.edits.proofs.Withouts.{object-word}
 use Rattle.edits.proofs.Sorteds.{Object-at, stand-sizes, stand-woven}
 use Rattle.edits.proofs.Moves.{both-stand}
 use Rattle.edits.proofs.Merges.{objects-at}
-
-texts-names : (ns : List Bytes) → texts (name-parts ns) ≡ ns
-texts-names [] = refl
-texts-names (n ∷ ns) = ap (λ (l : List Bytes). n ∷ l) (texts-names ns)
 
 object-reads : (s : Bytes) (n : ℕ) → Octets s → (w : Object-at s n) → read s ≡ gives (object (w .members))
 object-reads s n o w =

@@ -85,7 +85,7 @@ array-spot ts s p a e l q =
 
 -- An object.
 
-texts-names : (ns : List Bytes) → texts (name-parts ns) ≡ ns
+pub texts-names : (ns : List Bytes) → texts (name-parts ns) ≡ ns
 texts-names [] = refl
 texts-names (n ∷ ns) = ap (λ (l : List Bytes). n ∷ l) (texts-names ns)
 
