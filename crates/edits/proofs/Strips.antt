@@ -261,7 +261,7 @@ strip-finds ms d n =
     go nothing = refl
     go (some t) = test t (is-null t)
 
--- Every item of an array stays in its place, stripped: "nulls in arrays stay".
+-- Every item of an array stays in its place, stripped: "nulls in arrays .. stay".
 pub strip-item : (ts : Items) (i : ℕ) → item-at (stripped-items ts) i ≡ (item-at ts i then λ t. some (stripped t))
 strip-item none i = refl
 strip-item (item t ts) zero = refl
