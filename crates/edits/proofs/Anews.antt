@@ -19,7 +19,7 @@ use Rattle.edits.specs.Delete.{anew}
 use Rattle.edits.specs.Spot.{behind}
 use Rattle.edits.specs.Cut.{Left, Cuts, Onward, InRuns, left-of, step-at, steps-from, way-behind, run-entries, run-payloads, run-behind}
 use Rattle.edits.specs.declared.find.PartAt.{PartAt}
-use Rattle.edits.specs.declared.delete.Cursor.{Cursor}
+use Rattle.edits.specs.declared.find.Cursor.{Cursor}
 use Rattle.edits.specs.declared.delete.Way.{Way}
 use Rattle.edits.proofs.Tables.{parted}
 use Rattle.edits.proofs.Cuts.{Part-at, at-part, anew-stored}

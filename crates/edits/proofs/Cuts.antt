@@ -14,7 +14,7 @@ use Rattle.layout.proofs.Readables.{record-of-length}
 use Rattle.edits.specs.Spot.{behind}
 use Rattle.edits.specs.Cut.{Left, PartOf, parts-of, without, without-member, run-entries, run-payloads, run-behind}
 use Rattle.edits.specs.declared.find.PartAt.{PartAt}
-use Rattle.edits.specs.declared.delete.Cursor.{Cursor}
+use Rattle.edits.specs.declared.find.Cursor.{Cursor}
 use Rattle.edits.proofs.Rows.{row-lengths, row-entry}
 use Rattle.edits.proofs.Tables.{Parted}
 use Rattle.edits.proofs.Runs.{laid, laid-append, laid-one, laid-record, Run, run-is, run-stored}

@@ -43,7 +43,7 @@ pub mod Moves
 pub mod Turns
 pub mod Merges
 pub mod Overlays
-pub mod ConcatCases
+pub mod ConcatWrites
 pub mod PathResults
 pub mod OperatorResults
 pub mod ForC

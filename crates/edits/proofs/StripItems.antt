@@ -30,7 +30,7 @@ use Rattle.edits.specs.Spot.{behind}
 use Rattle.edits.specs.Strip.{stripped, stripped-items, unrepeated, unrepeated-items}
 use Rattle.edits.specs.Stripping.{stripped-of, unrepeated-of, Strippable, strip-item, strip-entry, unrepeated-item, Strips}
 use Rattle.edits.specs.declared.find.PartAt.{PartAt}
-use Rattle.edits.specs.declared.delete.Cursor.{Cursor}
+use Rattle.edits.specs.declared.find.Cursor.{Cursor}
 use Rattle.edits.specs.declared.strip.Stripped.{Stripped}
 use Rattle.edits.specs.declared.strip.Stripped.the-variants.{Len, Repeated}
 use Rattle.edits.proofs.Strips.{strip-shrinks}
@@ -38,7 +38,7 @@ use Rattle.edits.proofs.Rows.{row-entry, row-bytes, row-lengths}
 use Rattle.edits.proofs.Runs.{laid, laid-append, laid-record}
 use Rattle.edits.proofs.Withouts.{array-word}
 use Rattle.edits.proofs.Tables.{Contains}
-use Rattle.edits.proofs.Stripped.{bared, Tree-at, strippable-at, stripped-at}
+use Rattle.edits.proofs.Stripped.{stripped-tree, Tree-at, strippable-at, stripped-at}
 
 -- Some items and one more.
 abbrev one-more : Items → Tree → Items
@@ -125,7 +125,7 @@ pub record Array-at (s : Bytes) (n a : ℕ) : Type 0 where
 
 pub array-at : (s : Bytes) (n a : ℕ) → Octets s → Strippable s a → header s ≡ Array n → Array-at s n a
 array-at s n a o st h =
-    let b = bared s a o st in
+    let b = stripped-tree s a o st in
     let w = an-array (b .tree) n (sym (b .contained .head) ∙ h) in
     let k : Contains a s (array (w .0)) = rw (w .1) at (b .inside) in
     record {

@@ -57,7 +57,7 @@ use Rattle.edits.proofs.Withouts.{object-word}
 use Rattle.edits.proofs.Sorteds.{Object-at, object-at, stand-count, stand-sizes, stand-woven}
 use Rattle.edits.proofs.SortedAnews.{nth-in, column-part}
 use Rattle.edits.proofs.Aheads.{searched, all-is, found-of, AheadOf, ahead-starts, ahead-taken, next-is}
-use Rattle.edits.proofs.Stripped.{bared, no-longer, Tree-at, strippable-at, stripped-at}
+use Rattle.edits.proofs.Stripped.{stripped-tree, no-longer, Tree-at, strippable-at, stripped-at}
 
 -- Only null has code 0.
 null-code : (t : Tree) → eqb (code (kind t)) 0 ≡ is-null t
@@ -204,7 +204,7 @@ stand-nth name value entry (x ∷ xs) (member k t ms) r h (suc i) m e =
     later Greater q d = refl
 
 -- An object that is stripped, by its bytes.
-pub record Bare-object (s : Bytes) (n a : ℕ) : Type 0 where
+pub record Object-stripped (s : Bytes) (n a : ℕ) : Type 0 where
   pub object-is : Object-at s n
   pub fine : AllFine (object-is .members) s (a - 1)
   pub allowed : a ≤ 64
@@ -213,9 +213,9 @@ pub record Bare-object (s : Bytes) (n a : ℕ) : Type 0 where
   pub stripped-is : stripped-of s ≡ payload (object (in-order (stripped-members (object-is .members))))
   pub unrepeated-is : unrepeated-of s ≡ (distinct (names (kept (object-is .members))) && unrepeated-members (object-is .members))
 
-pub bare-object : (s : Bytes) (n a : ℕ) → Octets s → Strippable s a → header s ≡ Object n → Bare-object s n a
-bare-object s n a o st h =
-    let b = bared s a o st in
+pub object-stripped : (s : Bytes) (n a : ℕ) → Octets s → Strippable s a → header s ≡ Object n → Object-stripped s n a
+object-stripped s n a o st h =
+    let b = stripped-tree s a o st in
     let w = object-at s n o (ap checked (b .contained .reads)) (st .short) h in
     let e : b .tree ≡ object (w .members) = gives-inj (sym (b .contained .reads) ∙ w .contained .reads) in
     let k : Contains a s (object (w .members)) = rw e at (b .inside) in
@@ -230,7 +230,7 @@ bare-object s n a o st h =
     }
 
 -- The loop: the kept members in byte order.
-module _ (s : Bytes) (n a : ℕ) (w : Bare-object s n a) where
+module _ (s : Bytes) (n a : ℕ) (w : Object-stripped s n a) where
   abbrev ms : Members
   ms = w .object-is .members
 
@@ -249,8 +249,8 @@ module _ (s : Bytes) (n a : ℕ) (w : Bare-object s n a) where
   own : Stand (name-in s) (value-in s) own-entry all (in-order (kept ms))
   own = stand-sorted (name-in s) (value-in s) own-entry (searched s n NonNull) (kept ms) found-kept
 
-  bare-stand : Stand (name-in s) (strip-value s) (value-entry s) all (in-order (stripped-members ms))
-  bare-stand =
+  stripped-stand : Stand (name-in s) (strip-value s) (value-entry s) all (in-order (stripped-members ms))
+  stripped-stand =
       stand-sorted (name-in s) (strip-value s) (value-entry s) (searched s n NonNull) (stripped-members ms)
       (stand-stripped s (a - 1) (w .octets) short lower 0 (members-at s s (members-of s n) n) ms (w .object-is .stand) (w .fine))
 
@@ -294,8 +294,8 @@ module _ (s : Bytes) (n a : ℕ) (w : Bare-object s n a) where
       go true q = let z : ⊥ = omega (arith, counted-kept, counted-all, in-order-count (kept ms) q) in absurd z
 
   -- How long what is stored can be.
-  pub bare-room : 4 + 8 * length (searched s n NonNull) + length (column (name-in s) (searched s n NonNull)) + length (column (strip-value s) all) ≤ length s
-  bare-room =
+  pub stripped-room : 4 + 8 * length (searched s n NonNull) + length (column (name-in s) (searched s n NonNull)) + length (column (strip-value s) all) ≤ length s
+  stripped-room =
       let k = stand-sizes (name-in s) (value-in s) own-entry (searched s n NonNull) (kept ms) found-kept in
       let c = column-sorted (name-in s) (strip-value s) (searched s n NonNull) in
       let d = column-less (strip-value s) (value-in s) (searched s n NonNull) (λ m. shorter m) in
@@ -337,39 +337,39 @@ module _ (s : Bytes) (n a : ℕ) (w : Bare-object s n a) where
         ∙ sym (in-order-names (kept ms) apart)
         ∙ sym (ap length (stand-names (name-in s) (value-in s) own-entry all (in-order (kept ms)) own))
 
-    pub bare-stored : (z : Sizes) (to : Places) (at v end : ℕ) (b b₁ b₂ : Bytes) → z ≡ sizes-of s (searched s n NonNull) → to ≡ places-for z at
+    pub object-stored : (z : Sizes) (to : Places) (at v end : ℕ) (b b₁ b₂ : Bytes) → z ≡ sizes-of s (searched s n NonNull) → to ≡ places-for z at
         → v ≡ bitOr (2 ^ 30) (z .count) → b₁ ≡ patch b at (be32 v)
         → b₂ ≡ woven (name-in s) (strip-value s) (value-entry s) b₁ (to .«key_jentry») (to .«val_jentry») (to .key) (to .val) all
         → end ≡ to .val + length (column (strip-value s) all)
         → Strips (Len (end - at)) (unrepeated-of s) (stripped-of s) b₂ (patch b at (stripped-of s))
-    bare-stored z to at v end b b₁ b₂ ez et ev e₁ e₂ ee =
+    object-stored z to at v end b b₁ b₂ ez et ev e₁ e₂ ee =
         let c : z .count ≡ length all = ap (λ (x : Sizes). x .count) ez ∙ omega (arith, full, length-sorted (name-in s) (searched s n NonNull)) in
         let k : z .keys ≡ length (column (name-in s) all) = ap (λ (x : Sizes). x .keys) ez ∙ keys-same in
-        let q : v ≡ 2 ^ 30 + z .count = ev ∙ object-word (z .count) (omega (arith, ap (λ (x : Sizes). x .count) ez, bare-room, short)) in
+        let q : v ≡ 2 ^ 30 + z .count = ev ∙ object-word (z .count) (omega (arith, ap (λ (x : Sizes). x .count) ez, stripped-room, short)) in
         let tv : to .val ≡ at + 4 + 4 * z .count + 4 * z .count + z .keys = ap (λ (x : Places). x .val) et in
-        let sum = stand-sizes (name-in s) (strip-value s) (value-entry s) all (in-order (stripped-members ms)) bare-stand in
+        let sum = stand-sizes (name-in s) (strip-value s) (value-entry s) all (in-order (stripped-members ms)) stripped-stand in
         rw (w .stripped-is) (
           none-repeats,
           omega (arith, ee, tv, c, k, sum),
-          stand-woven (name-in s) (strip-value s) (value-entry s) all (in-order (stripped-members ms)) bare-stand b b₁ b₂ at z c k (rw q at e₁) (rw et at e₂),
+          stand-woven (name-in s) (strip-value s) (value-entry s) all (in-order (stripped-members ms)) stripped-stand b b₁ b₂ at z c k (rw q at e₁) (rw et at e₂),
         )
 
 -- The loop, as the code goes: `i` members are stored, what is ahead is above the last of them, and no value so far has a name twice.
-pub record Baring (s : Bytes) (n : ℕ) (o : Bytes) (to₀ : Places) (out last : Bytes) (to : Places) (ahead : Ahead) (i : ℕ) : Type 0 where
+pub record Storing-members (s : Bytes) (n : ℕ) (o : Bytes) (to₀ : Places) (out last : Bytes) (to : Places) (ahead : Ahead) (i : ℕ) : Type 0 where
   pub stored : Stored (name-in s) (strip-value s) (value-entry s) (searched s n NonNull) o to₀ out last to i
   pub rest : AheadOf s n NonNull (bound (eqb i 0) last) ahead
   pub each : (k : ℕ) (m : MemberAt) → k < i → nth (sorted (name-in s) (searched s n NonNull)) k ≡ At m → unrepeated-item s (m .val) ≡ true
 
-pub baring-starts : (s : Bytes) (n a : ℕ) (w : Bare-object s n a) (o last : Bytes) (at : Places) (ahead : Ahead) → ahead ≡ all-ahead s n
-    → Baring s n o at o last at ahead 0
-baring-starts s n a w o last at ahead e =
+pub members-starts : (s : Bytes) (n a : ℕ) (w : Object-stripped s n a) (o last : Bytes) (at : Places) (ahead : Ahead) → ahead ≡ all-ahead s n
+    → Storing-members s n o at o last at ahead 0
+members-starts s n a w o last at ahead e =
     record {
       stored = begins _ _ _ _ _ _ last;
       rest = rw e (ahead-starts s n NonNull (w .object-is));
       each = λ k m h. let z : ⊥ = omega arith in absurd z;
     }
 
-pub near-starts : (s : Bytes) (n a : ℕ) (w : Bare-object s n a) (ahead : Ahead) → ahead ≡ all-ahead s n → Near ahead
+pub near-starts : (s : Bytes) (n a : ℕ) (w : Object-stripped s n a) (ahead : Ahead) → ahead ≡ all-ahead s n → Near ahead
 near-starts s n a w ahead e = rw e (ahead-starts s n NonNull (w .object-is) .near)
 
 -- The sizes, by what the code measures.
@@ -377,34 +377,34 @@ pub sizes-measured : (s : Bytes) (n : ℕ) (z : Sizes) (ahead : Ahead) → ahead
     → z ≡ sizes-of s (searched s n NonNull)
 sizes-measured s n z ahead e h = h ∙ ap (λ (x : Ahead). sizes-of s (kept-ahead s NonNull x)) e ∙ ap (sizes-of s) (all-is s n NonNull)
 
-module _ (s : Bytes) (n a at : ℕ) (w : Bare-object s n a) (hat : at ≤ 65536 * (64 - a)) (z : Sizes) (ez : z ≡ sizes-of s (searched s n NonNull)) where
+module _ (s : Bytes) (n a at : ℕ) (w : Object-stripped s n a) (hat : at ≤ 65536 * (64 - a)) (z : Sizes) (ez : z ≡ sizes-of s (searched s n NonNull)) where
   abbrev in-turn : List MemberAt
   in-turn = sorted (name-in s) (searched s n NonNull)
 
   count-is : z .count ≡ length (searched s n NonNull)
   count-is = ap (λ (x : Sizes). x .count) ez
 
-  pub bare-sizes : 4 + 8 * z .count + z .keys + length (column (strip-value s) (sorted (name-in s) (searched s n NonNull))) ≤ 65536
-  bare-sizes = omega (arith, bare-room s n a w, count-is, ap (λ (x : Sizes). x .keys) ez, w .object-is .short)
+  pub stripped-sizes : 4 + 8 * z .count + z .keys + length (column (strip-value s) (sorted (name-in s) (searched s n NonNull))) ≤ 65536
+  stripped-sizes = omega (arith, stripped-room s n a w, count-is, ap (λ (x : Sizes). x .keys) ez, w .object-is .short)
 
   module _ (o : Bytes) (to₀ : Places) (et : to₀ ≡ places-for z at) (out last : Bytes) (to : Places) (ahead : Ahead) (i : ℕ)
-      (now : Baring s n o to₀ out last to ahead i) where
+      (now : Storing-members s n o to₀ out last to ahead i) where
     -- Where the next member is stored.
-    pub baring-room : (to .«key_jentry» ≤ at + 65536) × (to .«val_jentry» ≡ at + 4 + 4 * z .count + 4 * i) × (at + 4 + 8 * z .count ≤ to .key) × (to .key ≤ 2 ^ 23 + 2 ^ 28 * i)
+    pub members-room : (to .«key_jentry» ≤ at + 65536) × (to .«val_jentry» ≡ at + 4 + 4 * z .count + 4 * i) × (at + 4 + 8 * z .count ≤ to .key) × (to .key ≤ 2 ^ 23 + 2 ^ 28 * i)
         × (at + 4 + 8 * z .count ≤ to .val) × (to .val ≤ at + 65536) × (i ≤ z .count)
-    baring-room =
+    members-room =
         let f0 = ap (λ (x : Places). x .«key_jentry») et in
         let f1 = ap (λ (x : Places). x .«val_jentry») et in
         let f2 = ap (λ (x : Places). x .key) et in
         let f3 = ap (λ (x : Places). x .val) et in
         let st = now .stored in
         let c : i ≤ z .count = omega (arith, st .sought .count, length-sorted (name-in s) (searched s n NonNull), count-is) in (
-          omega (arith, st .key-jentry, f0, bare-sizes, c),
+          omega (arith, st .key-jentry, f0, stripped-sizes, c),
           omega (arith, st .val-jentry, f1),
           omega (arith, st .key-on, f2),
-          omega (arith, st .near-key, f2, bare-sizes, hat),
+          omega (arith, st .near-key, f2, stripped-sizes, hat),
           omega (arith, st .val-on, f3),
-          omega (arith, st .val-rest, f3, bare-sizes),
+          omega (arith, st .val-rest, f3, stripped-sizes),
           c,
         )
 
@@ -412,21 +412,21 @@ module _ (s : Bytes) (n a at : ℕ) (w : Bare-object s n a) (hat : at ≤ 65536 
       found : found-of r ≡ least (name-in s) (bound (eqb i 0) last) Nothing (searched s n NonNull)
       found = next-is s n NonNull (bound (eqb i 0) last) ahead (now .rest) r hr
 
-      pub baring-few : i < z .count → r ≡ End → unrepeated-of s ≡ false
-      baring-few h q =
+      pub members-few : i < z .count → r ≡ End → unrepeated-of s ≡ false
+      members-few h q =
           too-few s n a w (omega (arith, h, count-is, sought-end (name-in s) (searched s n NonNull) last i (now .stored .sought) (found-of r) found (ap found-of q)))
 
       module _ (m : MemberAt) (next : Ahead) (q : r ≡ Member m next) where
         is-nth : nth (sorted (name-in s) (searched s n NonNull)) i ≡ At m
         is-nth = sought-nth (name-in s) (searched s n NonNull) last i (now .stored .sought) (found-of r) found m (ap found-of q)
 
-        pub baring-asks : code-of (m .val .jentry) ≡ 5 → Strippable (value-in s m) (a - 1)
-        baring-asks = member-asks s n a w i m is-nth
+        pub members-asks : code-of (m .val .jentry) ≡ 5 → Strippable (value-in s m) (a - 1)
+        members-asks = member-asks s n a w i m is-nth
 
         module _ (e : Stripped) (out₁ : Bytes) (st : Strips e (unrepeated-item s (m .val)) (strip-item s (m .val)) out₁
             (stored (name-in s) (strip-value s) (value-entry s) out (to .«key_jentry») (to .«val_jentry») (to .key) (to .val) m)) where
-          pub baring-repeats : e ≡ Repeated → unrepeated-of s ≡ false
-          baring-repeats qe = let y : unrepeated-item s (m .val) ≡ false = rw qe at st in member-repeats s n a w i m is-nth y
+          pub members-repeats : e ≡ Repeated → unrepeated-of s ≡ false
+          members-repeats qe = let y : unrepeated-item s (m .val) ≡ false = rw qe at st in member-repeats s n a w i m is-nth y
 
           module _ (len : ℕ) (qe : e ≡ Len len) where
             told : (unrepeated-item s (m .val) ≡ true) × (len ≡ length (strip-item s (m .val)))
@@ -434,11 +434,11 @@ module _ (s : Bytes) (n a at : ℕ) (w : Bare-object s n a) (hat : at ≤ 65536 
             told = rw qe at st
 
             pub len-short : len ≤ 65536
-            len-short = omega (arith, told .1, bare-sizes, column-part (strip-value s) (sorted (name-in s) (searched s n NonNull)) i m is-nth)
+            len-short = omega (arith, told .1, stripped-sizes, column-part (strip-value s) (sorted (name-in s) (searched s n NonNull)) i m is-nth)
 
-            pub baring-on : (key : Bytes) → key ≡ name-in s m
-                → Baring s n o to₀ out₁ key (record { «key_jentry» = to .«key_jentry» + 4; «val_jentry» = to .«val_jentry» + 4; key = to .key + length key; val = to .val + len }) next (i + 1)
-            baring-on key hk =
+            pub members-on : (key : Bytes) → key ≡ name-in s m
+                → Storing-members s n o to₀ out₁ key (record { «key_jentry» = to .«key_jentry» + 4; «val_jentry» = to .«val_jentry» + 4; key = to .key + length key; val = to .val + len }) next (i + 1)
+            members-on key hk =
                 let later : eqb (i + 1) 0 ≡ false = ne-eqb (i + 1) 0 (λ y. omega arith) in
                 record {
                   stored =
@@ -459,12 +459,12 @@ module _ (s : Bytes) (n a at : ℕ) (w : Bare-object s n a) (hat : at ≤ 65536 
                     let g : y ≡ m = cc in
                     rw g (told .0)
 
-    pub baring-ends : (v : ℕ) (o₀ : Bytes) → z .count ≤ i → v ≡ bitOr (2 ^ 30) (z .count) → o ≡ patch o₀ at (be32 v)
+    pub members-ends : (v : ℕ) (o₀ : Bytes) → z .count ≤ i → v ≡ bitOr (2 ^ 30) (z .count) → o ≡ patch o₀ at (be32 v)
         → Strips (Len (to .val - at)) (unrepeated-of s) (stripped-of s) out (patch o₀ at (stripped-of s))
-    baring-ends v o₀ h ev eo =
+    members-ends v o₀ h ev eo =
         let st = now .stored in
         let full : length (searched s n NonNull) ≤ length (sorted (name-in s) (searched s n NonNull)) = omega (arith, h, count-is, st .sought .count) in
         let done : length (sorted (name-in s) (searched s n NonNull)) ≤ i = omega (arith, h, count-is, length-sorted (name-in s) (searched s n NonNull)) in
-        bare-stored s n a w full (λ k m e. now .each k m (omega (arith, done, nth-inside (sorted (name-in s) (searched s n NonNull)) k m e)) e) z to₀ at v (to .val) o₀ o out ez et ev eo
+        object-stored s n a w full (λ k m e. now .each k m (omega (arith, done, nth-inside (sorted (name-in s) (searched s n NonNull)) k m e)) e) z to₀ at v (to .val) o₀ o out ez et ev eo
         (ends-full (name-in s) (strip-value s) (value-entry s) (searched s n NonNull) o to₀ out last to i st i (omega (arith, h, count-is)) (omega arith))
         (ends-val (name-in s) (strip-value s) (value-entry s) (searched s n NonNull) o to₀ out last to i st done)

@@ -75,14 +75,14 @@ module _ (s o e : Bytes) (r : Stripped) (d : Strips r (unrepeated-of s) (strippe
 
 -- The numbers of strip.
 -- A scalar is its own strip.
-bare-scalar : (t : Tree) (m : ℕ) → head-of t ≡ Scalar m → (stripped t ≡ t) × (unrepeated t ≡ true)
-bare-scalar null m h = (refl, refl)
-bare-scalar (boolean x) m h = (refl, refl)
-bare-scalar (number b) m h = (refl, refl)
-bare-scalar (string b) m h = (refl, refl)
-bare-scalar (extension b) m h = (refl, refl)
-bare-scalar (array ts) m h = let z : _≡_ {A = ℕ} 0 1 = cc in let w : ⊥ = omega arith in absurd w
-bare-scalar (object ms) m h = let z : _≡_ {A = ℕ} 0 1 = cc in let w : ⊥ = omega arith in absurd w
+scalar-strip : (t : Tree) (m : ℕ) → head-of t ≡ Scalar m → (stripped t ≡ t) × (unrepeated t ≡ true)
+scalar-strip null m h = (refl, refl)
+scalar-strip (boolean x) m h = (refl, refl)
+scalar-strip (number b) m h = (refl, refl)
+scalar-strip (string b) m h = (refl, refl)
+scalar-strip (extension b) m h = (refl, refl)
+scalar-strip (array ts) m h = let z : _≡_ {A = ℕ} 0 1 = cc in let w : ⊥ = omega arith in absurd w
+scalar-strip (object ms) m h = let z : _≡_ {A = ℕ} 0 1 = cc in let w : ⊥ = omega arith in absurd w
 
 module _ (a o : Bytes) (c : Check) (hc : c ≡ checked (read a)) where
   abbrev On : Ending → Bytes → Type 0
@@ -103,7 +103,7 @@ module _ (a o : Bytes) (c : Check) (hc : c ≡ checked (read a)) where
     pub strip-scalar : (m : ℕ) → h ≡ Scalar m → (e : Ending) (o′ : Bytes) → Ended e o o′ (into (length o) a) → On e o′
     unfolding on-one _>>=_
     strip-scalar m q e o′ w =
-        let s = bare-scalar t m (sym (target .1 .head) ∙ sym hh ∙ q) in
+        let s = scalar-strip t m (sym (target .1 .head) ∙ sym hh ∙ q) in
         let r : (read a >>= strip) ≡ gives t = rw (target .1 .reads) (strip-given t (s .1) ∙ ap gives (s .0)) in
         rw (r, target .1 .bytes) w
 

@@ -35,12 +35,12 @@ use Rattle.edits.specs.Strip.{stripped, unrepeated}
 use Rattle.edits.specs.Stripping.{stripped-in, stripped-of, unrepeated-of, Strippable, strip-item, strip-entry, strip-value, value-entry, unrepeated-item, Strips}
 use Rattle.edits.specs.declared.strip.Stripped.{Stripped}
 use Rattle.edits.specs.declared.strip.Stripped.the-variants.{Len, Repeated}
-use Rattle.edits.specs.declared.delete.Cursor.{Cursor}
+use Rattle.edits.specs.declared.find.Cursor.{Cursor}
 use Rattle.edits.proofs.Strips.{kind-stripped, strip-shrinks}
 use Rattle.edits.proofs.Tables.{Contains, contains, contains-more}
 
 -- A container that can be stripped, by its tree.
-pub record Bared (s : Bytes) (a : ℕ) : Type 0 where
+pub record Stripped-tree (s : Bytes) (a : ℕ) : Type 0 where
   pub tree : Tree
   pub inside : Contains a s tree
   pub contained : Contains 64 s tree
@@ -49,9 +49,9 @@ pub record Bared (s : Bytes) (a : ℕ) : Type 0 where
   pub shorter : length (stripped-of s) ≤ length s
   pub short : length s ≤ 65536
 
-pub bared : (s : Bytes) (a : ℕ) → Octets s → Strippable s a → Bared s a
+pub stripped-tree : (s : Bytes) (a : ℕ) → Octets s → Strippable s a → Stripped-tree s a
 unfolding stripped-of unrepeated-of
-bared s a o h =
+stripped-tree s a o h =
     let k = contains a s o (h .short) (h .readable) in
     let w : Contains 64 s (k .0) = contains-more a 64 s (k .0) o (h .allowed) (k .1) in
     record {
@@ -88,14 +88,14 @@ code-five Container d = absurd (d refl)
 code-five Extension d = refl
 
 -- A tree that is no container is its own strip, and has no name.
-bare : (t : Tree) → (kind t ≡ Container → ⊥) → (stripped t ≡ t) × (unrepeated t ≡ true)
-bare null d = (refl, refl)
-bare (boolean x) d = (refl, refl)
-bare (number b) d = (refl, refl)
-bare (string b) d = (refl, refl)
-bare (extension b) d = (refl, refl)
-bare (array ts) d = absurd (d refl)
-bare (object ms) d = absurd (d refl)
+own-strip : (t : Tree) → (kind t ≡ Container → ⊥) → (stripped t ≡ t) × (unrepeated t ≡ true)
+own-strip null d = (refl, refl)
+own-strip (boolean x) d = (refl, refl)
+own-strip (number b) d = (refl, refl)
+own-strip (string b) d = (refl, refl)
+own-strip (extension b) d = (refl, refl)
+own-strip (array ts) d = absurd (d refl)
+own-strip (object ms) d = absurd (d refl)
 
 container-or : (t : Tree) → Dec (kind t ≡ Container)
 container-or null = no (λ e. let z : _≡_ {A = ℕ} 0 1 = cc in omega arith)
@@ -153,7 +153,7 @@ module _ (s : Bytes) (x : ItemAt) (t : Tree) (a : ℕ) (h : Tree-at s x t a) whe
       go (yes k) =
           let r : nested 64 (payload t) ≡ gives t = reads-at k 64 (omega (arith, h .deep, h .allowed)) in
           (rw (is-five k, h .bytes, r), rw (is-five k, h .bytes, r, kind-stripped t, k), rw (is-five k, h .bytes, r))
-      go (no d) = (rw (no-five d, h .bytes, bare t d .0), rw (no-five d, h .entry, bare t d .0), rw (no-five d, bare t d .1))
+      go (no d) = (rw (no-five d, h .bytes, own-strip t d .0), rw (no-five d, h .entry, own-strip t d .0), rw (no-five d, own-strip t d .1))
 
 -- An item stored, as the code goes.
 module _ (s : Bytes) (x : ItemAt) (b : Bytes) (hb : b ≡ bytes-at s x) (c : ℕ) (hc : c ≡ code-of (x .jentry)) (at : Cursor) (o : Bytes) where
@@ -177,11 +177,11 @@ module _ (s : Bytes) (x : ItemAt) (b : Bytes) (hb : b ≡ bytes-at s x) (c : ℕ
       pub item-short : (a : ℕ) → Octets s → Strippable b a → len ≤ 65536
       item-short a os st =
           let ob : Octets b = rw hb (octets-take (length-of (x .jentry)) (drop (x .place) s) (octets-drop (x .place) s os)) in
-          omega (arith, by-len .1, bared b a ob st .shorter, st .short)
+          omega (arith, by-len .1, stripped-tree b a ob st .shorter, st .short)
 
-      pub item-bare : (e : ℕ) (o₂ : Bytes) → len ≤ 65536 → e ≡ entry-of (5 % 2 ^ 3) (len % 2 ^ 28) → o₂ ≡ patch o₁ (at .jentry) (be32 e) → at .jentry + 4 ≤ at .place
+      pub item-stripped : (e : ℕ) (o₂ : Bytes) → len ≤ 65536 → e ≡ entry-of (5 % 2 ^ 3) (len % 2 ^ 28) → o₂ ≡ patch o₁ (at .jentry) (be32 e) → at .jentry + 4 ≤ at .place
           → Strips (Len len) (unrepeated-item s x) (strip-item s x) o₂ whole
-      item-bare e o₂ l ee e₂ ap′ =
+      item-stripped e o₂ l ee e₂ ap′ =
           let ez : e ≡ entry-of 5 (length (stripped-of b)) = ee ∙ omega (arith, by-len .1) in
           let lb = length-be32 (entry-of 5 (length (stripped-of b))) in (
             rw (test, ← hb) (by-len .0),
@@ -202,13 +202,13 @@ pub strips-as : (r : Stripped) (f : Bool) (b o w w′ : Bytes) → w ≡ w′ �
 strips-as r f b o w w′ e h = rw (← e) h
 
 -- A member stored: the name's entry and the name, then the value as an item.
-pub member-bare : (s : Bytes) (m : MemberAt) (at : Places) (key o o₁ o₂ out : Bytes) (r : Stripped) → key ≡ bytes-at s (m .key)
+pub member-stripped : (s : Bytes) (m : MemberAt) (at : Places) (key o o₁ o₂ out : Bytes) (r : Stripped) → key ≡ bytes-at s (m .key)
     → o₁ ≡ patch o (at .«key_jentry») (be32 (m .key .jentry)) → o₂ ≡ patch o₁ (at .key) key → at .«val_jentry» + 4 ≤ at .key
     → Strips r (unrepeated-item s (m .val)) (strip-item s (m .val)) out
     (patch (patch o₂ (at .«val_jentry») (be32 (strip-entry s (m .val)))) (at .val) (strip-item s (m .val)))
     → Strips r (unrepeated-item s (m .val)) (strip-item s (m .val)) out
     (stored (name-in s) (strip-value s) (value-entry s) o (at .«key_jentry») (at .«val_jentry») (at .key) (at .val) m)
-member-bare s m at key o o₁ o₂ out r hk e₁ e₂ h st =
+member-stripped s m at key o o₁ o₂ out r hk e₁ e₂ h st =
     strips-as r _ _ out _ _
     (ap (λ (x : Bytes). patch x (at .val) (strip-item s (m .val)))
     (rw (e₂, e₁, hk)
@@ -229,7 +229,7 @@ neither (object ms) h k e a b = b (length (member-parts ms)) e
 
 module _ {C : Type 0} (s : Bytes) (a : ℕ) (o : Octets s) (h : Strippable s a) where
   no-other : ((n : ℕ) → header s ≡ Array n → ⊥) → ((n : ℕ) → header s ≡ Object n → ⊥) → C
-  no-other d e = let w = bared s a o h .contained in absurd (neither (bared s a o h .tree) (header s) (w .container) (w .head) d e)
+  no-other d e = let w = stripped-tree s a o h .contained in absurd (neither (stripped-tree s a o h .tree) (header s) (w .container) (w .head) d e)
 
   pub no-scalar : (n : ℕ) → header s ≡ Scalar n → C
   no-scalar n q =

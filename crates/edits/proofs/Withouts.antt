@@ -13,7 +13,7 @@ use Rattle.layout.proofs.Level.{AllFit}
 use Rattle.edits.specs.Spot.{nth-part, behind}
 use Rattle.edits.specs.Cut.{Left, PartOf, parts-of, without, without-member, run-entries, run-payloads, run-behind}
 use Rattle.edits.specs.declared.find.PartAt.{PartAt}
-use Rattle.edits.specs.declared.delete.Cursor.{Cursor}
+use Rattle.edits.specs.declared.find.Cursor.{Cursor}
 use Rattle.edits.proofs.Tables.{Parted}
 use Rattle.edits.proofs.Cuts.{Part-at, without-stored, Member-at, at-member, two-stored, key-size, key-place, val-place, val-size, two-end}
 

@@ -17,6 +17,7 @@ as-items (extension b) = item (extension b) none
 as-items (array ts) = ts
 as-items (object ms) = item (object ms) none
 
+-- The members of an object; nothing else has any.
 abbrev pub members-in : Tree → Option Members
 members-in null = nothing
 members-in (boolean x) = nothing
@@ -33,6 +34,7 @@ overlay ls rs = do
   _ ← require (distinct (names rs)) Repeated
   gives (object (in-order (follow rs ls)))
 
+-- That for two objects, and `other` for any other pair.
 abbrev pub overlay-or : Tree → Option Members → Option Members → Answer Tree
 overlay-or other nothing rs = gives other
 overlay-or other (some ls) nothing = gives other

@@ -29,7 +29,7 @@ use Rattle.edits.specs.Spot.{spot, nth-part, behind}
 use Rattle.edits.specs.Held.{finding}
 use Rattle.edits.specs.declared.find.PartAt.{PartAt}
 use Rattle.edits.specs.declared.find.Spot.the-variants.{At}
-use Rattle.edits.specs.declared.delete.Cursor.{Cursor}
+use Rattle.edits.specs.declared.find.Cursor.{Cursor}
 use Rattle.edits.specs.declared.delete.Way.{Way}
 use Rattle.edits.specs.declared.delete.Manner.{Manner}
 use Rattle.edits.specs.declared.delete.Manner.the-variants.{Items, Rising, Unsorted, Neither}

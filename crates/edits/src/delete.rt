@@ -1,5 +1,6 @@
 // A container without the item that a path finds in it: it and the containers on the way to it are written anew. Arrays, and
 // objects whose names rise, are copied in runs; the members of other objects are put in order by the search.
+use crate::find::Cursor;
 use crate::find::PartAt;
 use crate::find::Spot;
 use crate::find::find_step;
@@ -59,12 +60,6 @@ ghost use Rattle.edits.specs.Cut.{«run-entries» as runEntries, «run-p
 ghost use Rattle.edits.specs.Cut.{«name-of» as nameOf};
 ghost use Rattle.edits.specs.Cut.{«way-behind» as wayBehind, «anew-value» as anewValue, «anew-entry» as anewEntry};
 ghost use Rattle.edits.specs.Cut.{«manner-of» as mannerOf};
-
-// The places of the entry and of the payload that are stored next.
-pub struct Cursor {
-    pub jentry: usize,
-    pub place: usize,
-}
 
 // A path of `count` steps, of which `step` is the next.
 pub struct Way {

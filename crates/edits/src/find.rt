@@ -31,6 +31,12 @@ pub struct PartAt {
     pub place: usize,
 }
 
+// The places of the entry and of the payload that are stored next.
+pub struct Cursor {
+    pub jentry: usize,
+    pub place: usize,
+}
+
 // Where a step leads.
 pub enum Spot {
     Nothing,

@@ -1,5 +1,5 @@
 // A container without the members whose value is null, at every level: it and every container in it are written anew.
-use crate::delete::Cursor;
+use crate::find::Cursor;
 use crate::find::PartAt;
 use crate::find::part_behind;
 use crate::members::Taken;
@@ -160,7 +160,7 @@ fn put_members_stripped(s: &[u8], n: usize, out: &mut [u8], at: usize, allowance
     Stripped::Len(to.val - at)
 }
 
-// Stores a container stripped, and gives its length.
+// Stores a container stripped, and gives its length. What is no container is not met here.
 fn put_stripped(s: &[u8], out: &mut [u8], at: usize, allowance: u32) -> Stripped
     requires { ⌜ Strippable (now s) allowance × (at ≤ 65536 * (64 - allowance)) ⌝ }
     ensures { λ r. ⌜ Strips r (unrepeatedOf (now (s .entry))) (strippedOf (now (s .entry))) (now (out .exit))

@@ -17,7 +17,7 @@ use Rattle.edits.proofs.Reweaves.{value-cuts, value-short, named-stored
 use Rattle.builders.proofs.Storing.{payload-short}
 use Rattle.edits.proofs.Leds.{left-length}
 use Rattle.edits.proofs.Anews.{here, down, child-cuts, child-short, part-anew-stored}
-use Rattle.edits.specs.declared.delete.Cursor.{Cursor}
+use Rattle.edits.specs.declared.find.Cursor.{Cursor}
 use Rattle.edits.specs.declared.find.PartAt.{PartAt}
 use Rattle.layout.proofs.Words.{octets-of}
 use borrow.Author.Needs.{needs}

@@ -3,7 +3,7 @@ use native.Mathlib.Omega.{arith}
 use mathlib.Core.Logic.{⊎-elim}
 use Rattle.layout.proofs.Words.{octets-of}
 use Rattle.layout.proofs.Walks.{none-of}
-use Rattle.edits.proofs.ConcatCases.{left-refused, right-refused, left-other, right-other, two-objects}
+use Rattle.edits.proofs.ConcatWrites.{left-refused, right-refused, left-other, right-other, two-objects}
 use borrow.Author.Needs.{needs}
 use Rattle.edits.proofs.operator.concat.Statement.{statement}
 use Rattle.edits.proofs.operator.concat.Tie as tie
