@@ -1,6 +1,6 @@
 -- What concat means: of two objects what each name finds, of any other pair the items of both; and that what it gives is valid and
 -- sound where both records are.
-use Prim.Native.Nat.{ℕ, _+_, _-_, _≤_}
+use Prim.Native.Nat.{ℕ, zero, suc, _+_, _-_, _≤_, _<_}
 use native.Mathlib.Omega.{arith}
 use mathlib.Core.Path.{_≡_, refl, ap, sym, _∙_}
 use mathlib.Core.Logic.{_⊎_, inl, inr, ⊎-elim}
@@ -9,17 +9,18 @@ use mathlib.Core.Option.{Option, none as nothing, some}
 use Rattle.layout.specs.Bytes.{Bytes}
 use Rattle.layout.specs.Answer.{gives, refused, _>>=_, require}
 use Rattle.layout.specs.Order.{order}
-use Rattle.layout.specs.Tree.{Tree, null, boolean, number, string, extension, array, object, Members, empty, member, names}
+use Rattle.layout.specs.Tree.{Tree, null, boolean, number, string, extension, array, object, Items, none, item, Members, empty, member, names}
 use Rattle.layout.specs.Limits.{Valid, ValidItems, ValidMembers, depth, depth-members, size-members}
-use Rattle.layout.specs.Sound.{Sound, SoundItems, SoundMembers}
+use Rattle.layout.specs.Sound.{Rising, Sound, SoundItems, SoundMembers}
 use Rattle.layout.specs.declared.order.Ordering.{Ordering}
 use Rattle.layout.specs.declared.order.Ordering.the-variants.{Less, Equal, Greater}
 use Rattle.layout.specs.declared.refusal.Refusal.the-variants.{Repeated}
 use Rattle.layout.proofs.Answers.{from-require, to-require, gives-inj}
 use Rattle.builders.specs.Order.{by, in-order, find, follow, distinct}
-use Rattle.builders.specs.Build.{join}
+use Rattle.builders.specs.Build.{count, join}
 use Rattle.builders.proofs.InOrders.{rising-distinct, in-order-rising, or-else, find-in-order, in-order-valid, in-order-sound, in-order-depth}
 use Rattle.builders.proofs.Results.{is-true, Keeps, join-valid, join-sound}
+use Rattle.edits.specs.Find.{item-at}
 use Rattle.edits.specs.Concat.{as-items, members-in, overlay, overlay-or, concat}
 use Rattle.edits.proofs.Deletes.{nothing-some, some-inj, found-or-not}
 use Rattle.edits.proofs.Kept.{in-order-shorter}
@@ -98,14 +99,34 @@ find-follow n (member m t rs) ls = first (order n m) (find-follow n rs ls)
     first Equal e = refl
     first Greater e = e
 
--- A name finds what it finds on the right, or else what it finds on the left, where "the first counts".
-pub concat-find : (ls rs ms : Members) → concat (object ls) (object rs) ≡ gives (object ms) → (n : Bytes)
-    → find n ms ≡ or-else (find n rs) (find n ls)
-concat-find ls rs ms e n =
-    ap (find n) (object-inj (concat-gives ls rs (object ms) e .1)) ∙ find-in-order n (follow rs ls) ∙ find-follow n rs ls
+members-are : (ls rs ms : Members) → concat (object ls) (object rs) ≡ gives (object ms) → ms ≡ in-order (follow rs ls)
+members-are ls rs ms e = object-inj (concat-gives ls rs (object ms) e .1)
   where
     object-inj : {a b : Members} → object a ≡ object b → a ≡ b
     object-inj e = cc
+
+-- A name finds what it finds on the right, or else what it finds on the left, where "the first counts".
+pub concat-find : (ls rs ms : Members) → concat (object ls) (object rs) ≡ gives (object ms) → (n : Bytes)
+    → find n ms ≡ or-else (find n rs) (find n ls)
+concat-find ls rs ms e n = ap (find n) (members-are ls rs ms e) ∙ find-in-order n (follow rs ls) ∙ find-follow n rs ls
+
+-- Its names rise, whatever they did before. With what each name finds this fixes the object.
+pub concat-in-order : (ls rs ms : Members) → concat (object ls) (object rs) ≡ gives (object ms) → Rising (names ms)
+concat-in-order ls rs ms e = rw (members-are ls rs ms e) (in-order-rising (follow rs ls))
+
+-- Of any other pair: the left's items stand first, and the right's behind them.
+pub concat-left : (ts us : Items) (i : ℕ) → i < count ts → item-at (join ts us) i ≡ item-at ts i
+concat-left none us i h = let z : ⊥ = omega arith in absurd z
+concat-left (item t ts) us zero h = refl
+concat-left (item t ts) us (suc i) h = concat-left ts us i (omega arith)
+
+pub concat-right : (ts us : Items) (i : ℕ) → item-at (join ts us) (count ts + i) ≡ item-at us i
+concat-right none us i = let z : 0 + i ≡ i = omega arith in rw z
+concat-right (item t ts) us i = let z : suc (count ts) + i ≡ suc (count ts + i) = omega arith in rw z (concat-right ts us i)
+
+pub concat-count : (ts us : Items) → count (join ts us) ≡ count ts + count us
+concat-count none us = omega arith
+concat-count (item t ts) us = omega (arith, concat-count ts us)
 
 -- ---- validity, soundness
 

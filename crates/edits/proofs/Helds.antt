@@ -58,11 +58,12 @@ found-some s (some t) r x h q = (t, refl, rw q at h)
 
 -- The entry of an item tells the kind of its tree and the length of its payload.
 
+pub entry-code : (w : ℕ) (t : Tree) → w ≡ entry-word (part t) → length (payload t) < 2 ^ 28 → code-of w ≡ code (kind t)
+entry-code w t e l = rw e (code-entry (code (kind t)) (length (payload t)) (omega (arith, code-small (kind t))) l)
+
 module _ (s : Bytes) (x : ItemAt) (t : Tree) (h : Held s x t) where
   held-code : code-of (x .jentry) ≡ code (kind t)
-  held-code =
-      let l : length (payload t) < 2 ^ 28 = omega (arith, h .within, h .short) in
-      rw (h .entry) (code-entry (code (kind t)) (length (payload t)) (omega (arith, code-small (kind t))) l)
+  held-code = entry-code (x .jentry) t (h .entry) (omega (arith, h .within, h .short))
 
   held-length : length-of (x .jentry) ≡ length (payload t)
   held-length =

@@ -8,7 +8,6 @@ use mathlib.Core.Bool.{true, false}
 use mathlib.Core.List.{List, [], _∷_, _++_, append-assoc}
 use mathlib.Core.Option.{Option, none as nothing, some}
 use lib.ListN.{length, take, drop, length-append}
-use lib.Seq.{take-at}
 use Rattle.layout.specs.Bytes.{Bytes}
 use Rattle.layout.specs.Entry.{length-of, entry-at}
 use Rattle.layout.specs.Tree.{Tree, null, boolean, number, string, extension, array, object, Items, Members, names, kind}
@@ -20,7 +19,6 @@ use Rattle.layout.specs.declared.util.Header.the-variants.{Array, Object}
 use Rattle.layout.proofs.Level.{AllFit}
 use Rattle.layout.proofs.Encoding.{names-count, array-fits, object-fits}
 use Rattle.layout.proofs.Readables.{record-of-length}
-use Rattle.layout.proofs.Places.{parts-at-record, take-parts}
 use Rattle.layout.proofs.Nestings.{header-encode}
 use Rattle.builders.specs.Order.{find}
 use Rattle.builders.specs.Build.{count}
@@ -35,6 +33,7 @@ use Rattle.edits.proofs.Deletes.{nothing-some, found-or-not, step-below
 use Rattle.edits.proofs.Finds.{key-part, spot-array, spot-object}
 use Rattle.edits.proofs.Rows.{row-entry, row-bytes, row-within}
 use Rattle.edits.proofs.Splits.{item-split, member-split, no-first}
+use Rattle.edits.proofs.Tables.{object-names}
 
 -- What a spot says of the number that it was made from.
 
@@ -93,19 +92,13 @@ module _ (ms : Members) (s : Bytes) (p : Step) (e : payload (object ms) ≡ s) (
   abbrev size : ℕ
   size = length (member-parts ms)
 
-  object-names : texts (parts-at s 0 (4 + 4 * (size + size)) size) ≡ names ms
-  object-names =
-      let f = object-fits ms (omega (arith, ap length e)) in
-      let w : parts-at s 0 (4 + 4 * (size + size)) (size + size) ≡ name-parts (names ms) ++ member-parts ms =
-      rw (← e, f .whole) (parts-at-record (2 ^ 30 + size) size (name-parts (names ms) ++ member-parts ms) (f .fits) (f .named)) in
-      ap texts (sym (take-parts s 0 (4 + 4 * (size + size)) size size) ∙ ap (take size) w
-      ∙ take-at (name-parts (names ms)) (member-parts ms) size (names-count ms))
-      ∙ texts-names (names ms)
+  texts-are : texts (parts-at s 0 (4 + 4 * (size + size)) size) ≡ names ms
+  texts-are = ap texts (object-names ms s size e l refl) ∙ texts-names (names ms)
 
   object-spot-is : spot (header s) s p ≡ spot-member s size (first (step-name p) (names ms))
   object-spot-is =
       let h : header s ≡ Object size = ap header (sym e) ∙ header-encode (object ms) (rw e l) in
-      rw (h, spot-object size s p, object-names)
+      rw (h, spot-object size s p, texts-are)
 
   object-none : spot (header s) s p ≡ Nothing → step-into p (object ms) ≡ nothing
   object-none q =

@@ -24,8 +24,6 @@ use Rattle.layout.specs.declared.order.Ordering.{Ordering}
 use Rattle.layout.specs.declared.order.Ordering.the-variants.{Less, Equal, Greater}
 use Rattle.layout.specs.declared.util.Header.the-variants.{Object}
 use Rattle.layout.proofs.Words.{octets-take, octets-drop}
-use Rattle.layout.proofs.Fields.{code-entry}
-use Rattle.layout.proofs.Level.{code-small}
 use Rattle.layout.proofs.Readables.{size-payload}
 use Rattle.layout.proofs.Answers.{gives-inj}
 use Rattle.layout.proofs.Values.{rising-tail, rising-all, ≺-irrefl}
@@ -51,7 +49,8 @@ use Rattle.edits.specs.declared.members.Sizes.{Sizes}
 use Rattle.edits.specs.declared.strip.Stripped.{Stripped}
 use Rattle.edits.specs.declared.strip.Stripped.the-variants.{Len, Repeated}
 use Rattle.edits.proofs.Deletes.{some-inj, nothing-some}
-use Rattle.edits.proofs.Strips.{in-order-unrepeated, kept-unrepeated, find-unrepeated}
+use Rattle.edits.proofs.Strips.{and-false, in-order-unrepeated, kept-unrepeated, find-unrepeated}
+use Rattle.edits.proofs.Helds.{entry-code}
 use Rattle.edits.proofs.Tables.{Contains}
 use Rattle.edits.proofs.Withouts.{object-word}
 use Rattle.edits.proofs.Sorteds.{Object-at, object-at, stand-count, stand-sizes, stand-woven}
@@ -106,8 +105,7 @@ module _ (s : Bytes) (a : ℕ) (o : Octets s) (l : length s ≤ 65536) (al : a �
       → is-kept NonNull i x ≡ not (is-null t)
   unfolding is-kept
   kept-as x i n t h f =
-      let c : code-of (x .val .jentry) ≡ code (kind t) =
-      ap code-of (h .1) ∙ code-entry (code (kind t)) (length (payload t)) (omega (arith, code-small (kind t))) (omega (arith, f .short)) in
+      let c : code-of (x .val .jentry) ≡ code (kind t) = entry-code (x .val .jentry) t (h .1) (omega (arith, f .short)) in
       ap not (ap (λ (k : ℕ). eqb k 0) c ∙ null-code t)
 
   stand-kept : (i : ℕ) (xs : List MemberAt) (ms : Members) → Stand (name-in s) (value-in s) own-entry xs ms → AllFine ms s a
@@ -273,11 +271,7 @@ module _ (s : Bytes) (n a : ℕ) (w : Object-stripped s n a) where
     member-repeats q =
         let f : unrepeated (value-tree .0) ≡ false = sym (stripped-at s (m .val) (value-tree .0) (a - 1) (value-tree .2) .2) ∙ q in
         let g : unrepeated-members ms ≡ false = sym (kept-unrepeated ms) ∙ find-unrepeated (kept ms) (name-in s m) (value-tree .0) (value-tree .1) f in
-        w .unrepeated-is ∙ and-false (distinct (names (kept ms))) g
-      where
-        and-false : (b : Bool) → unrepeated-members ms ≡ false → (b && unrepeated-members ms) ≡ false
-        and-false true z = z
-        and-false false z = refl
+        w .unrepeated-is ∙ rw g (and-false (distinct (names (kept ms))))
 
   -- Fewer names than members.
   counted-kept : length (searched s n NonNull) ≡ length (member-parts (kept ms))

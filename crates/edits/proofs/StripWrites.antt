@@ -8,7 +8,7 @@ use mathlib.Core.List.{[], _∷_, _++_}
 use lib.ListN.{length, length-append}
 use Rattle.layout.specs.Bytes.{Bytes, Octets}
 use Rattle.layout.specs.Answer.{gives, _>>=_}
-use Rattle.layout.specs.Tree.{Tree, null, boolean, number, string, extension, array, object, kind}
+use Rattle.layout.specs.Tree.{Tree, kind}
 use Rattle.layout.specs.Encode.{payload}
 use Rattle.layout.specs.Read.{header, nested, read}
 use Rattle.layout.specs.Check.{checked}
@@ -20,7 +20,7 @@ use Rattle.layout.specs.declared.refusal.Refusal.{Refusal}
 use Rattle.layout.specs.declared.refusal.Refusal.the-variants.{Buffer, Repeated as RepeatedName}
 use Rattle.layout.specs.declared.item.Kind.the-variants.{Container}
 use Rattle.layout.specs.declared.util.Header.{Header}
-use Rattle.layout.specs.declared.util.Header.the-variants.{Scalar}
+use Rattle.layout.specs.declared.util.Header.the-variants.{Array, Object, Scalar}
 use Rattle.layout.specs.declared.ending.Ending.{Ending}
 use Rattle.layout.specs.declared.ending.Ending.the-variants.{Done, Refused}
 use Rattle.layout.proofs.Answers.{gives-inj}
@@ -35,6 +35,7 @@ use Rattle.edits.specs.declared.strip.Stripped.{Stripped}
 use Rattle.edits.specs.declared.strip.Stripped.the-variants.{Len, Repeated}
 use Rattle.edits.proofs.Strips.{kind-stripped, strip-given, strip-refused}
 use Rattle.edits.proofs.Tables.{contains}
+use Rattle.edits.proofs.Stripped.{own-strip, neither}
 use Rattle.edits.proofs.Lookups.{container-ready, nested-read}
 
 pub whole-strips : (s : Bytes) → checked (nested 64 s) ≡ Readable → length s ≤ 65536 → Strippable s 64
@@ -73,17 +74,17 @@ module _ (s o e : Bytes) (r : Stripped) (d : Strips r (unrepeated-of s) (strippe
         again (Len n) st = st .2
         again Repeated st = let z : true ≡ false = sym (told .0) ∙ st in let y : _≡_ {A = ℕ} 0 1 = cc in let w : ⊥ = omega arith in absurd w
 
--- The numbers of strip.
 -- A scalar is its own strip.
 scalar-strip : (t : Tree) (m : ℕ) → head-of t ≡ Scalar m → (stripped t ≡ t) × (unrepeated t ≡ true)
-scalar-strip null m h = (refl, refl)
-scalar-strip (boolean x) m h = (refl, refl)
-scalar-strip (number b) m h = (refl, refl)
-scalar-strip (string b) m h = (refl, refl)
-scalar-strip (extension b) m h = (refl, refl)
-scalar-strip (array ts) m h = let z : _≡_ {A = ℕ} 0 1 = cc in let w : ⊥ = omega arith in absurd w
-scalar-strip (object ms) m h = let z : _≡_ {A = ℕ} 0 1 = cc in let w : ⊥ = omega arith in absurd w
+scalar-strip t m h = own-strip t (λ k. neither t (Scalar m) k (sym h) no-array no-object)
+  where
+    no-array : (n : ℕ) → Scalar m ≡ Array n → ⊥
+    no-array n e = let z : _≡_ {A = ℕ} 0 1 = cc in omega arith
 
+    no-object : (n : ℕ) → Scalar m ≡ Object n → ⊥
+    no-object n e = let z : _≡_ {A = ℕ} 0 1 = cc in omega arith
+
+-- The numbers of strip.
 module _ (a o : Bytes) (c : Check) (hc : c ≡ checked (read a)) where
   abbrev On : Ending → Bytes → Type 0
   On e o′ = Ended e o o′ (on-one strip a (length o))

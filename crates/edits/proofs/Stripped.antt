@@ -21,8 +21,6 @@ use Rattle.layout.specs.declared.util.Header.the-variants.{Array, Object, Scala
 use Rattle.layout.specs.declared.item.Kind.{Kind}
 use Rattle.layout.specs.declared.item.Kind.the-variants.{Null, String, Number, False, True, Container, Extension}
 use Rattle.layout.proofs.Words.{length-be32, octets-take, octets-drop}
-use Rattle.layout.proofs.Fields.{code-entry}
-use Rattle.layout.proofs.Level.{code-small}
 use Rattle.layout.proofs.Patches.{patch-comm}
 use Rattle.layout.proofs.Nestings.{head-of}
 use Rattle.layout.proofs.Readables.{nested-reads, size-payload}
@@ -37,6 +35,7 @@ use Rattle.edits.specs.declared.strip.Stripped.{Stripped}
 use Rattle.edits.specs.declared.strip.Stripped.the-variants.{Len, Repeated}
 use Rattle.edits.specs.declared.find.Cursor.{Cursor}
 use Rattle.edits.proofs.Strips.{kind-stripped, strip-shrinks}
+use Rattle.edits.proofs.Helds.{entry-code}
 use Rattle.edits.proofs.Tables.{Contains, contains, contains-more}
 
 -- A container that can be stripped, by its tree.
@@ -88,7 +87,7 @@ code-five Container d = absurd (d refl)
 code-five Extension d = refl
 
 -- A tree that is no container is its own strip, and has no name.
-own-strip : (t : Tree) → (kind t ≡ Container → ⊥) → (stripped t ≡ t) × (unrepeated t ≡ true)
+pub own-strip : (t : Tree) → (kind t ≡ Container → ⊥) → (stripped t ≡ t) × (unrepeated t ≡ true)
 own-strip null d = (refl, refl)
 own-strip (boolean x) d = (refl, refl)
 own-strip (number b) d = (refl, refl)
@@ -107,7 +106,7 @@ container-or (extension b) = no (λ e. let z : _≡_ {A = ℕ} 0 1 = cc in omega
 container-or (array ts) = yes refl
 container-or (object ms) = yes refl
 
--- An item that has the entry and the payload of a tree.
+-- An item that has the entry and the payload of a tree that can be stripped.
 pub record Tree-at (s : Bytes) (x : ItemAt) (t : Tree) (a : ℕ) : Type 0 where
   pub entry : x .jentry ≡ entry-word (part t)
   pub bytes : bytes-at s x ≡ payload t
@@ -119,7 +118,7 @@ pub record Tree-at (s : Bytes) (x : ItemAt) (t : Tree) (a : ℕ) : Type 0 where
 
 module _ (s : Bytes) (x : ItemAt) (t : Tree) (a : ℕ) (h : Tree-at s x t a) where
   code-is : code-of (x .jentry) ≡ code (kind t)
-  code-is = ap code-of (h .entry) ∙ code-entry (code (kind t)) (length (payload t)) (omega (arith, code-small (kind t))) (omega (arith, h .short))
+  code-is = entry-code (x .jentry) t (h .entry) (omega (arith, h .short))
 
   is-five : kind t ≡ Container → eqb (code-of (x .jentry)) 5 ≡ true
   is-five k = rw (code-is, k)
@@ -217,7 +216,7 @@ member-stripped s m at key o o₁ o₂ out r hk e₁ e₂ h st =
     st
 
 -- What can be stripped is an array or an object.
-neither : (t : Tree) (h : Header) → kind t ≡ Container → h ≡ head-of t → ((n : ℕ) → h ≡ Array n → ⊥) → ((n : ℕ) → h ≡ Object n → ⊥) → ⊥
+pub neither : (t : Tree) (h : Header) → kind t ≡ Container → h ≡ head-of t → ((n : ℕ) → h ≡ Array n → ⊥) → ((n : ℕ) → h ≡ Object n → ⊥) → ⊥
 neither null h k e a b = let z : _≡_ {A = ℕ} 0 1 = cc in omega arith
 neither (boolean true) h k e a b = let z : _≡_ {A = ℕ} 0 1 = cc in omega arith
 neither (boolean false) h k e a b = let z : _≡_ {A = ℕ} 0 1 = cc in omega arith

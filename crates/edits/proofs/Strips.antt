@@ -36,7 +36,7 @@ by-test : (p : Bool) (P : Bool → Type 0) → (p ≡ true → P true) → (p �
 by-test true P f g = f refl
 by-test false P f g = g refl
 
-and-false : (a : Bool) → (a && false) ≡ false
+pub and-false : (a : Bool) → (a && false) ≡ false
 and-false true = refl
 and-false false = refl
 
