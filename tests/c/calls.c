@@ -9,7 +9,7 @@
 
 #include "jsonb.h"
 
-/* Room for a record of one byte too many, and the bytes watched behind a buffer. */
+/* Room for a record of one byte too many, and the bytes watched before and behind a buffer. */
 #define ROOM (JSONB_ROOM + 1)
 #define WATCHED 16
 
@@ -154,12 +154,12 @@ static void long_name(size_t length, Record *record) {
 }
 
 static Record left_record, right_record, wanted, kept_left, kept_right;
-static uint8_t buffer[ROOM + WATCHED];
+static uint8_t lent[WATCHED + ROOM + WATCHED];
+static uint8_t *const buffer = lent + WATCHED;
 
-static int all_filled(size_t from) {
-    size_t i;
-    for (i = from; i < sizeof buffer; i++) {
-        if (buffer[i] != FILL) {
+static int all_filled(const uint8_t *from, const uint8_t *to) {
+    while (from < to) {
+        if (*from++ != FILL) {
             return 0;
         }
     }
@@ -172,11 +172,12 @@ static void run(const char *what, Edit *edit, size_t room, uint64_t answer) {
     uint64_t got;
     kept_left = left_record;
     kept_right = right_record;
-    memset(buffer, FILL, sizeof buffer);
+    memset(lent, FILL, sizeof lent);
     got = edit(left_record.bytes, left_record.length, right_record.bytes, right_record.length, buffer, room);
     expect(got == answer, what, "the answer");
     expect(memcmp(buffer, wanted.bytes, n) == 0, what, "the result");
-    expect(all_filled(n), what, "the bytes behind the result");
+    expect(all_filled(buffer + n, lent + sizeof lent), what, "the bytes behind the result");
+    expect(all_filled(lent, buffer), what, "the bytes before the buffer");
     expect(memcmp(&left_record, &kept_left, sizeof kept_left) == 0, what, "the left record's bytes");
     expect(memcmp(&right_record, &kept_right, sizeof kept_right) == 0, what, "the right record's bytes");
 }
