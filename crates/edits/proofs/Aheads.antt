@@ -1,6 +1,6 @@
 -- The members of an object taken one by one: whether they are taken as they stand or searched for, each is the next one in byte
 -- order.
-use Prim.Native.Nat.{ℕ, _+_, _-_}
+use Prim.Native.Nat.{ℕ, _+_}
 use native.Mathlib.Nat.{sub-zero}
 use native.Mathlib.Omega.{arith}
 use mathlib.Core.Path.{_≡_, refl, ap, sym, _∙_}
@@ -22,12 +22,12 @@ use Rattle.builders.proofs.Orderings.{order-less}
 use Rattle.builders.proofs.Searches.{Above, Ascending, Passed, least-append, least-passed, least-first, passed-later, over-less, over-itself, ascending-kept}
 use Rattle.builders.proofs.Stands.{Stand}
 use Rattle.edits.specs.Members.{members-of, all-ahead, kept-ahead, Near, Standing, Searching, Next}
-use Rattle.edits.specs.Merge.{Ready}
 use Rattle.edits.specs.declared.members.Ahead.{Ahead}
 use Rattle.edits.specs.declared.members.Taken.{Taken}
 use Rattle.edits.specs.declared.members.Taken.the-variants.{End, Member}
 use Rattle.edits.proofs.Tables.{object-rises}
 use Rattle.edits.proofs.Sorteds.{Object-at}
+use Rattle.edits.proofs.Choices.{Below, search-later}
 
 abbrev pub found-of : Taken → Found
 found-of End = Nothing
@@ -50,6 +50,10 @@ pub record AheadOf (s : Bytes) (n : ℕ) (kept : Kept) (last : Bound) (a : Ahead
   pub near : Near a
   pub all : a .«is_rising» ≡ false → a ≡ all-ahead s n
   pub rest : a .«is_rising» ≡ true → Rest s n kept last a
+
+-- What `next_in_order` asks of it.
+abbrev pub Ready : Ahead → Type 0
+Ready a = Near a × (a .«is_rising» ≡ false → a .index ≡ 0)
 
 pub ahead-ready : (s : Bytes) (n : ℕ) (kept : Kept) (last : Bound) (a : Ahead) → AheadOf s n kept last a → Ready a
 ahead-ready s n kept last a h = (h .near, λ f. ap (λ (x : Ahead). x .index) (h .all f))
@@ -170,10 +174,9 @@ module _ (s : Bytes) (n : ℕ) (kept : Kept) (last : Bound) (a : Ahead) (h : Ahe
             let z : b ≡ a = e .searched q .1 in
             rw z (record { near = h .near; all = h .all; rest = λ t. let y : true ≡ false = sym t ∙ q in let z : _≡_ {A = ℕ} 0 1 = cc in let w : ⊥ = omega arith in absurd w })
 
-  -- A name above the last and below the next, or where there is no next: what is ahead stays.
+  -- A name above the last and below the next, or where there is no next: what is ahead stays, and so does the next.
   abbrev pub below-next : Bytes → Taken → Type 0
-  below-next x End = Unit {0}
-  below-next x (Member m b) = order x (name-in s m) ≡ Less
+  below-next x r = Below (name-in s) x (found-of r)
 
   pub ahead-passed : (r : Taken) (x : Bytes) → Next s kept last a r → over last x ≡ true → below-next x r → AheadOf s n kept (after x) a
   ahead-passed r x e o l =
@@ -193,3 +196,10 @@ module _ (s : Bytes) (n : ℕ) (kept : Kept) (last : Bound) (a : Ahead) (h : Ahe
       head : (r : Taken) (m : MemberAt) (ms : List MemberAt) → kept-ahead s kept a ≡ m ∷ ms → Standing s kept a r → below-next x r → order x (name-in s m) ≡ Less
       head End m ms q st l = let z : [] ≡ m ∷ ms = sym st ∙ q in let y : _≡_ {A = ℕ} 0 1 = cc in let w : ⊥ = omega arith in absurd w
       head (Member k b) m ms q st l = let z : k ∷ kept-ahead s kept b ≡ m ∷ ms = sym (st .0) ∙ q in let y : k ≡ m = cc in rw (← y) l
+
+  pub next-passed : (r : Taken) (x : Bytes) → Next s kept last a r → over last x ≡ true → below-next x r → Next s kept (after x) a r
+  next-passed r x e o l = record { stands = e .stands; searched = λ q. still r (e .searched q) l }
+    where
+      still : (r : Taken) → Searching s kept last a r → below-next x r → Searching s kept (after x) a r
+      still End q l = search-later (name-in s) last x o (kept-ahead s kept a) Nothing q l
+      still (Member m b) q l = (search-later (name-in s) last x o (kept-ahead s kept a) (At m) (q .0) l, q .1)

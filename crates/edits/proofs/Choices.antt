@@ -1,7 +1,7 @@
--- The search for the next name over two lists: it finds the better of what it finds in each. And what it finds where names are read
--- in another way that tells each the same.
+-- The search for the next name over two lists: it finds the better of what it finds in each. What it finds behind a name that is
+-- below what it found before. And what it finds where names are read in another way that tells each the same.
 use Prim.Native.Nat.{ℕ}
-use mathlib.Core.Path.{_≡_, refl, sym, ap, _∙_}
+use mathlib.Core.Path.{_≡_, refl, sym, ap, subst, _∙_}
 use mathlib.Core.Bool.{Bool, true, false, cond}
 use mathlib.Core.List.{List, [], _∷_, _++_}
 use Rattle.layout.specs.Bytes.{Bytes}
@@ -13,19 +13,23 @@ use Rattle.builders.specs.declared.search.MemberAt.{MemberAt}
 use Rattle.builders.specs.declared.search.Found.{Found}
 use Rattle.builders.specs.declared.search.Found.the-variants.{Nothing, At}
 use Rattle.builders.proofs.Orderings.{turned, order-turn, order-equal, order-trans}
-use Rattle.builders.proofs.Searches.{over-up, least-append}
+use Rattle.builders.proofs.Searches.{over-up, over-less, passed-later, least-append}
 use Rattle.edits.specs.Merge.{moved-member, moved-all}
 use Rattle.edits.proofs.Deletes.{false-true}
 
 -- Three names: what is before holds from the first to the last, and what is not before too.
-before-trans : (a b c : Bytes) → before a b ≡ true → before b c ≡ true → before a c ≡ true
-unfolding before over
-before-trans a b c h k = over-up (after a) b c (less (order b c) k) h
+before-less : (a b : Bytes) → before a b ≡ true → order a b ≡ Less
+unfolding before
+before-less a b h = go (order a b) h
   where
-    less : (o : Ordering) → is-less o ≡ true → o ≡ Less
-    less Less e = refl
-    less Equal e = false-true e
-    less Greater e = false-true e
+    go : (o : Ordering) → is-less o ≡ true → o ≡ Less
+    go Less e = refl
+    go Equal e = false-true e
+    go Greater e = false-true e
+
+before-trans : (a b c : Bytes) → before a b ≡ true → before b c ≡ true → before a c ≡ true
+unfolding over
+before-trans a b c h k = over-up (after a) b c (before-less b c k) h
 
 not-before : (a b c : Bytes) → before b a ≡ false → before c b ≡ false → before c a ≡ false
 unfolding before
@@ -40,6 +44,18 @@ not-before a b c h k = go (order b a) (order c a) refl refl
     go Less Less q z = false-true (sym h ∙ ap is-less q)
     go Equal Less q z = ap is-less z ∙ still (ap (order c) (order-equal b a q) ∙ z)
     go Greater Less q z = ap is-less z ∙ still (order-trans c a b z (order-turn b a ∙ ap turned q))
+
+below-more : (a b c : Bytes) → order a b ≡ Less → before c b ≡ false → order a c ≡ Less
+unfolding before
+below-more a b c h k = go (order a c) refl
+  where
+    wrong : order c b ≡ Less → order a c ≡ Less
+    wrong e = false-true (sym k ∙ ap is-less e)
+
+    go : (o : Ordering) → order a c ≡ o → order a c ≡ Less
+    go Less q = q
+    go Equal q = wrong (ap (λ (z : Bytes). order z b) (sym (order-equal a c q)) ∙ h)
+    go Greater q = wrong (order-trans c a b (order-turn a c ∙ ap turned q) h)
 
 module _ (key : MemberAt → Bytes) where
   -- Of two that were found the one with the lesser name, of equal names the first.
@@ -83,6 +99,46 @@ module _ (key : MemberAt → Bytes) where
   pub search-both : (last : Bound) (xs ys : List MemberAt)
       → least key last Nothing (xs ++ ys) ≡ lesser (least key last Nothing xs) (least key last Nothing ys)
   search-both last xs ys = least-append key last Nothing xs ys ∙ least-lesser last (least key last Nothing xs) ys
+
+-- A name below what was found, if anything was.
+abbrev pub Below : (MemberAt → Bytes) → Bytes → Found → Type 0
+Below key x Nothing = Unit {0}
+Below key x (At m) = order x (key m) ≡ Less
+
+-- The bound moves to a name above it and below what was found: the search finds the same.
+module _ (key : MemberAt → Bytes) (last : Bound) (x : Bytes) (h : over last x ≡ true) where
+  below-first : (a : MemberAt) (g : Found) → Below key x (lesser key (At a) g) → order x (key a) ≡ Less
+  below-first a Nothing l = l
+  below-first a (At b) l = go (before (key b) (key a)) refl l
+    where
+      go : (u : Bool) → before (key b) (key a) ≡ u → Below key x (cond u (At b) (At a)) → order x (key a) ≡ Less
+      go true q l = order-trans x (key b) (key a) l (before-less (key b) (key a) q)
+      go false q l = l
+
+  below-both : (f : Found) (m : MemberAt) (g : Found) → Below key x (lesser key (better key f m) g) → order x (key m) ≡ Less
+  unfolding better
+  below-both Nothing m g l = below-first m g l
+  below-both (At a) m g l = go (before (key m) (key a)) refl l
+    where
+      go : (u : Bool) → before (key m) (key a) ≡ u → Below key x (lesser key (cond u (At m) (At a)) g) → order x (key m) ≡ Less
+      go true q l = below-first m g l
+      go false q l = below-more x (key a) (key m) (below-first a g l) q
+
+  least-later : (f : Found) (ms : List MemberAt) → Below key x (least key last f ms) → least key (after x) f ms ≡ least key last f ms
+  unfolding least step
+  least-later f [] l = refl
+  least-later f (m ∷ ms) l = go (over last (key m)) refl l (λ g. least-later g ms)
+    where
+      go : (u : Bool) → over last (key m) ≡ u → Below key x (least key last (cond u (better key f m) f) ms)
+          → ((g : Found) → Below key x (least key last g ms) → least key (after x) g ms ≡ least key last g ms)
+          → least key (after x) (cond (over (after x) (key m)) (better key f m) f) ms ≡ least key last (cond u (better key f m) f) ms
+      go true q l ih =
+          let b : Below key x (lesser key (better key f m) (least key last Nothing ms)) = rw (least-lesser key last (better key f m) ms) at l in
+          rw (over-less key x (key m) (below-both f m (least key last Nothing ms) b)) (ih (better key f m) l)
+      go false q l ih = rw (passed-later key last x (m ∷ []) h (q, tt) .0) (ih f l)
+
+  pub search-later : (ms : List MemberAt) (r : Found) → least key last Nothing ms ≡ r → Below key x r → least key (after x) Nothing ms ≡ r
+  search-later ms r e l = least-later Nothing ms (subst (Below key x) (sym e) l) ∙ e
 
 -- What holds of each of some members, and of the one that was found.
 abbrev pub Each : (MemberAt → Type 0) → List MemberAt → Type 0

@@ -8,24 +8,23 @@ use lib.Dec.{eqb}
 use lib.ListN.{length, length-append}
 use borrow.Author.Tests.{ne-eqb}
 use Rattle.layout.specs.Bytes.{Bytes, Octets}
-use Rattle.builders.specs.Search.{bytes-at, name-in, value-in, members-at, Bound, after, bound, least}
+use Rattle.builders.specs.Search.{bytes-at, name-in, value-in, members-at, start, after, bound, least}
 use Rattle.builders.specs.Weave.{behind, own-entry, stored, woven}
 use Rattle.builders.specs.declared.search.Kept.the-variants.{All}
 use Rattle.builders.specs.declared.search.MemberAt.{MemberAt}
 use Rattle.builders.specs.declared.search.Places.{Places}
-use Rattle.builders.specs.declared.search.Found.the-variants.{Nothing}
+use Rattle.builders.specs.declared.search.Found.the-variants.{Nothing, At}
 use Rattle.builders.proofs.Searches.{length-members, bytes-short}
 use Rattle.builders.proofs.Storing.{Stored, begins, goes, ends-early, ends-full, ends-val, ends-key, ends-count, sought-end, sought-all}
-use Rattle.edits.specs.Members.{members-of, all-ahead}
-use Rattle.edits.specs.Merge.{last-bound, NextOf, Ready, Objects, moved-member, moved-all, in-a-row, merged, behind-all}
-use Rattle.edits.specs.declared.merge.Sides.{Sides}
-use Rattle.edits.specs.declared.merge.Last.{Last}
-use Rattle.edits.specs.declared.merge.Last.the-variants.{Left as LastLeft, Right as LastRight, Nothing as NoLast}
+use Rattle.edits.specs.Members.{members-of, all-ahead, Next}
+use Rattle.edits.specs.Merge.{chosen, Objects, moved-member, moved-all, in-a-row, merged, behind-all}
+use Rattle.edits.specs.declared.members.Ahead.{Ahead}
+use Rattle.edits.specs.declared.members.Taken.{Taken}
 use Rattle.edits.specs.declared.merge.Turn.{Turn}
-use Rattle.edits.specs.declared.merge.Turn.the-variants.{Left, Right, End}
+use Rattle.edits.specs.declared.merge.Turn.the-variants.{Left, Right, Both, End}
 use Rattle.edits.proofs.Sorteds.{Object-at, object-at}
-use Rattle.edits.proofs.Turns.{turn-found, BothAhead, both-ready, Onward, turn-is, onward, taken-name, taken-value}
-use Rattle.edits.proofs.Aheads.{ahead-starts}
+use Rattle.edits.proofs.Turns.{turn-found, Side, Onward, FromRight, turn-is, onward, taken-name, taken-value}
+use Rattle.edits.proofs.Aheads.{Ready, AheadOf, ahead-ready, ahead-starts}
 use Rattle.edits.proofs.Moves.{moved-name, moved-value, length-moved}
 
 -- The two objects by their bytes.
@@ -38,47 +37,43 @@ objects-at l m r n ol or h = (
 pub few-both : (l : Bytes) (m : ℕ) (r : Bytes) (n : ℕ) → Object-at l m × Object-at r n → m + n ≤ 16384
 few-both l m r n h = omega (arith, h .0 .table, h .0 .short, h .1 .table, h .1 .short)
 
+-- What is ahead at first, as `next_in_order` asks it.
+pub starts-ready : (s : Bytes) (n : ℕ) → Object-at s n → (a : Ahead) → a ≡ all-ahead s n → Ready a
+starts-ready s n h a e = rw e (ahead-ready s n All start (all-ahead s n) (ahead-starts s n All h))
+
 module _ (l : Bytes) (m : ℕ) (r : Bytes) (n : ℕ) where
-  -- The last name taken.
-  abbrev last-name : Last → Bytes
-  last-name (LastLeft k) = bytes-at l k
-  last-name (LastRight k) = bytes-at r k
-  last-name NoLast = []
-
   module _ (o : Bytes) (to : Places) where
-    -- The loop: `i` members of both in byte order are stored, and the rest is to come.
-    pub record Merging (out : Bytes) (z : Sides) (at : Places) (last : Last) (i : ℕ) : Type 0 where
+    -- The loop: `i` members of both in byte order are stored, up to the last name taken, and the rest is to come.
+    pub record Merging (out : Bytes) (x y : Taken) (at : Places) (i : ℕ) : Type 0 where
       pub right-object : Object-at r n
-      pub known : last-bound l r last ≡ bound (eqb i 0) (last-name last)
-      pub kept : Stored (name-in (r ++ l)) (value-in (r ++ l)) own-entry (in-a-row l m r n) o to out (last-name last) at i
-      pub ahead : BothAhead l m r n (last-bound l r last) z
+      pub last : Bytes
+      pub kept : Stored (name-in (r ++ l)) (value-in (r ++ l)) own-entry (in-a-row l m r n) o to out last at i
+      pub left : Side l m (bound (eqb i 0) last) x
+      pub right : Side r n (bound (eqb i 0) last) y
 
-    pub merging-starts : Object-at l m → Object-at r n → (z : Sides) → z .left ≡ all-ahead l m → z .right ≡ all-ahead r n
-        → Merging o z to NoLast 0
-    merging-starts hl hr z el er =
+    pub merging-starts : Object-at l m → Object-at r n → (a c : Ahead) → a ≡ all-ahead l m → c ≡ all-ahead r n
+        → (x y : Taken) → Next l All start a x → Next r All start c y → Merging o x y to 0
+    merging-starts hl hr a c el er x y hx hy =
         record {
           right-object = hr;
-          known = refl;
+          last = [];
           kept = begins (name-in (r ++ l)) (value-in (r ++ l)) own-entry (in-a-row l m r n) o to [];
-          ahead = record { left = rw el (ahead-starts l m All hl); right = rw er (ahead-starts r n All hr) };
+          left = record { from = a; ahead = rw el (ahead-starts l m All hl); next = hx };
+          right = record { from = c; ahead = rw er (ahead-starts r n All hr); next = hy };
         }
 
     -- The places are near enough for a member to be stored there.
-    pub merging-near : (out : Bytes) (z : Sides) (at : Places) (last : Last) (i : ℕ) → Merging out z at last i → i ≤ m + n → m + n ≤ 16384
+    pub merging-near : (out : Bytes) (x y : Taken) (at : Places) (i : ℕ) → Merging out x y at i → i ≤ m + n → m + n ≤ 16384
         → (to .«key_jentry» < 2 ^ 32) × (to .«val_jentry» < 2 ^ 32) × (to .key < 2 ^ 32) × (to .val < 2 ^ 32)
         → (at .«key_jentry» < 2 ^ 60) × (at .«val_jentry» < 2 ^ 60) × (at .key < 2 ^ 60) × (at .val < 2 ^ 60)
-    merging-near out z at last i h k f w = (
+    merging-near out x y at i h k f w = (
       omega (arith, h .kept .key-jentry),
       omega (arith, h .kept .val-jentry),
       omega (arith, h .kept .near-key),
       omega (arith, h .kept .near-val),
     )
 
-    pub merging-ready : (out : Bytes) (z : Sides) (at : Places) (last : Last) (i : ℕ) → Merging out z at last i
-        → Ready (z .left) × Ready (z .right)
-    merging-ready out z at last i h = both-ready l m r n (last-bound l r last) z (h .ahead)
-
-    module _ (out : Bytes) (z : Sides) (at : Places) (last : Last) (i : ℕ) (h : Merging out z at last i) where
+    module _ (out : Bytes) (x y : Taken) (at : Places) (i : ℕ) (h : Merging out x y at i) where
       -- What put_merged promises: the members of both are stored, and the places are those behind them.
       abbrev AllStored : Type 0
       AllStored =
@@ -88,9 +83,9 @@ module _ (l : Bytes) (m : ℕ) (r : Bytes) (n : ℕ) where
       places-end : length (merged l m r n) ≤ i → at ≡ behind-all l m r n to
       places-end e =
           rw (
-            ← ends-val (name-in (r ++ l)) (value-in (r ++ l)) own-entry (in-a-row l m r n) o to out (last-name last) at i (h .kept) e,
-            ← ends-key (name-in (r ++ l)) (value-in (r ++ l)) own-entry (in-a-row l m r n) o to out (last-name last) at i (h .kept) e,
-            ← ends-count (name-in (r ++ l)) (value-in (r ++ l)) own-entry (in-a-row l m r n) o to out (last-name last) at i (h .kept) e,
+            ← ends-val (name-in (r ++ l)) (value-in (r ++ l)) own-entry (in-a-row l m r n) o to out (h .last) at i (h .kept) e,
+            ← ends-key (name-in (r ++ l)) (value-in (r ++ l)) own-entry (in-a-row l m r n) o to out (h .last) at i (h .kept) e,
+            ← ends-count (name-in (r ++ l)) (value-in (r ++ l)) own-entry (in-a-row l m r n) o to out (h .last) at i (h .kept) e,
             ← val-end e,
           )
         where
@@ -108,73 +103,118 @@ module _ (l : Bytes) (m : ℕ) (r : Bytes) (n : ℕ) where
       merging-full e =
           let few : length (in-a-row l m r n) ≤ m + n = omega (arith, row-length) in (
             places-end (sought-all (name-in (r ++ l)) (in-a-row l m r n) (m + n) i few e),
-            ends-full (name-in (r ++ l)) (value-in (r ++ l)) own-entry (in-a-row l m r n) o to out (last-name last) at i (h .kept) (m + n) few e,
+            ends-full (name-in (r ++ l)) (value-in (r ++ l)) own-entry (in-a-row l m r n) o to out (h .last) at i (h .kept) (m + n) few e,
           )
 
-      module _ (t : Turn) (e : NextOf l r last z t) where
+      module _ (t : Turn) (e : t ≡ chosen l r x y) where
         -- What the turn takes is what the search over both finds next.
-        found : turn-found (length r) t ≡ least (name-in (r ++ l)) (bound (eqb i 0) (last-name last)) Nothing (in-a-row l m r n)
-        found =
-            turn-is l m r n (h .right-object) last z (h .ahead) t e
-            ∙ ap (λ (b : Bound). least (name-in (r ++ l)) b Nothing (in-a-row l m r n)) (h .known)
+        found : turn-found (length r) t ≡ least (name-in (r ++ l)) (bound (eqb i 0) (h .last)) Nothing (in-a-row l m r n)
+        found = turn-is l m r n (h .right-object) (bound (eqb i 0) (h .last)) x y (h .left) (h .right) t e
 
-        later : (x : Bytes) → after x ≡ bound (eqb (i + 1) 0) x
-        later x = let d : eqb (i + 1) 0 ≡ false = ne-eqb (i + 1) 0 (λ q. omega arith) in rw d
+        leaves : Onward l m r n x y t
+        leaves = onward l m r n (h .right-object) (bound (eqb i 0) (h .last)) x y (h .left) (h .right) t e
 
-        module _ (x : MemberAt) (z′ : Sides) (at′ : Places) (out′ : Bytes) where
+        -- What is ahead of the sides whose next member is to be looked for.
+        pub ready-left : (w : MemberAt) (a : Ahead) → t ≡ Left w a → Ready a
+        ready-left w a q = let p : Onward l m r n x y (Left w a) = subst (Onward l m r n x y) q leaves in ahead-ready l m All _ a (p .0)
+
+        pub ready-right : (w : MemberAt) (c : Ahead) → t ≡ Right w c → Ready c
+        ready-right w c q = let p : Onward l m r n x y (Right w c) = subst (Onward l m r n x y) q leaves in ahead-ready r n All _ c (p .1)
+
+        pub ready-both : (w : MemberAt) (a c : Ahead) → t ≡ Both w a c → Ready a × Ready c
+        ready-both w a c q =
+            let p : Onward l m r n x y (Both w a c) = subst (Onward l m r n x y) q leaves in
+            (ahead-ready l m All _ a (p .0), ahead-ready r n All _ c (p .1))
+
+        -- The next member of a side, looked for behind the name taken; or the one that was found before.
+        later : eqb (i + 1) 0 ≡ false
+        later = ne-eqb (i + 1) 0 (λ q. omega arith)
+
+        anew : (s : Bytes) (k : ℕ) (a : Ahead) (z : Taken) (p w : Bytes) → p ≡ w → AheadOf s k All (after w) a → Next s All (bound false p) a z
+            → Side s k (bound (eqb (i + 1) 0) w) z
+        anew s k a z p w q g f = rw later (record { from = a; ahead = g; next = rw q at f })
+
+        still : (s : Bytes) (k : ℕ) (z : Taken) (w : Bytes) → Side s k (after w) z → Side s k (bound (eqb (i + 1) 0) w) z
+        still s k z w g = rw later g
+
+        module _ (w : MemberAt) (at′ : Places) (out′ : Bytes) where
           -- A member of the left side is stored, as one that was moved; or one of the right side, as it stands.
-          merging-left : t ≡ Left x z′
-              → (at′ ≡ behind (name-in l x) (value-in l x) at)
-              × (out′ ≡ stored (name-in l) (value-in l) own-entry out (at .«key_jentry») (at .«val_jentry») (at .key) (at .val) x)
-              → Merging out′ z′ at′ (LastLeft (x .key)) (i + 1)
-          merging-left q p =
-              record {
-                right-object = h .right-object;
-                known = later (name-in l x);
-                kept =
-                    goes (name-in (r ++ l)) (value-in (r ++ l)) own-entry (in-a-row l m r n) o to out (last-name last) at i (h .kept)
-                    (turn-found (length r) t) found (moved-member (length r) x) (name-in l x) out′ at′ (ap (turn-found (length r)) q)
-                    (rw (moved-name r l x, moved-value r l x) p) (sym (moved-name r l x))
-                    (bytes-short (r ++ l) (moved-member (length r) x .key)) (bytes-short (r ++ l) (moved-member (length r) x .val));
-                ahead = subst (Onward l m r n) q (onward l m r n (h .right-object) last z (h .ahead) t e);
-              }
+          abbrev KeptOn : Bytes → Type 0
+          KeptOn name = Stored (name-in (r ++ l)) (value-in (r ++ l)) own-entry (in-a-row l m r n) o to out′ name at′ (i + 1)
 
-          merging-right : t ≡ Right x z′
-              → (at′ ≡ behind (name-in r x) (value-in r x) at)
-              × (out′ ≡ stored (name-in r) (value-in r) own-entry out (at .«key_jentry») (at .«val_jentry») (at .key) (at .val) x)
-              → Merging out′ z′ at′ (LastRight (x .key)) (i + 1)
-          merging-right q p =
-              let sn = taken-name l m r n (h .right-object) last z (h .ahead) t e x z′ q in
-              let sv = taken-value l m r n (h .right-object) last z (h .ahead) t e x z′ q in
-              record {
-                right-object = h .right-object;
-                known = later (name-in r x);
-                kept =
-                    goes (name-in (r ++ l)) (value-in (r ++ l)) own-entry (in-a-row l m r n) o to out (last-name last) at i (h .kept)
-                    (turn-found (length r) t) found x (name-in r x) out′ at′ (ap (turn-found (length r)) q)
-                    (rw (sn, sv) p) (sym sn) (bytes-short (r ++ l) (x .key)) (bytes-short (r ++ l) (x .val));
-                ahead = subst (Onward l m r n) q (onward l m r n (h .right-object) last z (h .ahead) t e);
-              }
+          kept-left : (a : Ahead) → t ≡ Left w a
+              → (at′ ≡ behind (name-in l w) (value-in l w) at)
+              × (out′ ≡ stored (name-in l) (value-in l) own-entry out (at .«key_jentry») (at .«val_jentry») (at .key) (at .val) w)
+              → KeptOn (name-in l w)
+          kept-left a q p =
+              goes (name-in (r ++ l)) (value-in (r ++ l)) own-entry (in-a-row l m r n) o to out (h .last) at i (h .kept)
+              (turn-found (length r) t) found (moved-member (length r) w) (name-in l w) out′ at′ (ap (turn-found (length r)) q)
+              (rw (moved-name r l w, moved-value r l w) p) (sym (moved-name r l w))
+              (bytes-short (r ++ l) (moved-member (length r) w .key)) (bytes-short (r ++ l) (moved-member (length r) w .val))
 
-        -- In the code's terms, where the two ways meet.
-        module _ (x : MemberAt) (z′ : Sides) (at′ : Places) (out′ out₂ : Bytes) (z₂ : Sides) (at₂ : Places) (last₂ : Last)
-            (eo : out₂ ≡ out′) (ez : z₂ ≡ z′) (ea : at₂ ≡ at′) where
-          pub goes-left : t ≡ Left x z′ → last₂ ≡ LastLeft (x .key)
-              → (at′ ≡ behind (name-in l x) (value-in l x) at)
-              × (out′ ≡ stored (name-in l) (value-in l) own-entry out (at .«key_jentry») (at .«val_jentry») (at .key) (at .val) x)
-              → Merging out₂ z₂ at₂ last₂ (i + 1)
-          goes-left q el p = rw (eo, ez, ea, el) (merging-left x z′ at′ out′ q p)
+          kept-right : FromRight w t → turn-found (length r) t ≡ At w
+              → (at′ ≡ behind (name-in r w) (value-in r w) at)
+              × (out′ ≡ stored (name-in r) (value-in r) own-entry out (at .«key_jentry») (at .«val_jentry») (at .key) (at .val) w)
+              → KeptOn (name-in r w)
+          kept-right f q p =
+              let sn = taken-name l m r n (h .right-object) (bound (eqb i 0) (h .last)) x y (h .left) (h .right) t e w f in
+              let sv = taken-value l m r n (h .right-object) (bound (eqb i 0) (h .last)) x y (h .left) (h .right) t e w f in
+              goes (name-in (r ++ l)) (value-in (r ++ l)) own-entry (in-a-row l m r n) o to out (h .last) at i (h .kept)
+              (turn-found (length r) t) found w (name-in r w) out′ at′ q
+              (rw (sn, sv) p) (sym sn) (bytes-short (r ++ l) (w .key)) (bytes-short (r ++ l) (w .val))
 
-          pub goes-right : t ≡ Right x z′ → last₂ ≡ LastRight (x .key)
-              → (at′ ≡ behind (name-in r x) (value-in r x) at)
-              × (out′ ≡ stored (name-in r) (value-in r) own-entry out (at .«key_jentry») (at .«val_jentry») (at .key) (at .val) x)
-              → Merging out₂ z₂ at₂ last₂ (i + 1)
-          goes-right q el p = rw (eo, ez, ea, el) (merging-right x z′ at′ out′ q p)
+          -- In the code's terms, where the ways meet.
+          module _ (out₂ : Bytes) (x₂ y₂ : Taken) (at₂ : Places) (eo : out₂ ≡ out′) (ea : at₂ ≡ at′) (p : Bytes) where
+            pub goes-left : (a : Ahead) (x′ : Taken) → t ≡ Left w a → p ≡ bytes-at l (w .key)
+                → (at′ ≡ behind (name-in l w) (value-in l w) at)
+                × (out′ ≡ stored (name-in l) (value-in l) own-entry out (at .«key_jentry») (at .«val_jentry») (at .key) (at .val) w)
+                → Next l All (bound false p) a x′ → x₂ ≡ x′ → y₂ ≡ y → Merging out₂ x₂ y₂ at₂ (i + 1)
+            goes-left a x′ q ep s f ex ey =
+                let g : Onward l m r n x y (Left w a) = subst (Onward l m r n x y) q leaves in
+                rw (eo, ea, ex, ey)
+                (record {
+                  right-object = h .right-object;
+                  last = name-in l w;
+                  kept = kept-left a q s;
+                  left = anew l m a x′ p (name-in l w) ep (g .0) f;
+                  right = still r n y (name-in l w) (g .1);
+                })
+
+            pub goes-right : (c : Ahead) (y′ : Taken) → t ≡ Right w c → p ≡ bytes-at r (w .key)
+                → (at′ ≡ behind (name-in r w) (value-in r w) at)
+                × (out′ ≡ stored (name-in r) (value-in r) own-entry out (at .«key_jentry») (at .«val_jentry») (at .key) (at .val) w)
+                → Next r All (bound false p) c y′ → x₂ ≡ x → y₂ ≡ y′ → Merging out₂ x₂ y₂ at₂ (i + 1)
+            goes-right c y′ q ep s f ex ey =
+                let g : Onward l m r n x y (Right w c) = subst (Onward l m r n x y) q leaves in
+                rw (eo, ea, ex, ey)
+                (record {
+                  right-object = h .right-object;
+                  last = name-in r w;
+                  kept = kept-right (subst (FromRight w) (sym q) refl) (ap (turn-found (length r)) q) s;
+                  left = still l m x (name-in r w) (g .0);
+                  right = anew r n c y′ p (name-in r w) ep (g .1) f;
+                })
+
+            pub goes-both : (a c : Ahead) (x′ y′ : Taken) → t ≡ Both w a c → p ≡ bytes-at r (w .key)
+                → (at′ ≡ behind (name-in r w) (value-in r w) at)
+                × (out′ ≡ stored (name-in r) (value-in r) own-entry out (at .«key_jentry») (at .«val_jentry») (at .key) (at .val) w)
+                → Next l All (bound false p) a x′ → Next r All (bound false p) c y′ → x₂ ≡ x′ → y₂ ≡ y′
+                → Merging out₂ x₂ y₂ at₂ (i + 1)
+            goes-both a c x′ y′ q ep s f k ex ey =
+                let g : Onward l m r n x y (Both w a c) = subst (Onward l m r n x y) q leaves in
+                rw (eo, ea, ex, ey)
+                (record {
+                  right-object = h .right-object;
+                  last = name-in r w;
+                  kept = kept-right (subst (FromRight w) (sym q) refl) (ap (turn-found (length r)) q) s;
+                  left = anew l m a x′ p (name-in r w) ep (g .0) f;
+                  right = anew r n c y′ p (name-in r w) ep (g .1) k;
+                })
 
         -- There is no next one: all are stored.
         pub merging-end : t ≡ End → AllStored
         merging-end q =
             let p : turn-found (length r) t ≡ Nothing = ap (turn-found (length r)) q in (
-              places-end (sought-end (name-in (r ++ l)) (in-a-row l m r n) (last-name last) i (h .kept .sought) (turn-found (length r) t) found p),
-              ends-early (name-in (r ++ l)) (value-in (r ++ l)) own-entry (in-a-row l m r n) o to out (last-name last) at i (h .kept) (turn-found (length r) t) found p,
+              places-end (sought-end (name-in (r ++ l)) (in-a-row l m r n) (h .last) i (h .kept .sought) (turn-found (length r) t) found p),
+              ends-early (name-in (r ++ l)) (value-in (r ++ l)) own-entry (in-a-row l m r n) o to out (h .last) at i (h .kept) (turn-found (length r) t) found p,
             )

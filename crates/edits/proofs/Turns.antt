@@ -1,8 +1,8 @@
--- One turn of concat: the next member of each side behind the last name taken, and which of the two is taken: it is the next one in
--- byte order of both in a row, of equal names the right one's.
+-- One turn of concat: which of the next members of both sides is taken: it is the next one in byte order of both in a row, of equal
+-- names the right one's. And where that leaves each side.
 use Prim.Native.Nat.{ℕ}
-use mathlib.Core.Path.{_≡_, refl, sym, ap, ap₂, _∙_}
-use mathlib.Core.Bool.{true, false, cond}
+use mathlib.Core.Path.{_≡_, refl, sym, ap, ap₂, subst, _∙_}
+use mathlib.Core.Bool.{true, cond}
 use mathlib.Core.List.{List, _++_}
 use lib.ListN.{length}
 use Rattle.layout.specs.Bytes.{Bytes}
@@ -10,7 +10,7 @@ use Rattle.layout.specs.Order.{order, is-less, before}
 use Rattle.layout.specs.declared.order.Ordering.{Ordering}
 use Rattle.layout.specs.declared.order.Ordering.the-variants.{Less, Equal, Greater}
 use Rattle.builders.specs.Order.{by}
-use Rattle.builders.specs.Search.{bytes-at, name-in, value-in, members-at, Bound, after, bound, over, least, start}
+use Rattle.builders.specs.Search.{bytes-at, name-in, value-in, members-at, Bound, after, bound, over, least}
 use Rattle.builders.specs.declared.search.Kept.the-variants.{All}
 use Rattle.builders.specs.declared.search.MemberAt.{MemberAt}
 use Rattle.builders.specs.declared.search.Found.{Found}
@@ -18,67 +18,75 @@ use Rattle.builders.specs.declared.search.Found.the-variants.{Nothing, At}
 use Rattle.builders.proofs.Orderings.{turned, order-turn, order-equal}
 use Rattle.builders.proofs.Searches.{least-over, kept-all}
 use Rattle.edits.specs.Members.{members-of, Next}
-use Rattle.edits.specs.Merge.{last-bound, chosen, NextOf, Ready, moved-member, moved-all, in-a-row}
+use Rattle.edits.specs.Merge.{chosen, moved-member, moved-all, in-a-row}
+use Rattle.edits.specs.declared.members.Ahead.{Ahead}
 use Rattle.edits.specs.declared.members.Taken.{Taken}
 use Rattle.edits.specs.declared.members.Taken.the-variants.{End as NoMember, Member}
-use Rattle.edits.specs.declared.merge.Sides.{Sides}
-use Rattle.edits.specs.declared.merge.Last.{Last}
-use Rattle.edits.specs.declared.merge.Last.the-variants.{Left as LastLeft, Right as LastRight, Nothing as NoLast}
 use Rattle.edits.specs.declared.merge.Turn.{Turn}
-use Rattle.edits.specs.declared.merge.Turn.the-variants.{Left, Right, End}
+use Rattle.edits.specs.declared.merge.Turn.the-variants.{Left, Right, Both, End}
 use Rattle.edits.proofs.Sorteds.{Object-at}
-use Rattle.edits.proofs.Aheads.{found-of, AheadOf, ahead-ready, next-is, ahead-taken, ahead-passed}
+use Rattle.edits.proofs.Aheads.{found-of, AheadOf, next-is, below-next, ahead-taken, ahead-passed, next-passed}
 use Rattle.edits.proofs.Choices.{lesser, search-both, found-each, search-agrees, moved-found, search-moved}
 use Rattle.edits.proofs.Moves.{moved-name, SameName, SameValue, same-names, same-values}
-use Rattle.builders.specs.declared.search.ItemAt.{ItemAt}
-use Rattle.edits.specs.declared.members.Ahead.{Ahead}
 
--- Behind the last name, by its side.
-module _ (s l r : Bytes) (a : Ahead) (last : Last) (t : Taken) where
-  pub behind-left : (k : ItemAt) (p : Bytes) → last ≡ LastLeft k → p ≡ bytes-at l k → Next s All (bound false p) a t
-      → Next s All (last-bound l r last) a t
-  behind-left k p q e h = rw q (rw e at h)
+-- Which is taken, where both sides have a next member.
+module _ (l r : Bytes) (x y : Taken) (i k : MemberAt) (a c : Ahead) (p : x ≡ Member i a) (q : y ≡ Member k c) (u v : Bytes) (o : Ordering)
+    (eu : u ≡ bytes-at l (i .key)) (ev : v ≡ bytes-at r (k .key)) (eo : o ≡ order u v) where
+  compared : order (name-in l i) (name-in r k) ≡ o
+  compared = sym (eo ∙ ap₂ order eu ev)
 
-  pub behind-right : (k : ItemAt) (p : Bytes) → last ≡ LastRight k → p ≡ bytes-at r k → Next s All (bound false p) a t
-      → Next s All (last-bound l r last) a t
-  behind-right k p q e h = rw q (rw e at h)
+  pub turn-less : o ≡ Less → Left i a ≡ chosen l r x y
+  turn-less e = rw (p, q, compared, e)
 
-  pub behind-none : last ≡ NoLast → Next s All start a t → Next s All (last-bound l r last) a t
-  behind-none q h = rw q h
+  pub turn-equal : o ≡ Equal → Both k a c ≡ chosen l r x y
+  turn-equal e = rw (p, q, compared, e)
 
--- Which is taken, by what is next on each side.
-module _ (l r : Bytes) (last : Last) (z : Sides) (x y : Taken) (hx : Next l All (last-bound l r last) (z .left) x)
-    (hy : Next r All (last-bound l r last) (z .right) y) where
-  pub turn-none : x ≡ NoMember → y ≡ NoMember → NextOf l r last z End
-  turn-none p q = record { left = x; right = y; left-next = hx; right-next = hy; is = rw (p, q) }
-
-  pub turn-right : (k : MemberAt) (c : Ahead) → x ≡ NoMember → y ≡ Member k c
-      → NextOf l r last z (Right k (record { left = z .left; right = c }))
-  turn-right k c p q = record { left = x; right = y; left-next = hx; right-next = hy; is = rw (p, q) }
-
-  pub turn-left : (i : MemberAt) (a : Ahead) → x ≡ Member i a → y ≡ NoMember
-      → NextOf l r last z (Left i (record { left = a; right = z .right }))
-  turn-left i a p q = record { left = x; right = y; left-next = hx; right-next = hy; is = rw (p, q) }
-
-  module _ (i k : MemberAt) (a c : Ahead) (p : x ≡ Member i a) (q : y ≡ Member k c) (u v : Bytes) (o : Ordering)
-      (eu : u ≡ bytes-at l (i .key)) (ev : v ≡ bytes-at r (k .key)) (eo : o ≡ order u v) where
-    compared : order (name-in l i) (name-in r k) ≡ o
-    compared = sym (eo ∙ ap₂ order eu ev)
-
-    pub turn-less : o ≡ Less → NextOf l r last z (Left i (record { left = a; right = z .right }))
-    turn-less e = record { left = x; right = y; left-next = hx; right-next = hy; is = rw (p, q, compared, e) }
-
-    pub turn-equal : o ≡ Equal → NextOf l r last z (Right k (record { left = a; right = c }))
-    turn-equal e = record { left = x; right = y; left-next = hx; right-next = hy; is = rw (p, q, compared, e) }
-
-    pub turn-greater : o ≡ Greater → NextOf l r last z (Right k (record { left = z .left; right = c }))
-    turn-greater e = record { left = x; right = y; left-next = hx; right-next = hy; is = rw (p, q, compared, e) }
+  pub turn-greater : o ≡ Greater → Right k c ≡ chosen l r x y
+  turn-greater e = rw (p, q, compared, e)
 
 -- What a turn takes, as a member of both together.
 abbrev pub turn-found : ℕ → Turn → Found
-turn-found k (Left m z) = At (moved-member k m)
-turn-found k (Right m z) = At m
+turn-found k (Left m a) = At (moved-member k m)
+turn-found k (Right m c) = At m
+turn-found k (Both m a c) = At m
 turn-found k End = Nothing
+
+-- The member that a turn takes from the right side.
+abbrev pub FromRight : MemberAt → Turn → Type 0
+FromRight w (Left i a) = ⊥
+FromRight w (Right k c) = w ≡ k
+FromRight w (Both k a c) = w ≡ k
+FromRight w End = ⊥
+
+-- A side behind a bound: its next member, from what was ahead when it was looked for.
+pub record Side (s : Bytes) (n : ℕ) (b : Bound) (t : Taken) : Type 0 where
+  pub from : Ahead
+  pub ahead : AheadOf s n All b from
+  pub next : Next s All b from t
+
+module _ (s : Bytes) (n : ℕ) (b : Bound) (t : Taken) (h : Side s n b t) where
+  side-is : found-of t ≡ least (name-in s) b Nothing (members-at s s (members-of s n) n)
+  side-is =
+      next-is s n All b (h .from) (h .ahead) t (h .next)
+      ∙ ap (least (name-in s) b Nothing) (kept-all 0 (members-at s s (members-of s n) n))
+
+  -- Its next member is above the bound.
+  side-over : (m : MemberAt) (a : Ahead) → t ≡ Member m a → over b (name-in s m) ≡ true
+  side-over m a q = least-over (name-in s) b (members-at s s (members-of s n) n) m (sym side-is ∙ ap found-of q)
+
+  -- The bound moves to it.
+  side-taken : (m : MemberAt) (a : Ahead) → t ≡ Member m a → AheadOf s n All (after (name-in s m)) a
+  side-taken m a q =
+      ahead-taken s n All b (h .from) (h .ahead) m a (subst (Next s All b (h .from)) q (h .next)) (side-over m a q)
+
+  -- Or to a name of the other side, before it.
+  side-passed : (x : Bytes) → over b x ≡ true → below-next s n All b (h .from) (h .ahead) x t → Side s n (after x) t
+  side-passed x o l =
+      record {
+        from = h .from;
+        ahead = ahead-passed s n All b (h .from) (h .ahead) t x (h .next) o l;
+        next = next-passed s n All b (h .from) (h .ahead) t x (h .next) o l;
+      }
 
 module _ (l : Bytes) (m : ℕ) (r : Bytes) (n : ℕ) where
   abbrev lefts : List MemberAt
@@ -87,31 +95,14 @@ module _ (l : Bytes) (m : ℕ) (r : Bytes) (n : ℕ) where
   abbrev rights : List MemberAt
   rights = members-at r r (members-of r n) n
 
-  -- What is ahead on both sides behind a bound.
-  pub record BothAhead (b : Bound) (z : Sides) : Type 0 where
-    pub left : AheadOf l m All b (z .left)
-    pub right : AheadOf r n All b (z .right)
+  -- Where a turn leaves both sides: the next of a side is still to be looked for where it was taken or passed over.
+  abbrev pub Onward : Taken → Taken → Turn → Type 0
+  Onward x y (Left i a) = AheadOf l m All (after (name-in l i)) a × Side r n (after (name-in l i)) y
+  Onward x y (Right k c) = Side l m (after (name-in r k)) x × AheadOf r n All (after (name-in r k)) c
+  Onward x y (Both k a c) = AheadOf l m All (after (name-in r k)) a × AheadOf r n All (after (name-in r k)) c
+  Onward x y End = Unit {0}
 
-  pub both-ready : (b : Bound) (z : Sides) → BothAhead b z → Ready (z .left) × Ready (z .right)
-  both-ready b z h = (ahead-ready l m All b (z .left) (h .left), ahead-ready r n All b (z .right) (h .right))
-
-  -- Where a turn leaves both sides.
-  abbrev pub Onward : Turn → Type 0
-  Onward (Left x z) = BothAhead (after (name-in l x)) z
-  Onward (Right x z) = BothAhead (after (name-in r x)) z
-  Onward End = Unit {0}
-
-  module _ (hr : Object-at r n) (last : Last) (z : Sides) (h : BothAhead (last-bound l r last) z) where
-    abbrev b : Bound
-    b = last-bound l r last
-
-    -- What is next on each side is what the search finds there.
-    left-is : (t : Taken) → Next l All b (z .left) t → found-of t ≡ least (name-in l) b Nothing lefts
-    left-is t e = next-is l m All b (z .left) (h .left) t e ∙ ap (least (name-in l) b Nothing) (kept-all 0 lefts)
-
-    right-is : (t : Taken) → Next r All b (z .right) t → found-of t ≡ least (name-in r) b Nothing rights
-    right-is t e = next-is r n All b (z .right) (h .right) t e ∙ ap (least (name-in r) b Nothing) (kept-all 0 rights)
-
+  module _ (hr : Object-at r n) (b : Bound) where
     -- A member that is found on the right has the same name and value in both together.
     right-same : (x : MemberAt) → At x ≡ least (name-in r) b Nothing rights → name-in (r ++ l) x ≡ name-in r x
     right-same x e = found-each (name-in r) (SameName r l) b rights x (same-names r l rights (hr .members) (hr .stand)) (sym e)
@@ -128,96 +119,78 @@ module _ (l : Bytes) (m : ℕ) (r : Bytes) (n : ℕ) where
         (search-agrees (name-in (r ++ l)) (name-in r) b rights (same-names r l rights (hr .members) (hr .stand)))
         (search-moved (name-in l) (name-in (r ++ l)) (length r) (moved-name r l) b lefts)
 
-    chosen-is : (x y : Taken) → found-of x ≡ least (name-in l) b Nothing lefts → found-of y ≡ least (name-in r) b Nothing rights
-        → turn-found (length r) (chosen l r z x y) ≡ lesser (name-in (r ++ l)) (found-of y) (moved-found (length r) (found-of x))
+    chosen-is : (x y : Taken) → found-of y ≡ least (name-in r) b Nothing rights
+        → turn-found (length r) (chosen l r x y) ≡ lesser (name-in (r ++ l)) (found-of y) (moved-found (length r) (found-of x))
     unfolding before
-    chosen-is NoMember NoMember e f = refl
-    chosen-is NoMember (Member k c) e f = refl
-    chosen-is (Member i a) NoMember e f = refl
-    chosen-is (Member i a) (Member k c) e f =
+    chosen-is NoMember NoMember f = refl
+    chosen-is NoMember (Member k c) f = refl
+    chosen-is (Member i a) NoMember f = refl
+    chosen-is (Member i a) (Member k c) f =
         rw (moved-name r l i, right-same k f) (go (order (name-in l i) (name-in r k)))
       where
-        go : (o : Ordering) → turn-found (length r) (by o (Left i (record { left = a; right = z .right })) (Right k (record { left = a; right = c })) (Right k (record { left = z .left; right = c })))
+        go : (o : Ordering) → turn-found (length r) (by o (Left i a) (Both k a c) (Right k c))
             ≡ cond (is-less o) (At (moved-member (length r) i)) (At k)
         go Less = refl
         go Equal = refl
         go Greater = refl
 
-    -- A turn takes the next of both.
-    pub turn-is : (t : Turn) → NextOf l r last z t
-        → turn-found (length r) t ≡ least (name-in (r ++ l)) (last-bound l r last) Nothing (in-a-row l m r n)
-    turn-is t e =
-        let f = left-is (e .left) (e .left-next) in
-        let g = right-is (e .right) (e .right-next) in
-        ap (turn-found (length r)) (e .is)
-        ∙ chosen-is (e .left) (e .right) f g
-        ∙ ap₂ (λ (x y : Found). lesser (name-in (r ++ l)) x (moved-found (length r) y)) g f
-        ∙ sym row-found
-
     -- The bound moves to the name taken: the side that gave it is behind it, and of the other side nothing but an equal name.
-    onward-is : (x y : Taken) → Next l All b (z .left) x → Next r All b (z .right) y → Onward (chosen l r z x y)
+    onward-is : (x y : Taken) → Side l m b x → Side r n b y → Onward x y (chosen l r x y)
     onward-is NoMember NoMember e f = tt
-    onward-is NoMember (Member k c) e f =
-        let o = least-over (name-in r) b rights k (sym (right-is (Member k c) f)) in
-        record {
-          left = ahead-passed l m All b (z .left) (h .left) NoMember (name-in r k) e o tt;
-          right = ahead-taken r n All b (z .right) (h .right) k c f o;
-        }
-    onward-is (Member i a) NoMember e f =
-        let o = least-over (name-in l) b lefts i (sym (left-is (Member i a) e)) in
-        record {
-          left = ahead-taken l m All b (z .left) (h .left) i a e o;
-          right = ahead-passed r n All b (z .right) (h .right) NoMember (name-in l i) f o tt;
-        }
+    onward-is NoMember (Member k c) e f = (
+      side-passed l m b NoMember e (name-in r k) (side-over r n b (Member k c) f k c refl) tt,
+      side-taken r n b (Member k c) f k c refl,
+    )
+    onward-is (Member i a) NoMember e f = (
+      side-taken l m b (Member i a) e i a refl,
+      side-passed r n b NoMember f (name-in l i) (side-over l m b (Member i a) e i a refl) tt,
+    )
     onward-is (Member i a) (Member k c) e f = go (order (name-in l i) (name-in r k)) refl
       where
-        above-left : over b (name-in l i) ≡ true
-        above-left = least-over (name-in l) b lefts i (sym (left-is (Member i a) e))
-
-        above-right : over b (name-in r k) ≡ true
-        above-right = least-over (name-in r) b rights k (sym (right-is (Member k c) f))
-
         go : (o : Ordering) → order (name-in l i) (name-in r k) ≡ o
-            → Onward (by o (Left i (record { left = a; right = z .right })) (Right k (record { left = a; right = c })) (Right k (record { left = z .left; right = c })))
-        go Less q =
-            record {
-              left = ahead-taken l m All b (z .left) (h .left) i a e above-left;
-              right = ahead-passed r n All b (z .right) (h .right) (Member k c) (name-in l i) f above-left q;
-            }
-        go Equal q =
-            record {
-              left = rw (order-equal (name-in l i) (name-in r k) q) at (ahead-taken l m All b (z .left) (h .left) i a e above-left);
-              right = ahead-taken r n All b (z .right) (h .right) k c f above-right;
-            }
-        go Greater q =
-            record {
-              left = ahead-passed l m All b (z .left) (h .left) (Member i a) (name-in r k) e above-right (order-turn (name-in l i) (name-in r k) ∙ ap turned q);
-              right = ahead-taken r n All b (z .right) (h .right) k c f above-right;
-            }
+            → Onward (Member i a) (Member k c) (by o (Left i a) (Both k a c) (Right k c))
+        go Less q = (
+          side-taken l m b (Member i a) e i a refl,
+          side-passed r n b (Member k c) f (name-in l i) (side-over l m b (Member i a) e i a refl) q,
+        )
+        go Equal q = (
+          rw (order-equal (name-in l i) (name-in r k) q) at (side-taken l m b (Member i a) e i a refl),
+          side-taken r n b (Member k c) f k c refl,
+        )
+        go Greater q = (
+          side-passed l m b (Member i a) e (name-in r k) (side-over r n b (Member k c) f k c refl) (order-turn (name-in l i) (name-in r k) ∙ ap turned q),
+          side-taken r n b (Member k c) f k c refl,
+        )
 
-    module _ (t : Turn) (e : NextOf l r last z t) where
-      pub onward : Onward t
-      onward = rw (e .is) (onward-is (e .left) (e .right) (e .left-next) (e .right-next))
+    module _ (x y : Taken) (hx : Side l m b x) (hy : Side r n b y) (t : Turn) (e : t ≡ chosen l r x y) where
+      -- A turn takes the next of both.
+      pub turn-is : turn-found (length r) t ≡ least (name-in (r ++ l)) b Nothing (in-a-row l m r n)
+      turn-is =
+          ap (turn-found (length r)) e
+          ∙ chosen-is x y (side-is r n b y hy)
+          ∙ ap₂ (λ (u v : Found). lesser (name-in (r ++ l)) u (moved-found (length r) v)) (side-is r n b y hy) (side-is l m b x hx)
+          ∙ sym row-found
+
+      pub onward : Onward x y t
+      onward = rw e (onward-is x y hx hy)
 
       -- A member that is taken from the right is found there.
-      from-right : (x : MemberAt) (z′ : Sides) → t ≡ Right x z′ → At x ≡ least (name-in r) b Nothing rights
-      from-right x z′ p = go (e .left) (e .right) (sym (e .is) ∙ p) ∙ right-is (e .right) (e .right-next)
+      from-right : (w : MemberAt) → FromRight w t → At w ≡ least (name-in r) b Nothing rights
+      from-right w p = go x y (subst (FromRight w) e p) ∙ side-is r n b y hy
         where
-          go : (u v : Taken) → chosen l r z u v ≡ Right x z′ → At x ≡ found-of v
-          go NoMember NoMember c = cc
-          go NoMember (Member k d) c = cc
-          go (Member i a) NoMember c = cc
-          go (Member i a) (Member k d) c = by-order (order (name-in l i) (name-in r k)) c
+          go : (u v : Taken) → FromRight w (chosen l r u v) → At w ≡ found-of v
+          go NoMember NoMember p = absurd p
+          go NoMember (Member k d) p = ap At p
+          go (Member i a) NoMember p = absurd p
+          go (Member i a) (Member k d) p = by-order (order (name-in l i) (name-in r k)) p
             where
-              by-order : (o : Ordering)
-                  → by o (Left i (record { left = a; right = z .right })) (Right k (record { left = a; right = d })) (Right k (record { left = z .left; right = d })) ≡ Right x z′
-                  → At x ≡ At k
-              by-order Less c = cc
-              by-order Equal c = cc
-              by-order Greater c = cc
+              by-order : (o : Ordering) → FromRight w (by o (Left i a) (Both k a d) (Right k d)) → At w ≡ At k
+              by-order Less p = absurd p
+              by-order Equal p = ap At p
+              by-order Greater p = ap At p
 
-      pub taken-name : (x : MemberAt) (z′ : Sides) → t ≡ Right x z′ → name-in (r ++ l) x ≡ name-in r x
-      taken-name x z′ p = right-same x (from-right x z′ p)
+      pub taken-name : (w : MemberAt) → FromRight w t → name-in (r ++ l) w ≡ name-in r w
+      taken-name w p = right-same w (from-right w p)
 
-      pub taken-value : (x : MemberAt) (z′ : Sides) → t ≡ Right x z′ → value-in (r ++ l) x ≡ value-in r x
-      taken-value x z′ p = right-value x (from-right x z′ p)
+      pub taken-value : (w : MemberAt) → FromRight w t → value-in (r ++ l) w ≡ value-in r w
+      taken-value w p = right-value w (from-right w p)

@@ -1,7 +1,6 @@
 -- Two objects' members taken in turn, as the code of concat goes. proofs/Overlays.antt ties it to `concat`.
 use Prim.Native.Nat.{ℕ, _+_, _*_, _≤_}
 use mathlib.Core.Path.{_≡_}
-use mathlib.Core.Bool.{false}
 use mathlib.Core.List.{List, [], _∷_, _++_}
 use lib.ListN.{length}
 use Rattle.layout.specs.Bytes.{Bytes}
@@ -11,49 +10,23 @@ use Rattle.layout.specs.Order.{order}
 use Rattle.layout.specs.declared.check.Check.the-variants.{Readable}
 use Rattle.layout.specs.declared.util.Header.the-variants.{Object}
 use Rattle.builders.specs.Order.{by}
-use Rattle.builders.specs.Search.{bytes-at, name-in, value-in, members-at, Bound, start, after, sorted}
+use Rattle.builders.specs.Search.{name-in, value-in, members-at, sorted}
 use Rattle.builders.specs.Weave.{column}
 use Rattle.builders.specs.declared.search.ItemAt.{ItemAt}
-use Rattle.builders.specs.declared.search.Kept.the-variants.{All}
 use Rattle.builders.specs.declared.search.MemberAt.{MemberAt}
 use Rattle.builders.specs.declared.search.Places.{Places}
-use Rattle.edits.specs.Members.{members-of, Near, Next}
-use Rattle.edits.specs.declared.members.Ahead.{Ahead}
+use Rattle.edits.specs.Members.{members-of}
 use Rattle.edits.specs.declared.members.Taken.{Taken}
 use Rattle.edits.specs.declared.members.Taken.the-variants.{End as NoMember, Member}
-use Rattle.edits.specs.declared.merge.Sides.{Sides}
-use Rattle.edits.specs.declared.merge.Last.{Last}
-use Rattle.edits.specs.declared.merge.Last.the-variants.{Left as LastLeft, Right as LastRight, Nothing}
 use Rattle.edits.specs.declared.merge.Turn.{Turn}
-use Rattle.edits.specs.declared.merge.Turn.the-variants.{Left, Right, End}
-
--- The bound that the last name taken sets.
-abbrev pub last-bound : Bytes → Bytes → Last → Bound
-last-bound l r (LastLeft k) = after (bytes-at l k)
-last-bound l r (LastRight k) = after (bytes-at r k)
-last-bound l r Nothing = start
+use Rattle.edits.specs.declared.merge.Turn.the-variants.{Left, Right, Both, End}
 
 -- Which of the next members of both sides is taken.
-abbrev pub chosen : Bytes → Bytes → Sides → Taken → Taken → Turn
-chosen l r z NoMember NoMember = End
-chosen l r z NoMember (Member k b) = Right k (record { left = z .left; right = b })
-chosen l r z (Member m a) NoMember = Left m (record { left = a; right = z .right })
-chosen l r z (Member m a) (Member k b) =
-    by (order (name-in l m) (name-in r k))
-    (Left m (record { left = a; right = z .right }))
-    (Right k (record { left = a; right = b }))
-    (Right k (record { left = z .left; right = b }))
-
-pub record NextOf (l r : Bytes) (last : Last) (z : Sides) (t : Turn) : Type 0 where
-  pub left : Taken
-  pub right : Taken
-  pub left-next : Next l All (last-bound l r last) (z .left) left
-  pub right-next : Next r All (last-bound l r last) (z .right) right
-  pub is : t ≡ chosen l r z left right
-
--- What a step asks of a side.
-abbrev pub Ready : Ahead → Type 0
-Ready a = Near a × (a .«is_rising» ≡ false → a .index ≡ 0)
+abbrev pub chosen : Bytes → Bytes → Taken → Taken → Turn
+chosen l r NoMember NoMember = End
+chosen l r NoMember (Member k b) = Right k b
+chosen l r (Member m a) NoMember = Left m a
+chosen l r (Member m a) (Member k b) = by (order (name-in l m) (name-in r k)) (Left m a) (Both k a b) (Right k b)
 
 -- Readable objects of `m` and `n` members.
 pub record Objects (l : Bytes) (m : ℕ) (r : Bytes) (n : ℕ) : Type 0 where

@@ -9,7 +9,6 @@ use crate::members::places_for;
 use builders::names::is_distinct;
 use builders::room::Room;
 use builders::room::check_room;
-use builders::search::ItemAt;
 use builders::search::Kept;
 use builders::search::MemberAt;
 use builders::search::Places;
@@ -32,100 +31,42 @@ ghost use Rattle.builders.specs.Build.{«on-two» as onTwo};
 ghost use Rattle.builders.specs.Search.{«name-in» as nameIn, «value-in» as valueIn};
 ghost use Rattle.builders.specs.Weave.{«own-entry» as ownEntry, woven};
 ghost use Rattle.edits.specs.Concat.{concat};
-ghost use Rattle.edits.specs.Members.{Next};
-ghost use Rattle.edits.specs.Merge.{«last-bound» as lastBound, NextOf, Ready, Objects, merged, «behind-all» as behindAll};
+ghost use Rattle.edits.specs.Merge.{chosen, Objects, merged, «behind-all» as behindAll};
 
-// What is still to be taken of each side.
-pub struct Sides {
-    pub left: Ahead,
-    pub right: Ahead,
-}
-
-// The last name taken, by its side; at first none.
-pub enum Last {
-    Left(ItemAt),
-    Right(ItemAt),
-    Nothing,
-}
-
-// The side that the next member comes from, the member, and what is then ahead; or the end.
+// Where the next member comes from: the side, the member and what is then ahead there; of equal names both sides, the right one's
+// member and what is then ahead on the left and on the right; or the end.
 pub enum Turn {
-    Left(MemberAt, Sides),
-    Right(MemberAt, Sides),
+    Left(MemberAt, Ahead),
+    Right(MemberAt, Ahead),
+    Both(MemberAt, Ahead, Ahead),
     End,
 }
 
-// The next member of one side, behind the last name taken.
-fn next_behind(s: &[u8], ahead: Ahead, left: &[u8], right: &[u8], last: Last) -> Taken
-    requires { ⌜ Ready ahead ⌝ }
-    ensures { λ r. ⌜ Next (now (s .entry)) Kept.All (lastBound (now (left .entry)) (now (right .entry)) last) ahead r ⌝ }
+// Which of the next members of both sides is taken; of equal names the right one's, and the left one's is passed over.
+fn turn_of(left: &[u8], l: Taken, right: &[u8], r: Taken) -> Turn
+    ensures { λ t. ⌜ t ≡ chosen (now (left .entry)) (now (right .entry)) l r ⌝ }
 {
-    match last {
-        Last::Left(key) => next_in_order(s, ahead, Kept::All, false, payload_at(left, key)),
-        Last::Right(key) => next_in_order(s, ahead, Kept::All, false, payload_at(right, key)),
-        Last::Nothing => next_in_order(s, ahead, Kept::All, true, s),
-    }
-}
-
-// The next member of both sides; of equal names the right one's, and the left one's is passed over.
-fn next_of_sides(left: &[u8], right: &[u8], sides: Sides, last: Last) -> Turn
-    requires { ⌜ Ready (sides .left) × Ready (sides .right) ⌝ }
-    ensures { λ r. ⌜ NextOf (now (left .entry)) (now (right .entry)) last sides r ⌝ }
-{
-    let left_here = sides.left;
-    let right_here = sides.right;
-    let l = next_behind(left, left_here, left, right, last);
-    let r = next_behind(right, right_here, left, right, last);
     let Taken::Member(left_member, left_next) = l else {
         let Taken::Member(right_member, right_next) = r else {
             return Turn::End;
         };
-        return Turn::Right(
-            right_member,
-            Sides {
-                left: left_here,
-                right: right_next,
-            },
-        );
+        return Turn::Right(right_member, right_next);
     };
     let Taken::Member(right_member, right_next) = r else {
-        return Turn::Left(
-            left_member,
-            Sides {
-                left: left_next,
-                right: right_here,
-            },
-        );
+        return Turn::Left(left_member, left_next);
     };
     match compare(
         payload_at(left, left_member.key),
         payload_at(right, right_member.key),
     ) {
-        Ordering::Less => Turn::Left(
-            left_member,
-            Sides {
-                left: left_next,
-                right: right_here,
-            },
-        ),
-        Ordering::Equal => Turn::Right(
-            right_member,
-            Sides {
-                left: left_next,
-                right: right_next,
-            },
-        ),
-        Ordering::Greater => Turn::Right(
-            right_member,
-            Sides {
-                left: left_here,
-                right: right_next,
-            },
-        ),
+        Ordering::Less => Turn::Left(left_member, left_next),
+        Ordering::Equal => Turn::Both(right_member, left_next, right_next),
+        Ordering::Greater => Turn::Right(right_member, right_next),
     }
 }
 
-// Stores the members of two objects, of m and n members, in byte order of their names, and gives the places behind them.
+// Stores the members of two objects, of m and n members, in byte order of their names, and gives the places behind them. The next
+// member of a side is kept until it is taken or passed over, and only then the one behind it is looked for.
 fn put_merged(left: &[u8], m: usize, right: &[u8], n: usize, out: &mut [u8], to: Places) -> Places
     requires { ⌜ Objects (now left) m (now right) n
         × (to .«key_jentry» < 2 ^ 32) × (to .«val_jentry» < 2 ^ 32) × (to .key < 2 ^ 32) × (to .val < 2 ^ 32) ⌝ }
@@ -135,26 +76,27 @@ fn put_merged(left: &[u8], m: usize, right: &[u8], n: usize, out: &mut [u8], to:
         (now (out .entry)) (to .«key_jentry») (to .«val_jentry») (to .key) (to .val)
         (merged (now (left .entry)) m (now (right .entry)) n) ⌝ }
 {
-    let mut sides = Sides {
-        left: members_ahead(left, m),
-        right: members_ahead(right, n),
-    };
+    let mut l = next_in_order(left, members_ahead(left, m), Kept::All, true, left);
+    let mut r = next_in_order(right, members_ahead(right, n), Kept::All, true, right);
     let mut at = to;
-    let mut last = Last::Nothing;
     let mut i = 0;
     while i < m + n {
-        match next_of_sides(left, right, sides, last) {
-            Turn::Left(member, next) => {
-                let key = member.key;
+        match turn_of(left, l, right, r) {
+            Turn::Left(member, ahead) => {
+                let name = payload_at(left, member.key);
                 at = put_member(left, left, member, out, at);
-                last = Last::Left(key);
-                sides = next;
+                l = next_in_order(left, ahead, Kept::All, false, name);
             }
-            Turn::Right(member, next) => {
-                let key = member.key;
+            Turn::Right(member, ahead) => {
+                let name = payload_at(right, member.key);
                 at = put_member(right, right, member, out, at);
-                last = Last::Right(key);
-                sides = next;
+                r = next_in_order(right, ahead, Kept::All, false, name);
+            }
+            Turn::Both(member, left_ahead, right_ahead) => {
+                let name = payload_at(right, member.key);
+                at = put_member(right, right, member, out, at);
+                l = next_in_order(left, left_ahead, Kept::All, false, name);
+                r = next_in_order(right, right_ahead, Kept::All, false, name);
             }
             Turn::End => return at,
         }
