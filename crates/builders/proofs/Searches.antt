@@ -22,7 +22,7 @@ use Rattle.builders.specs.declared.search.Found.{Found}
 use Rattle.builders.specs.declared.search.Found.the-variants.{Nothing, At}
 use Rattle.builders.proofs.Orderings.{turned, order-refl, order-turn, order-trans, order-equal}
 
-less-is : (o : Ordering) → is-less o ≡ true → o ≡ Less
+pub less-is : (o : Ordering) → is-less o ≡ true → o ≡ Less
 less-is Less e = refl
 less-is Equal e = cc
 less-is Greater e = cc

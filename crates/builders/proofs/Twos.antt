@@ -26,13 +26,13 @@ use Rattle.builders.specs.Room.{sized}
 refuses : (o : Bytes) (p : Outcome) (x : Refusal) → p ≡ refusal x → Ended (Refused x) o o p
 refuses o p x e = rw e (record { answer = refl; bytes = refl })
 
+pub and-false : (a : Bool) → (a && false) ≡ false
+and-false true = refl
+and-false false = refl
+
 within-deep : (v : Tree) → 64 < depth v → within v ≡ refused Result
 unfolding within _>>=_ require
 within-deep v h = rw (lt-leb (depth v) 64 h, and-false (leb (record-length v) 65536))
-  where
-    and-false : (a : Bool) → (a && false) ≡ false
-    and-false true = refl
-    and-false false = refl
 
 -- A result within the depth is refused by its length alone.
 pub written-sized : (v : Tree) (b : Bytes) (room : ℕ) → depth v ≤ 64 → b ≡ encode v → written room (within v) ≡ sized room b

@@ -13,19 +13,14 @@ use Rattle.builders.specs.declared.search.MemberAt.{MemberAt}
 use Rattle.builders.specs.declared.search.Found.{Found}
 use Rattle.builders.specs.declared.search.Found.the-variants.{Nothing, At}
 use Rattle.builders.proofs.Orderings.{turned, order-turn, order-equal, order-trans}
-use Rattle.builders.proofs.Searches.{over-up, over-less, passed-later, least-append}
+use Rattle.builders.proofs.Searches.{less-is, over-up, over-less, passed-later, least-append}
 use Rattle.edits.specs.Merge.{moved-member, moved-all}
 use Rattle.edits.proofs.Deletes.{false-true}
 
 -- Three names: what is before holds from the first to the last, and what is not before too.
 before-less : (a b : Bytes) → before a b ≡ true → order a b ≡ Less
 unfolding before
-before-less a b h = go (order a b) h
-  where
-    go : (o : Ordering) → is-less o ≡ true → o ≡ Less
-    go Less e = refl
-    go Equal e = false-true e
-    go Greater e = false-true e
+before-less a b h = less-is (order a b) h
 
 before-trans : (a b c : Bytes) → before a b ≡ true → before b c ≡ true → before a c ≡ true
 unfolding over

@@ -38,6 +38,7 @@ use Rattle.builders.proofs.Orderings.{order-equal, order-refl}
 use Rattle.builders.proofs.InOrders.{in-order-rising, find-in-order, in-order-count, in-order-names, count-distinct}
 use Rattle.builders.proofs.Searches.{length-sorted, nth-inside, bytes-short, least-over}
 use Rattle.builders.proofs.Storing.{column-sorted, column-less, Stored, begins, goes, ends-full, ends-val, sought-nth, sought-end}
+use Rattle.builders.proofs.Twos.{and-false}
 use Rattle.builders.proofs.Stands.{Stands, Stand, stand-sorted, stand-names}
 use Rattle.edits.specs.Strip.{is-null, kept, stripped, stripped-members, unrepeated, unrepeated-members}
 use Rattle.edits.specs.Stripping.{stripped-of, unrepeated-of, Strippable, strip-item, strip-value, value-entry, unrepeated-item, Strips}
@@ -49,7 +50,7 @@ use Rattle.edits.specs.declared.members.Sizes.{Sizes}
 use Rattle.edits.specs.declared.strip.Stripped.{Stripped}
 use Rattle.edits.specs.declared.strip.Stripped.the-variants.{Len, Repeated}
 use Rattle.edits.proofs.Deletes.{some-inj, nothing-some}
-use Rattle.edits.proofs.Strips.{and-false, in-order-unrepeated, kept-unrepeated, find-unrepeated}
+use Rattle.edits.proofs.Strips.{in-order-unrepeated, kept-unrepeated, find-unrepeated}
 use Rattle.edits.proofs.Helds.{entry-code}
 use Rattle.edits.proofs.Tables.{Contains}
 use Rattle.edits.proofs.Withouts.{object-word}

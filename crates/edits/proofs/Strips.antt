@@ -22,6 +22,7 @@ use Rattle.builders.specs.Order.{by, in-order, find, distinct}
 use Rattle.builders.specs.Build.{count}
 use Rattle.builders.proofs.InOrders.{unlike, has-not, distinct-cons, rising-distinct, rising-cons, in-order-rising, rising-in-order, find-in-order, in-order-valid, in-order-sound, in-order-depth, gather, gather-in-order}
 use Rattle.builders.proofs.Results.{is-true}
+use Rattle.builders.proofs.Twos.{and-false}
 use Rattle.edits.specs.Path.{Step, name, index}
 use Rattle.edits.specs.Find.{_then_, step-place, step-name, item-at, step-into, look-up}
 use Rattle.edits.specs.Strip.{is-null, kept, stripped, stripped-items, stripped-members, unrepeated, unrepeated-items, unrepeated-members, strip}
@@ -35,10 +36,6 @@ use Rattle.edits.proofs.Kept.{NoMore, NoMoreItems, NoMoreMembers, no-mo
 by-test : (p : Bool) (P : Bool → Type 0) → (p ≡ true → P true) → (p ≡ false → P false) → P p
 by-test true P f g = f refl
 by-test false P f g = g refl
-
-pub and-false : (a : Bool) → (a && false) ≡ false
-and-false true = refl
-and-false false = refl
 
 pub null-is : (t : Tree) → is-null t ≡ true → t ≡ null
 null-is null e = refl

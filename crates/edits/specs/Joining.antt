@@ -10,6 +10,7 @@ use Rattle.builders.specs.Join.{as-one}
 use Rattle.builders.specs.declared.join.Given.{Given}
 use Rattle.builders.specs.declared.join.Given.the-variants.{Table, Whole}
 
+-- An array gives the items of its table; any other record is one item.
 abbrev pub as-given : Header → Given
 as-given (Array n) = Table n
 as-given (Object n) = as-one (Object n)

@@ -1,4 +1,5 @@
--- A container stripped, as the code stores it. proofs/Stripped.antt ties it to `strip`.
+-- A container stripped, as the code stores it. `stripped-tree` and `stripped-at` of proofs/Stripped.antt tie it to `stripped`, and
+-- `strip-ends` of proofs/StripWrites.antt to `strip`.
 use Prim.Native.Nat.{ℕ, _≤_}
 use mathlib.Core.Path.{_≡_}
 use mathlib.Core.Bool.{Bool, true, false, cond}

@@ -3,19 +3,14 @@ use Rattle.builders.proofs.Steps.{turn-searched, turn-left-out}
 use borrow.Author.Needs.{needs}
 use Rattle.builders.proofs.search.turn_of.Statement.{statement}
 use Rattle.builders.proofs.search.turn_of.Tie as tie
-use Rattle.builders.proofs.search.turn_of.Reads as reads
-use Rattle.builders.proofs.search.turn_of.Lts as lts
 use Rattle.builders.proofs.search.step_of.Reads as step-of-reads
 
--- src/search.rt:131:9
 step-of-requires : tie.Need-step-of-requires
 step-of-requires c κs = search needs
 
--- src/search.rt:131:9
 returns : tie.Need-returns
 returns c = turn-searched _ _ _ _ _ _ (c .before .if1 .taken) (c .step-of .ensures)
 
--- src/search.rt:120:1
 returns-2 : tie.Need-returns-2
 returns-2 c = turn-left-out _ _ _ _ _ (c .if1 .left)
 

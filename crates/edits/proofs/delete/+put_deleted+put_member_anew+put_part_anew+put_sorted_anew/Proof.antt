@@ -307,7 +307,6 @@ put-sorted-anew-name-of-requires t c κs = let v = at-value (c .before .before .
 put-sorted-anew-way-behind-requires : (t : ℕ) → put-sorted-anew-lts.Need-way-behind-requires (put-sorted-anew-claims t) (put-sorted-anew-at t) put-sorted-anew.Post put-sorted-anew-Inv-loop put-sorted-anew-μ-loop
 put-sorted-anew-way-behind-requires t c κs = (omega (arith, c .before .before .before .before .before .before .pre .1 .0 .more, c .before .before .before .before .before .before .pre .1 .0 .few), omega (arith, c .before .before .before .before .before .before .pre .1 .0 .near, c .before .before .before .before .before .before .pre .1 .0 .more, c .before .before .before .before .before .before .pre .1 .0 .few))
 
--- src/delete.rt:373:9
 put-sorted-anew-measure-members-requires :
     (t : ℕ) → put-sorted-anew-lts.Need-measure-members-requires (
       members-of-reads.Asked,
@@ -357,7 +356,6 @@ put-sorted-anew-returns t c = anew-left (c .before .before .before .before .befo
 put-sorted-anew-sub-put-member-anew : (t : ℕ) → put-sorted-anew-lts.Need-sub-put-member-anew (put-sorted-anew-claims t) (put-sorted-anew-at t) put-sorted-anew.Post put-sorted-anew-Inv-loop put-sorted-anew-μ-loop
 put-sorted-anew-sub-put-member-anew t c = let a = allows (c .before .before .before .before .before .before .before .before .before .before .before .before .before .before .before .before .before .before .before .before .before .before .args .s .now) (c .before .before .before .before .before .before .before .before .before .before .before .before .before .before .before .before .before .before .before .before .before .before .args .path .now) (c .before .before .before .before .before .before .before .before .before .before .before .before .before .before .before .before .before .before .before .before .before .before .args .n) (c .before .before .before .before .before .before .before .before .before .before .before .before .before .before .before .before .before .before .before .before .before .before .args .val) (c .before .before .before .before .before .before .before .before .before .before .before .before .before .before .before .before .before .before .before .before .before .before .args .way) (c .before .before .before .before .before .before .before .before .before .before .before .before .before .before .before .before .before .before .before .before .before .before .args .allowance) (octets-of (c .before .before .before .before .before .before .before .before .before .before .before .before .before .before .before .before .before .before .before .before .before .before .args .s .now) (λ i. omega (arith, c .before .before .before .before .before .before .before .before .before .before .before .before .before .before .before .before .before .before .before .before .before .shared-slice-known .given i))) (c .before .before .before .before .before .before .before .before .before .before .before .before .before .before .before .before .before .before .before .before .before .before .pre .1 .0) (c .before .before .before .before .before .before .before .before .before .before .before .before .before .before .before .before .before .before .before .before .before .before .pre .1 .1) (c .before .before .before .before .before .before .before .before .before .before .before .before .before .before .before .before .before .before .before .before .before .before .pre .1 .2) in omega (arith, a)
 
--- src/delete.rt:382:9
 put-sorted-anew-put-member-anew-requires :
     (t : ℕ) → put-sorted-anew-lts.Need-put-member-anew-requires (
       members-of-reads.Asked,

@@ -1,5 +1,5 @@
-use borrow.Author.Needs.{needs}
 -- `edits::members::measure_ahead` meets its contract.
+use borrow.Author.Needs.{needs}
 use native.Mathlib.Omega.{arith}
 use lib.ListN.{length}
 use Rattle.edits.specs.Members.{kept-ahead}

@@ -1,5 +1,5 @@
-use borrow.Author.Needs.{needs}
 -- `edits::members::next_standing` meets its contract.
+use borrow.Author.Needs.{needs}
 use native.Mathlib.Omega.{arith}
 use mathlib.Core.Path.{_≡_, refl, _∙_}
 use Prim.Native.Nat.{_-_}

@@ -152,7 +152,6 @@ put-member-stripped-claims t = (put-u32-reads.Asked, put-u32-reads.Learnt, paylo
 abbrev put-stripped-claims : ℕ → put-stripped-lts.Claims
 put-stripped-claims t = (read-header-reads.Asked, read-header-reads.Learnt, put-items-stripped-below t, put-items-stripped.Post, put-members-stripped-below t, put-members-stripped.Post)
 
--- src/strip.rt:62:34
 put-item-stripped-put-stripped-requires :
     (t : ℕ) → put-item-stripped-lts.Need-put-stripped-requires (
       payload-at-reads.Asked,
@@ -212,7 +211,6 @@ put-items-stripped-put-u32-requires t c κs = search needs
 put-items-stripped-loop-holds : (t : ℕ) → put-items-stripped-lts.Need-loop-holds (put-items-stripped-claims t) (put-items-stripped-at t) put-items-stripped.Post put-items-stripped-Inv-loop put-items-stripped-μ-loop
 put-items-stripped-loop-holds t c = ((array-at (c .before .before .before .before .before .before .before .args .s .now) (c .before .before .before .before .before .before .before .args .n) (c .before .before .before .before .before .before .before .args .allowance) (octets-of (c .before .before .before .before .before .before .before .args .s .now) (λ i. omega (arith, c .before .before .before .before .before .before .shared-slice-known .given i))) (c .before .before .before .before .before .before .before .pre .1 .0) (c .before .before .before .before .before .before .before .pre .1 .1)), storing-starts _ _ _ _ _ _)
 
--- src/strip.rt:114:21
 put-items-stripped-read-jentry-requires :
     (t : ℕ) → put-items-stripped-lts.Need-read-jentry-requires (
       put-u32-reads.Asked,
@@ -230,7 +228,6 @@ put-items-stripped-read-jentry-requires :
     put-items-stripped-μ-loop
 put-items-stripped-read-jentry-requires t c κs = omega (arith, storing-room (c .before .before .before .before .before .before .before .before .before .before .args .s .now) (c .before .before .before .before .before .before .before .before .before .before .args .n) (c .before .before .before .before .before .before .before .before .before .before .args .allowance) (c .before .before .before .before .before .before .before .before .before .before .args .at) (c .before .before .loop .inv .0) _ _ _ _ (c .before .before .loop .inv .1) .5, c .if1 .taken)
 
--- src/strip.rt:117:72
 put-items-stripped-sub-put-item-stripped :
     (t : ℕ) → put-items-stripped-lts.Need-sub-put-item-stripped (
       put-u32-reads.Asked,
@@ -248,7 +245,6 @@ put-items-stripped-sub-put-item-stripped :
     put-items-stripped-μ-loop
 put-items-stripped-sub-put-item-stripped t c = omega (arith, c .before .before .before .before .loop .inv .0 .deep)
 
--- src/strip.rt:117:34
 put-items-stripped-put-item-stripped-requires :
     (t : ℕ) → put-items-stripped-lts.Need-put-item-stripped-requires (
       put-u32-reads.Asked,
@@ -284,7 +280,6 @@ put-items-stripped-add-t22 t c = omega (arith, storing-room (c .before .before .
 put-items-stripped-add-t23 : (t : ℕ) → put-items-stripped-lts.Need-add-t23 (put-items-stripped-claims t) (put-items-stripped-at t) put-items-stripped.Post put-items-stripped-Inv-loop put-items-stripped-μ-loop
 put-items-stripped-add-t23 t c = omega (arith, storing-room (c .before .before .before .before .before .before .before .before .before .before .before .before .before .before .before .before .before .before .before .before .args .s .now) (c .before .before .before .before .before .before .before .before .before .before .before .before .before .before .before .before .before .before .before .before .args .n) (c .before .before .before .before .before .before .before .before .before .before .before .before .before .before .before .before .before .before .before .before .args .allowance) (c .before .before .before .before .before .before .before .before .before .before .before .before .before .before .before .before .before .before .before .before .args .at) (c .before .before .before .before .before .before .before .before .before .before .before .before .loop .inv .0) _ _ _ _ (c .before .before .before .before .before .before .before .before .before .before .before .before .loop .inv .1), c .before .before .before .before .before .before .before .before .before .before .before .before .before .before .before .before .before .before .before .before .pre .1 .2, storing-len (c .before .before .before .before .before .before .before .before .before .before .before .before .before .before .before .before .before .before .before .before .args .s .now) (c .before .before .before .before .before .before .before .before .before .before .before .before .before .before .before .before .before .before .before .before .args .n) (c .before .before .before .before .before .before .before .before .before .before .before .before .before .before .before .before .before .before .before .before .args .allowance) (c .before .before .before .before .before .before .before .before .before .before .before .before .before .before .before .before .before .before .before .before .args .at) (c .before .before .before .before .before .before .before .before .before .before .before .before .loop .inv .0) _ _ _ _ (c .before .before .before .before .before .before .before .before .before .before .before .before .loop .inv .1) (c .before .before .before .before .before .before .before .before .before .before .if1 .taken) _ (c .before .before .before .before .before .before .before .before .before .read-jentry .ensures) refl _ _ (c .before .before .before .before .before .before .before .put-item-stripped .ensures) _ (c .before .before .before .len .given .1))
 
--- src/strip.rt:124:9
 put-items-stripped-part-behind-requires :
     (t : ℕ) → put-items-stripped-lts.Need-part-behind-requires (
       put-u32-reads.Asked,
@@ -317,7 +312,6 @@ put-items-stripped-same-length-2 t c = c .before .before .before .loop .inv .1 .
 put-items-stripped-returns-2 : (t : ℕ) → put-items-stripped-lts.Need-returns-2 (put-items-stripped-claims t) (put-items-stripped-at t) put-items-stripped.Post put-items-stripped-Inv-loop put-items-stripped-μ-loop
 put-items-stripped-returns-2 t c = storing-ends (c .before .before .before .before .before .before .before .before .before .before .before .args .s .now) (c .before .before .before .before .before .before .before .before .before .before .before .args .n) (c .before .before .before .before .before .before .before .before .before .before .before .args .allowance) (c .before .before .before .before .before .before .before .before .before .before .before .args .at) (c .before .before .before .loop .inv .0) _ _ _ _ (c .before .before .before .loop .inv .1) _ _ (c .before .if1 .left) refl (c .before .before .before .before .before .before .put-u32 .ensures)
 
--- src/strip.rt:89:10
 put-member-stripped-payload-at-requires :
     (t : ℕ) → put-member-stripped-lts.Need-payload-at-requires (
       put-u32-reads.Asked,
@@ -331,7 +325,6 @@ put-member-stripped-payload-at-requires :
     ) (put-member-stripped-at t) put-member-stripped.Post
 put-member-stripped-payload-at-requires t c κs = search needs
 
--- src/strip.rt:94:5
 put-member-stripped-put-item-stripped-requires :
     (t : ℕ) → put-member-stripped-lts.Need-put-item-stripped-requires (
       put-u32-reads.Asked,
@@ -357,7 +350,6 @@ put-members-stripped-Inv-loop s n out₀ at allowance ahead₀ sizes to₀ last�
 abbrev put-members-stripped-μ-loop : put-members-stripped-lts.MeasureT-loop
 put-members-stripped-μ-loop s n out₀ at allowance ahead₀ sizes to₀ last₀ i₀ out ahead to last i = sizes .count - i
 
--- src/strip.rt:136:9
 put-members-stripped-members-ahead-requires :
     (t : ℕ) → put-members-stripped-lts.Need-members-ahead-requires (
       members-ahead-reads.Asked,
@@ -383,7 +375,6 @@ put-members-stripped-members-ahead-requires :
     put-members-stripped-μ-loop
 put-members-stripped-members-ahead-requires t c κs = omega (arith, (object-stripped (c .before .before .args .s .now) (c .before .before .args .n) (c .before .before .args .allowance) (octets-of (c .before .before .args .s .now) (λ i. omega (arith, c .before .shared-slice-known .given i))) (c .before .before .pre .1 .0) (c .before .before .pre .1 .1)) .object-is .table, (object-stripped (c .before .before .args .s .now) (c .before .before .args .n) (c .before .before .args .allowance) (octets-of (c .before .before .args .s .now) (λ i. omega (arith, c .before .shared-slice-known .given i))) (c .before .before .pre .1 .0) (c .before .before .pre .1 .1)) .object-is .short)
 
--- src/strip.rt:137:9
 put-members-stripped-measure-ahead-requires :
     (t : ℕ) → put-members-stripped-lts.Need-measure-ahead-requires (
       members-ahead-reads.Asked,
@@ -409,7 +400,6 @@ put-members-stripped-measure-ahead-requires :
     put-members-stripped-μ-loop
 put-members-stripped-measure-ahead-requires t c κs = near-starts (c .before .before .before .args .s .now) (c .before .before .before .args .n) (c .before .before .before .args .allowance) (object-stripped (c .before .before .before .args .s .now) (c .before .before .before .args .n) (c .before .before .before .args .allowance) (octets-of (c .before .before .before .args .s .now) (λ i. omega (arith, c .before .before .shared-slice-known .given i))) (c .before .before .before .pre .1 .0) (c .before .before .before .pre .1 .1)) _ (c .members-ahead .ensures)
 
--- src/strip.rt:138:9
 put-members-stripped-places-for-requires :
     (t : ℕ) → put-members-stripped-lts.Need-places-for-requires (
       members-ahead-reads.Asked,
@@ -447,7 +437,6 @@ put-members-stripped-slice-requires t c κs = search needs
 put-members-stripped-loop-holds : (t : ℕ) → put-members-stripped-lts.Need-loop-holds (put-members-stripped-claims t) (put-members-stripped-at t) put-members-stripped.Post put-members-stripped-Inv-loop put-members-stripped-μ-loop
 put-members-stripped-loop-holds t c = members-starts (c .before .before .before .before .before .before .before .before .before .before .before .args .s .now) (c .before .before .before .before .before .before .before .before .before .before .before .args .n) (c .before .before .before .before .before .before .before .before .before .before .before .args .allowance) (object-stripped (c .before .before .before .before .before .before .before .before .before .before .before .args .s .now) (c .before .before .before .before .before .before .before .before .before .before .before .args .n) (c .before .before .before .before .before .before .before .before .before .before .before .args .allowance) (octets-of (c .before .before .before .before .before .before .before .before .before .before .before .args .s .now) (λ i. omega (arith, c .before .before .before .before .before .before .before .before .before .before .shared-slice-known .given i))) (c .before .before .before .before .before .before .before .before .before .before .before .pre .1 .0) (c .before .before .before .before .before .before .before .before .before .before .before .pre .1 .1)) _ _ _ _ (c .before .before .before .before .before .before .before .before .members-ahead .ensures)
 
--- src/strip.rt:143:43
 put-members-stripped-next-in-order-requires :
     (t : ℕ) → put-members-stripped-lts.Need-next-in-order-requires (
       members-ahead-reads.Asked,
@@ -485,7 +474,6 @@ put-members-stripped-same-length t c = c .before .before .before .before .before
 put-members-stripped-returns : (t : ℕ) → put-members-stripped-lts.Need-returns (put-members-stripped-claims t) (put-members-stripped-at t) put-members-stripped.Post put-members-stripped-Inv-loop put-members-stripped-μ-loop
 put-members-stripped-returns t c = members-few (c .before .before .before .before .before .before .before .before .before .before .before .before .before .before .before .before .before .args .s .now) (c .before .before .before .before .before .before .before .before .before .before .before .before .before .before .before .before .before .args .n) (c .before .before .before .before .before .before .before .before .before .before .before .before .before .before .before .before .before .args .allowance) (c .before .before .before .before .before .before .before .before .before .before .before .before .before .before .before .before .before .args .at) (object-stripped (c .before .before .before .before .before .before .before .before .before .before .before .before .before .before .before .before .before .args .s .now) (c .before .before .before .before .before .before .before .before .before .before .before .before .before .before .before .before .before .args .n) (c .before .before .before .before .before .before .before .before .before .before .before .before .before .before .before .before .before .args .allowance) (octets-of (c .before .before .before .before .before .before .before .before .before .before .before .before .before .before .before .before .before .args .s .now) (λ i. omega (arith, c .before .before .before .before .before .before .before .before .before .before .before .before .before .before .before .before .shared-slice-known .given i))) (c .before .before .before .before .before .before .before .before .before .before .before .before .before .before .before .before .before .pre .1 .0) (c .before .before .before .before .before .before .before .before .before .before .before .before .before .before .before .before .before .pre .1 .1)) (c .before .before .before .before .before .before .before .before .before .before .before .before .before .before .before .before .before .pre .1 .2) _ (sizes-measured (c .before .before .before .before .before .before .before .before .before .before .before .before .before .before .before .before .before .args .s .now) (c .before .before .before .before .before .before .before .before .before .before .before .before .before .before .before .before .before .args .n) _ _ (c .before .before .before .before .before .before .before .before .before .before .before .before .before .before .members-ahead .ensures) (c .before .before .before .before .before .before .before .before .before .before .before .before .before .measure-ahead .ensures)) _ _ (c .before .before .before .before .before .before .before .before .before .before .before .before .places-for .ensures) _ _ _ _ _ (c .before .before .before .before .before .loop .inv) _ (c .before .before .next-in-order .ensures) (c .before .before .before .if1 .taken) (c .enum-told .given .1)
 
--- src/strip.rt:147:74
 put-members-stripped-sub-put-member-stripped :
     (t : ℕ) → put-members-stripped-lts.Need-sub-put-member-stripped (
       members-ahead-reads.Asked,
@@ -511,7 +499,6 @@ put-members-stripped-sub-put-member-stripped :
     put-members-stripped-μ-loop
 put-members-stripped-sub-put-member-stripped t c = omega (arith, (object-stripped (c .before .before .before .before .before .before .before .before .before .before .before .before .before .before .before .before .before .before .before .args .s .now) (c .before .before .before .before .before .before .before .before .before .before .before .before .before .before .before .before .before .before .before .args .n) (c .before .before .before .before .before .before .before .before .before .before .before .before .before .before .before .before .before .before .before .args .allowance) (octets-of (c .before .before .before .before .before .before .before .before .before .before .before .before .before .before .before .before .before .before .before .args .s .now) (λ i. omega (arith, c .before .before .before .before .before .before .before .before .before .before .before .before .before .before .before .before .before .before .shared-slice-known .given i))) (c .before .before .before .before .before .before .before .before .before .before .before .before .before .before .before .before .before .before .before .pre .1 .0) (c .before .before .before .before .before .before .before .before .before .before .before .before .before .before .before .before .before .before .before .pre .1 .1)) .levels)
 
--- src/strip.rt:147:34
 put-members-stripped-put-member-stripped-requires :
     (t : ℕ) → put-members-stripped-lts.Need-put-member-stripped-requires (
       members-ahead-reads.Asked,
@@ -549,7 +536,6 @@ put-members-stripped-same-length-2 t c = search needs
 put-members-stripped-returns-2 : (t : ℕ) → put-members-stripped-lts.Need-returns-2 (put-members-stripped-claims t) (put-members-stripped-at t) put-members-stripped.Post put-members-stripped-Inv-loop put-members-stripped-μ-loop
 put-members-stripped-returns-2 t c = members-repeats (c .before .before .before .before .before .before .before .before .before .before .before .before .before .before .before .before .before .before .before .before .before .before .before .before .args .s .now) (c .before .before .before .before .before .before .before .before .before .before .before .before .before .before .before .before .before .before .before .before .before .before .before .before .args .n) (c .before .before .before .before .before .before .before .before .before .before .before .before .before .before .before .before .before .before .before .before .before .before .before .before .args .allowance) (c .before .before .before .before .before .before .before .before .before .before .before .before .before .before .before .before .before .before .before .before .before .before .before .before .args .at) (object-stripped (c .before .before .before .before .before .before .before .before .before .before .before .before .before .before .before .before .before .before .before .before .before .before .before .before .args .s .now) (c .before .before .before .before .before .before .before .before .before .before .before .before .before .before .before .before .before .before .before .before .before .before .before .before .args .n) (c .before .before .before .before .before .before .before .before .before .before .before .before .before .before .before .before .before .before .before .before .before .before .before .before .args .allowance) (octets-of (c .before .before .before .before .before .before .before .before .before .before .before .before .before .before .before .before .before .before .before .before .before .before .before .before .args .s .now) (λ i. omega (arith, c .before .before .before .before .before .before .before .before .before .before .before .before .before .before .before .before .before .before .before .before .before .before .before .shared-slice-known .given i))) (c .before .before .before .before .before .before .before .before .before .before .before .before .before .before .before .before .before .before .before .before .before .before .before .before .pre .1 .0) (c .before .before .before .before .before .before .before .before .before .before .before .before .before .before .before .before .before .before .before .before .before .before .before .before .pre .1 .1)) (c .before .before .before .before .before .before .before .before .before .before .before .before .before .before .before .before .before .before .before .before .before .before .before .before .pre .1 .2) _ (sizes-measured (c .before .before .before .before .before .before .before .before .before .before .before .before .before .before .before .before .before .before .before .before .before .before .before .before .args .s .now) (c .before .before .before .before .before .before .before .before .before .before .before .before .before .before .before .before .before .before .before .before .before .before .before .before .args .n) _ _ (c .before .before .before .before .before .before .before .before .before .before .before .before .before .before .before .before .before .before .before .before .before .members-ahead .ensures) (c .before .before .before .before .before .before .before .before .before .before .before .before .before .before .before .before .before .before .before .before .measure-ahead .ensures)) _ _ (c .before .before .before .before .before .before .before .before .before .before .before .before .before .before .before .before .before .before .before .places-for .ensures) _ _ _ _ _ (c .before .before .before .before .before .before .before .before .before .before .before .before .loop .inv) _ (c .before .before .before .before .before .before .before .before .before .next-in-order .ensures) _ _ (c .before .before .before .before .before .before .before .member .given .1) _ _ (c .before .before .before .before .put-member-stripped .ensures) (c .enum-told2 .given .1)
 
--- src/strip.rt:150:9
 put-members-stripped-payload-at-requires :
     (t : ℕ) → put-members-stripped-lts.Need-payload-at-requires (
       members-ahead-reads.Asked,
@@ -605,7 +591,6 @@ put-members-stripped-same-length-3 t c = c .before .before .before .loop .inv .s
 put-members-stripped-returns-3 : (t : ℕ) → put-members-stripped-lts.Need-returns-3 (put-members-stripped-claims t) (put-members-stripped-at t) put-members-stripped.Post put-members-stripped-Inv-loop put-members-stripped-μ-loop
 put-members-stripped-returns-3 t c = members-ends (c .before .before .before .before .before .before .before .before .before .before .before .before .before .before .before .args .s .now) (c .before .before .before .before .before .before .before .before .before .before .before .before .before .before .before .args .n) (c .before .before .before .before .before .before .before .before .before .before .before .before .before .before .before .args .allowance) (c .before .before .before .before .before .before .before .before .before .before .before .before .before .before .before .args .at) (object-stripped (c .before .before .before .before .before .before .before .before .before .before .before .before .before .before .before .args .s .now) (c .before .before .before .before .before .before .before .before .before .before .before .before .before .before .before .args .n) (c .before .before .before .before .before .before .before .before .before .before .before .before .before .before .before .args .allowance) (octets-of (c .before .before .before .before .before .before .before .before .before .before .before .before .before .before .before .args .s .now) (λ i. omega (arith, c .before .before .before .before .before .before .before .before .before .before .before .before .before .before .shared-slice-known .given i))) (c .before .before .before .before .before .before .before .before .before .before .before .before .before .before .before .pre .1 .0) (c .before .before .before .before .before .before .before .before .before .before .before .before .before .before .before .pre .1 .1)) (c .before .before .before .before .before .before .before .before .before .before .before .before .before .before .before .pre .1 .2) _ (sizes-measured (c .before .before .before .before .before .before .before .before .before .before .before .before .before .before .before .args .s .now) (c .before .before .before .before .before .before .before .before .before .before .before .before .before .before .before .args .n) _ _ (c .before .before .before .before .before .before .before .before .before .before .before .before .members-ahead .ensures) (c .before .before .before .before .before .before .before .before .before .before .before .measure-ahead .ensures)) _ _ (c .before .before .before .before .before .before .before .before .before .before .places-for .ensures) _ _ _ _ _ (c .before .before .before .loop .inv) _ _ (c .before .if1 .left) refl (c .before .before .before .before .before .before .before .put-u32 .ensures)
 
--- src/strip.rt:170:29
 put-stripped-put-items-stripped-requires :
     (t : ℕ) → put-stripped-lts.Need-put-items-stripped-requires (
       read-header-reads.Asked,
@@ -617,7 +602,6 @@ put-stripped-put-items-stripped-requires :
     ) (put-stripped-at t) put-stripped.Post
 put-stripped-put-items-stripped-requires t c κs = (omega (arith, c .before .before .before .before .before .before .before .pre .0), (c .before .before .before .before .before .before .before .pre .1 .0, sym (c .before .before .before .before .read-header .ensures) ∙ c .before .before .n .given .1, c .before .before .before .before .before .before .before .pre .1 .1))
 
--- src/strip.rt:171:30
 put-stripped-put-members-stripped-requires :
     (t : ℕ) → put-stripped-lts.Need-put-members-stripped-requires (
       read-header-reads.Asked,
