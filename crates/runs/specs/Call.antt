@@ -1,0 +1,39 @@
+-- A call of a run: document 01, "A call names its records by their places on the shelf, one place twice if it likes, and brings any
+-- bytes as path and a result buffer of its own, of any length." The shelf is a list of records, and a place counts from 0.
+use Prim.Native.Nat.{ℕ, _<_}
+use Rattle.layout.specs.Bytes.{Bytes}
+use Rattle.layout.specs.Ended.{Outcome}
+use Rattle.builders.specs.Build.{append, build, on-two}
+use Rattle.edits.specs.Keypath.{get-by, delete-by, on-path}
+use Rattle.edits.specs.Concat.{concat}
+use Rattle.edits.specs.Strip.{strip, on-one}
+use Rattle.runs.specs.declared.call.Edit.{Edit}
+use Rattle.runs.specs.declared.call.Edit.the-variants.{Get, Delete, Concat, Strip, Append, Build}
+
+-- Its kind, the places of its records, its path and its buffer as it is lent. A call that takes one record takes the left one, and
+-- a call without a path does not look at it.
+pub record Call : Type 0 where
+  pub edit : Edit
+  pub left : ℕ
+  pub right : ℕ
+  pub path : Bytes
+  pub buffer : Bytes
+
+-- What document 01 gives a call on two records, with a path and a buffer of `room` bytes: what the function's contract cites.
+unfoldable pub outcome : Edit → Bytes → Bytes → Bytes → ℕ → Outcome
+unfolding on-path on-two on-one concat
+outcome Get left right path room = on-path get-by left path room
+outcome Delete left right path room = on-path delete-by left path room
+outcome Concat left right path room = on-two concat left right room
+outcome Strip left right path room = on-one strip left room
+outcome Append left right path room = on-two append left right room
+outcome Build left right path room = on-two build left right room
+
+-- "A call takes any records then on its shelf": the places that it names are there, on a shelf of `n` records.
+abbrev pub There : Edit → ℕ → ℕ → ℕ → Type 0
+There Get left right n = left < n
+There Delete left right n = left < n
+There Concat left right n = (left < n) × (right < n)
+There Strip left right n = left < n
+There Append left right n = (left < n) × (right < n)
+There Build left right n = (left < n) × (right < n)
