@@ -55,12 +55,12 @@ written-result room (gives v) b e = go (ltb room (length (encode v))) (nltb→le
     go true h q = let z : _≡_ {A = ℕ} 0 1 = cc in let w : ⊥ = omega arith in absurd w
     go false h q = let f : b ≡ encode v = cc in (v, refl, f, rw f (h tt))
 
-on-two-is : (edit : Tree → Tree → Answer Tree) (l r : Bytes) (room : ℕ)
+pub on-two-is : (edit : Tree → Tree → Answer Tree) (l r : Bytes) (room : ℕ)
     → on-two edit l r room ≡ written room (read l >>= λ t. read r >>= λ u. edit t u >>= λ v. within v)
 unfolding on-two
 on-two-is edit l r room = refl
 
-within-is : (v : Tree) → within v ≡ (require (leb (record-length v) 65536 && leb (depth v) 64) Result >>= λ _. gives v)
+pub within-is : (v : Tree) → within v ≡ (require (leb (record-length v) 65536 && leb (depth v) 64) Result >>= λ _. gives v)
 unfolding within
 within-is v = refl
 
@@ -180,7 +180,7 @@ pair-sound [] us s = tt
 pair-sound (n ∷ ns) none s = tt
 pair-sound (n ∷ ns) (item u us) s = (s .0, pair-sound ns us (s .1))
 
-count-texts : (ts : Items) (ns : List Bytes) → texts-of ts ≡ gives ns → length ns ≡ count ts
+pub count-texts : (ts : Items) (ns : List Bytes) → texts-of ts ≡ gives ns → length ns ≡ count ts
 count-texts none ns e = rw (← gives-inj {x = []} e)
 count-texts (item t ts) ns e = from-bind e λ n hn e₁. from-bind e₁ λ ms hm e₂. rw (← gives-inj {x = n ∷ ms} e₂) (ap suc (count-texts ts ms hm))
 

@@ -46,7 +46,7 @@ pub deleted-missing : (p : List Step) (t : Tree) → look-up p t ≡ nothing →
 deleted-missing p t e = ap (λ (o : Option Tree). or-same t (o then λ _. left p t)) e
 
 -- Any other path: the container is written anew.
-deleted-found : (s : Step) (p : List Step) (t c v : Tree) → step-into s t ≡ some c → look-up p c ≡ some v
+pub deleted-found : (s : Step) (p : List Step) (t c v : Tree) → step-into s t ≡ some c → look-up p c ≡ some v
     → delete (s ∷ p) t ≡ anew (left p c) s t
 deleted-found s p t c v h e =
     ap (λ (o : Option Tree). or-same t ((o then look-up p) then λ _. some (anew (o then left p) s t))) h

@@ -42,7 +42,7 @@ module _ (l r b : Bytes) (room : ℕ) (ol : Octets l) (or : Octets r) (e : on-tw
 
 -- ---- strip
 
-on-one-is : (edit : Tree → Answer Tree) (s : Bytes) (room : ℕ) → on-one edit s room ≡ written room (read s >>= edit)
+pub on-one-is : (edit : Tree → Answer Tree) (s : Bytes) (room : ℕ) → on-one edit s room ≡ written room (read s >>= edit)
 unfolding on-one
 on-one-is edit s room = refl
 

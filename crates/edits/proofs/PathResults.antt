@@ -40,7 +40,7 @@ found-result room (refused r) b e = let z : _≡_ {A = ℕ} 0 1 = cc in let w : 
 found-result room (gives nothing) b e = let z : _≡_ {A = ℕ} 0 1 = cc in let w : ⊥ = omega arith in absurd w
 found-result room (gives (some v)) b e = (v, refl, into-result room (encode v) b e)
 
-on-path-is : (edit : List Step → Tree → Answer (Option Tree)) (target path : Bytes) (room : ℕ)
+pub on-path-is : (edit : List Step → Tree → Answer (Option Tree)) (target path : Bytes) (room : ℕ)
     → on-path edit target path room ≡ found room (read target >>= λ t. path-of path >>= λ p. edit p t)
 unfolding on-path
 on-path-is edit target path room = refl

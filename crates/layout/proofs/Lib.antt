@@ -12,6 +12,7 @@ pub mod Encoding
 pub mod Readables
 pub mod ReadCases
 pub mod Values
+pub mod Sames
 pub mod Places
 pub mod Checks
 pub mod Nestings

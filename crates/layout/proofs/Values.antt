@@ -56,7 +56,7 @@ taken-names n t (member x u ms) r h m i =
     h
 
 -- The names of an equal object are the same.
-same-names : (ms ns : Members) → SameMembers ms ns → (m : Bytes) → In m (names ns) → In m (names ms)
+pub same-names : (ms ns : Members) → SameMembers ms ns → (m : Bytes) → In m (names ns) → In m (names ms)
 same-names empty ns h m i = rw h at i
 same-names (member n t ms) ns h m i =
     ⊎-elim (λ e. inl e) (λ j. inr (same-names ms (h .1) (h .4) m j)) (taken-names n (h .0) ns (h .1) (h .2) m i)

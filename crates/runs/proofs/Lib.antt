@@ -1,2 +1,6 @@
 -- The laws of runs.
-pub mod Sames
+pub mod Named
+pub mod Proper
+pub mod Canon
+pub mod Looks
+pub mod Removes

@@ -1,9 +1,9 @@
--- Equality of values is an equivalence.
+-- Equality of values is an equivalence: `same-refl` of Values, and these two.
 use mathlib.Core.Path.{_≡_, refl, sym, _∙_}
 use mathlib.Core.Logic.{_⊎_, inl, inr, ⊎-elim}
 use Rattle.layout.specs.Bytes.{Bytes}
 use Rattle.layout.specs.Tree.{Tree, null, boolean, number, string, extension, array, object, Items, none, item, Members, empty, member}
 use Rattle.layout.specs.Value.{Taken, Same, SameItems, SameMembers}
 
 -- A member put in at some place of one side, and in front of the other.
 same-taken : (n : Bytes) (t u : Tree) (ns r ms : Members) → Taken n u ns r → Same u t → SameMembers r ms → SameMembers ns (member n t ms)

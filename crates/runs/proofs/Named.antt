@@ -1,0 +1,57 @@
+-- Names by their bytes alone: the account's tests say what the tests of builders by byte order say.
+use Prim.Native.Nat.{ℕ}
+use mathlib.Core.Path.{_≡_, refl, ap, ap₂, sym, _∙_}
+use mathlib.Core.Logic.{⊎-elim}
+use mathlib.Core.Bool.{Bool, true, false, not, cond, _&&_, _||_}
+use mathlib.Core.List.{[], _∷_}
+use mathlib.Core.Option.{Option, some}
+use lib.Dec.{T, eqb, eqb→eq}
+use borrow.Author.Tests.{eq-eqb}
+use Rattle.layout.specs.Bytes.{Bytes}
+use Rattle.layout.specs.Tree.{Tree, Members, empty, member, names}
+use Rattle.builders.specs.Order.{find, same, has, distinct}
+use Rattle.edits.proofs.Deletes.{by-equal, equal-or-not, find-first, find-later}
+use Rattle.runs.specs.Plain.{equal, has-name, repeats, named}
+
+equal-refl : (a : Bytes) → equal a a ≡ true
+equal-refl [] = refl
+equal-refl (x ∷ a) = rw (eq-eqb x x refl) (equal-refl a)
+
+equal-not : (a b : Bytes) → (a ≡ b → ⊥) → equal a b ≡ false
+equal-not [] [] h = absurd (h refl)
+equal-not [] (y ∷ b) h = refl
+equal-not (x ∷ a) [] h = refl
+equal-not (x ∷ a) (y ∷ b) h = go (eqb x y) (λ e. equal-not a b (λ f. h (ap₂ _∷_ (eqb→eq x y e) f)))
+  where
+    go : (t : Bool) → (T t → equal a b ≡ false) → (t && equal a b) ≡ false
+    go true e = e tt
+    go false e = refl
+
+-- By cases on whether two names are equal.
+pub by-name : {A : Type 0} (a b : Bytes) (P : A → Type 0) (x y : A) → (a ≡ b → P x) → ((a ≡ b → ⊥) → P y) → P (cond (equal a b) x y)
+by-name a b P x y f g =
+    ⊎-elim
+    (λ (e : a ≡ b). let q : equal a b ≡ true = rw e (equal-refl b) in rw q (f e))
+    (λ h. rw (equal-not a b h) (g h))
+    (equal-or-not a b)
+
+pub named-find : (n : Bytes) (ms : Members) → named n ms ≡ find n ms
+named-find n empty = refl
+named-find n (member m t ms) =
+    by-name n m (λ (o : Option Tree). o ≡ find n (member m t ms)) _ _
+    (λ e. rw e (sym (find-first m t ms)))
+    (λ h. named-find n ms ∙ sym (find-later n m t ms h))
+
+pub has-named : (n : Bytes) (ms : Members) → has-name n ms ≡ has n (names ms)
+unfolding has same
+has-named n empty = refl
+has-named n (member m t ms) = ap₂ _||_ (by-equal n m (λ (b : Bool). equal n m ≡ b) false true (equal-not n m) (λ e. rw e (equal-refl m))) (has-named n ms)
+
+pub repeats-is : (ms : Members) → not (repeats ms) ≡ distinct (names ms)
+unfolding distinct
+repeats-is empty = refl
+repeats-is (member n t ms) = rw (has-named n ms, ← repeats-is ms) (neither (has n (names ms)) (repeats ms))
+  where
+    neither : (a b : Bool) → not (a || b) ≡ (not a && not b)
+    neither true b = refl
+    neither false b = refl
