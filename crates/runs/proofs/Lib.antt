@@ -4,3 +4,6 @@ pub mod Proper
 pub mod Canon
 pub mod Looks
 pub mod Removes
+pub mod Overlaid
+pub mod Cleaned
+pub mod Built

@@ -4,13 +4,13 @@ use mathlib.Core.Path.{_≡_, refl, ap, ap₂, sym, _∙_}
 use mathlib.Core.Logic.{⊎-elim}
 use mathlib.Core.Bool.{Bool, true, false, not, cond, _&&_, _||_}
 use mathlib.Core.List.{[], _∷_}
-use mathlib.Core.Option.{Option, some}
+use mathlib.Core.Option.{Option, none as nothing, some}
 use lib.Dec.{T, eqb, eqb→eq}
 use borrow.Author.Tests.{eq-eqb}
 use Rattle.layout.specs.Bytes.{Bytes}
 use Rattle.layout.specs.Tree.{Tree, Members, empty, member, names}
 use Rattle.builders.specs.Order.{find, same, has, distinct}
-use Rattle.edits.proofs.Deletes.{by-equal, equal-or-not, find-first, find-later}
+use Rattle.edits.proofs.Deletes.{nothing-some, by-equal, equal-or-not, find-first, find-later}
 use Rattle.runs.specs.Plain.{equal, has-name, repeats, named}
 
 equal-refl : (a : Bytes) → equal a a ≡ true
@@ -46,6 +46,14 @@ pub has-named : (n : Bytes) (ms : Members) → has-name n ms ≡ has n (names ms
 unfolding has same
 has-named n empty = refl
 has-named n (member m t ms) = ap₂ _||_ (by-equal n m (λ (b : Bool). equal n m ≡ b) false true (equal-not n m) (λ e. rw e (equal-refl m))) (has-named n ms)
+
+pub missing-name : (n : Bytes) (ms : Members) → find n ms ≡ nothing → has-name n ms ≡ false
+missing-name n empty e = refl
+missing-name n (member m t ms) e =
+    ⊎-elim
+    (λ (q : n ≡ m). nothing-some {x = t} (sym e ∙ rw q (find-first m t ms)))
+    (λ h. rw (equal-not n m h) (missing-name n ms (sym (find-later n m t ms h) ∙ e)))
+    (equal-or-not n m)
 
 pub repeats-is : (ms : Members) → not (repeats ms) ≡ distinct (names ms)
 unfolding distinct

@@ -237,7 +237,7 @@ abbrev pub Fewer : List Bytes → List Bytes → Type 0
 Fewer ns [] = ns ≡ []
 Fewer ns (m ∷ ms) = Fewer ns ms ⊎ ((r : List Bytes) × (ns ≡ m ∷ r) × Fewer r ms)
 
-fewer-in : (ns ms : List Bytes) → Fewer ns ms → (x : Bytes) → In x ns → In x ms
+pub fewer-in : (ns ms : List Bytes) → Fewer ns ms → (x : Bytes) → In x ns → In x ms
 fewer-in ns [] h x i = rw h at i
 fewer-in ns (m ∷ ms) h x i =
     ⊎-elim
