@@ -1,10 +1,10 @@
 -- Object build on values, as on sound trees.
-use Prim.Native.Nat.{ℕ, suc, compare·suc-suc}
+use Prim.Native.Nat.{ℕ, suc}
 use native.Mathlib.Omega.{arith}
 use mathlib.Core.Path.{_≡_, refl, ap, sym, _∙_}
 use mathlib.Core.Bool.{Bool, true, false, not}
 use mathlib.Core.List.{List, [], _∷_}
-use lib.Dec.{T, eqb, eqb→eq}
+use lib.Dec.{T, eqb, eqb→eq, eqb·suc-suc}
 use borrow.Author.Tests.{ne-eqb}
 use Rattle.layout.specs.Bytes.{Bytes, Octets}
 use Rattle.layout.specs.Answer.{Answer, gives, refused, _>>=_, require}
@@ -27,9 +27,6 @@ use Rattle.runs.proofs.Overlaid.{canon-answer}
 -- The names, the test of the counts, the pairs: what build does before it looks for a repeated name.
 abbrev pairs : Answer (List Bytes) → Bool → Items → Answer Members
 pairs texts counts us = texts >>= λ ns. require counts Kind >>= λ _. gives (pair ns us)
-
-eqb-suc : (a b : ℕ) → eqb (suc a) (suc b) ≡ eqb a b
-eqb-suc a b = rw (compare·suc-suc a b)
 
 -- Names that are no strings give 7, and nothing else.
 texts-refused : (ts : Items) (r : Refusal) → texts-of ts ≡ refused r → r ≡ Kind
@@ -68,7 +65,7 @@ pairs-in-turn (item null ts) (item u us) = refl
 pairs-in-turn (item (boolean x) ts) (item u us) = refl
 pairs-in-turn (item (number b) ts) (item u us) = refl
 pairs-in-turn (item (string b) ts) (item u us) =
-    rw (eqb-suc (count ts) (count us)) (one-more b u us (texts-of ts) (eqb (count ts) (count us)) (in-turn ts us) (pairs-in-turn ts us))
+    rw (eqb·suc-suc (count ts) (count us)) (one-more b u us (texts-of ts) (eqb (count ts) (count us)) (in-turn ts us) (pairs-in-turn ts us))
 pairs-in-turn (item (extension b) ts) (item u us) = refl
 pairs-in-turn (item (array vs) ts) (item u us) = refl
 pairs-in-turn (item (object ms) ts) (item u us) = refl
@@ -167,7 +164,7 @@ items-proper (object ms) ts p e = refused-gives e
 pub build-proper : (t u v : Tree) → Proper t → Proper u → plain-build t u ≡ gives v → Proper v
 unfolding plain-build
 build-proper t u v p q e =
-    from-bind e λ ts ht e₁. from-bind e₁ λ us hu e₂. from-bind e₂ λ ms hm e₃. from-require _ _ _ e₃ λ d e₄.
+    from-bind e λ ts ht e₁. from-bind e₁ λ us hu e₂. from-bind e₂ λ ms hm e₃. from-require (not (repeats ms)) Repeated (λ _. gives (object ms)) e₃ λ d e₄.
     let is : object ms ≡ v = gives-inj e₄ in
     rw (← is) (
       sym (repeats-is ms) ∙ is-true (not (repeats ms)) d,

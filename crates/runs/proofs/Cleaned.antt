@@ -69,7 +69,7 @@ last true u = refl
 last false u = refl
 
 mutual
-  stripped-canon : (t : Tree) → Proper t → stripped (canon t) ≡ canon (plain-strip t)
+  pub stripped-canon : (t : Tree) → Proper t → stripped (canon t) ≡ canon (plain-strip t)
   stripped-canon null p = refl
   stripped-canon (boolean x) p = refl
   stripped-canon (number b) p = refl

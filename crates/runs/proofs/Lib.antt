@@ -7,3 +7,4 @@ pub mod Removes
 pub mod Overlaid
 pub mod Cleaned
 pub mod Built
+pub mod Agrees
