@@ -8,3 +8,4 @@ pub mod Overlaid
 pub mod Cleaned
 pub mod Built
 pub mod Agrees
+pub mod Demands
