@@ -14,6 +14,7 @@ use Rattle.edits.specs.Strip.{is-null as null-tree, stripped, stripped-items, s
 use Rattle.edits.proofs.Deletes.{find-first, find-later, equal-or-not, find-unique, found-in, not-in}
 use Rattle.edits.proofs.Strips.{strip-finds, strip-of-sound}
 use Rattle.runs.specs.Plain.{is-null, plain-strip, strip-items, strip-members}
+use Rattle.runs.proofs.Named.{by-test}
 use Rattle.runs.proofs.Proper.{Proper, ProperItems, ProperMembers, Fewer, fewer-in, fewer-distinct}
 use Rattle.runs.proofs.Canon.{canon, canon-items, canon-members, canon-found, canon-find, canon-sound}
 
@@ -26,19 +27,11 @@ null-canon (extension b) = refl
 null-canon (array ts) = refl
 null-canon (object ms) = refl
 
--- By cases on whether a value is null.
-by-null : {A : Type 0} (t : Tree) (P : A → Type 0) (x y : A) → P x → P y → P (cond (is-null t) x y)
-by-null t P x y f g = go (is-null t)
-  where
-    go : (b : Bool) → P (cond b x y)
-    go true = f
-    go false = g
-
 strip-fewer : (ms : Members) → Fewer (names (strip-members ms)) (names ms)
 strip-fewer empty = refl
 strip-fewer (member n t ms) =
-    by-null t (λ (a : Members). Fewer (names a) (names (member n t ms))) _ _
-    (inl (strip-fewer ms)) (inr (names (strip-members ms), refl, strip-fewer ms))
+    by-test (is-null t) (λ (a : Members). Fewer (names a) (names (member n t ms))) _ _
+    (λ _. inl (strip-fewer ms)) (λ _. inr (names (strip-members ms), refl, strip-fewer ms))
 
 -- What strip leaves of a member that a name found.
 abbrev left-of : Option Tree → Option Tree
@@ -125,4 +118,5 @@ mutual
   strip-members-proper : (ms : Members) → ProperMembers ms → ProperMembers (strip-members ms)
   strip-members-proper empty p = tt
   strip-members-proper (member n t ms) p =
-      by-null t ProperMembers _ _ (strip-members-proper ms (p .2)) (p .0, strip-proper t (p .1), strip-members-proper ms (p .2))
+      by-test (is-null t) ProperMembers _ _
+      (λ _. strip-members-proper ms (p .2)) (λ _. (p .0, strip-proper t (p .1), strip-members-proper ms (p .2)))

@@ -23,7 +23,7 @@ use Rattle.runs.specs.declared.call.Edit.{Edit}
 use Rattle.runs.specs.declared.call.Edit.the-variants.{Get, Delete, Concat, Strip, Append, Build}
 use Rattle.runs.specs.Call.{Call, There}
 use Rattle.runs.specs.Run.{outcome-on, ends, leaves, shelved, after, run, endings, Takes}
-use Rattle.runs.specs.Account.{Entry, value, absence, refusal, entry-on, entry-ending, account-ends, added, account, account-endings}
+use Rattle.runs.specs.Account.{request, requests, Entry, value, absence, refusal, entry-on, entry-ending, added, account, account-endings}
 use Rattle.runs.specs.Demand.{SoundWith, AllSoundWith, Start, records-after, values-after, EndedAlike, HasItsValue, EqualAlike, Holds, Demand-3}
 use Rattle.runs.proofs.Proper.{Proper, sound-proper, encoded-octets, proper-octets, same-proper}
 use Rattle.runs.proofs.Canon.{canon, canon-sound, same-canon, canon-proper, canon-unique, same-canons, canon-depth, canon-length}
@@ -83,14 +83,14 @@ module _ (values : List Tree) (g : AllGood values) where
   right-there Build i j h = (good-at values j g (h .1), record-at values j (h .1))
 
   module _ (c : Call) (h : There (c .edit) (c .left) (c .right) (length (records values))) where
-    outcome-is : outcome-on c (records values) ≡ in-bytes (entry-on c values)
+    outcome-is : outcome-on c (records values) ≡ in-bytes (entry-on (request c) values)
     outcome-is =
         let l = left-there (c .edit) (c .left) (c .right) h in
         rw (record-at values (c .left) l)
         (agree (getD values (c .left) null) (getD values (c .right) null) (getD (records values) (c .right) []) (c .path) (length (c .buffer))
         (good-at values (c .left) g l) (c .edit) (right-there (c .edit) (c .left) (c .right) h))
 
-    entry-good : GoodEntry (entry-on c values)
+    entry-good : GoodEntry (entry-on (request c) values)
     entry-good =
         agree-good (getD values (c .left) null) (getD values (c .right) null) (getD (records values) (c .right) []) (c .path) (length (c .buffer))
         (good-at values (c .left) g (left-there (c .edit) (c .left) (c .right) h)) (c .edit) (right-there (c .edit) (c .left) (c .right) h)
@@ -116,21 +116,22 @@ added-good (refusal r) values h g = g
 -- ---- a run
 
 record Ran (cs : List Call) (values : List Tree) : Type 0 where
-  shelf : run cs (records values) ≡ records (account cs values)
-  ended : endings cs (records values) ≡ account-endings cs values
-  good : AllGood (account cs values)
+  shelf : run cs (records values) ≡ records (account (requests cs) values)
+  ended : endings cs (records values) ≡ account-endings (requests cs) values
+  good : AllGood (account (requests cs) values)
 
 ran : (cs : List Call) (values : List Tree) → AllGood values → Takes cs (records values) → Ran cs values
 ran [] values g h = record { shelf = refl; ended = refl; good = g }
 ran (c ∷ cs) values g h =
     let o = outcome-is values g c (h .0) in
     let k = entry-good values g c (h .0) in
-    let next : after c (records values) ≡ records (added (entry-on c values) values) =
-    ap (λ (o : Outcome). shelved (ending o) (filled o (c .buffer)) (records values)) o ∙ shelf-is (entry-on c values) (c .buffer) values in
-    let r = ran cs (added (entry-on c values) values) (added-good (entry-on c values) values k g) (rw next at (h .1)) in
+    let e = entry-on (request c) values in
+    let next : after c (records values) ≡ records (added e values) =
+    ap (λ (o : Outcome). shelved (ending o) (filled o (c .buffer)) (records values)) o ∙ shelf-is e (c .buffer) values in
+    let r = ran cs (added e values) (added-good e values k g) (rw next at (h .1)) in
     record {
       shelf = ap (run cs) next ∙ r .shelf;
-      ended = ap₂ _∷_ (ap ending o ∙ ending-is (entry-on c values) k) (ap (endings cs) next ∙ r .ended);
+      ended = ap₂ _∷_ (ap ending o ∙ ending-is e k) (ap (endings cs) next ∙ r .ended);
       good = r .good;
     }
 

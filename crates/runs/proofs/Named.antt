@@ -27,6 +27,11 @@ equal-not (x ∷ a) (y ∷ b) h = go (eqb x y) (λ e. equal-not a b (λ f. h (ap
     go true e = e tt
     go false e = refl
 
+-- By cases on a test.
+pub by-test : {A : Type 0} (b : Bool) (P : A → Type 0) (x y : A) → (b ≡ true → P x) → (b ≡ false → P y) → P (cond b x y)
+by-test true P x y f g = f refl
+by-test false P x y f g = g refl
+
 -- By cases on whether two names are equal.
 pub by-name : {A : Type 0} (a b : Bytes) (P : A → Type 0) (x y : A) → (a ≡ b → P x) → ((a ≡ b → ⊥) → P y) → P (cond (equal a b) x y)
 by-name a b P x y f g =

@@ -16,8 +16,8 @@ use Rattle.builders.proofs.InOrders.{in-order-rising, find-in-order, or-else, r
 use Rattle.edits.specs.Concat.{as-items, members-in, concat}
 use Rattle.edits.proofs.Deletes.{false-true, find-first, find-later, equal-or-not, find-unique, found-in, not-in, nothing-some}
 use Rattle.edits.proofs.Concats.{concat-given, concat-items, concat-find}
-use Rattle.runs.specs.Plain.{has-name, together, lacked, one-behind, giving, members-of, objects-or, plain-concat, array-items, plain-append}
-use Rattle.runs.proofs.Named.{has-named, missing-name}
+use Rattle.runs.specs.Plain.{has-name, together, lacked, items-then, giving, members-of, objects-or, plain-concat, array-items, plain-append}
+use Rattle.runs.proofs.Named.{by-test, has-named, missing-name}
 use Rattle.runs.proofs.Proper.{Proper, ProperItems, ProperMembers, distinct-with, Fewer, fewer-distinct, fewer-in}
 use Rattle.runs.proofs.Canon.{canon, canon-items, canon-members, canon-found, canon-find}
 
@@ -31,19 +31,11 @@ find-together x (member n t rs) ms =
     (λ h. rw (find-later x n t (together rs ms) h, find-later x n t rs h) (find-together x rs ms))
     (equal-or-not x n)
 
--- By cases on whether an object has a name.
-by-has : {A : Type 0} (n : Bytes) (rs : Members) (P : A → Type 0) (x y : A) → (has-name n rs ≡ true → P x) → (has-name n rs ≡ false → P y) → P (cond (has-name n rs) x y)
-by-has n rs P x y f g = go (has-name n rs) f g
-  where
-    go : (b : Bool) → (b ≡ true → P x) → (b ≡ false → P y) → P (cond b x y)
-    go true f g = f refl
-    go false f g = g refl
-
 -- A name that the right lacks finds what it found on the left.
 find-lacked : (x : Bytes) (rs ls : Members) → find x rs ≡ nothing → find x (lacked rs ls) ≡ find x ls
 find-lacked x rs empty h = refl
 find-lacked x rs (member n t ls) h =
-    by-has n rs (λ (a : Members). find x a ≡ find x (member n t ls)) _ _
+    by-test (has-name n rs) (λ (a : Members). find x a ≡ find x (member n t ls)) _ _
     (λ b. find-lacked x rs ls h ∙ sym (find-later x n t ls (λ (e : x ≡ n). false-true (sym (missing-name n rs (rw e at h)) ∙ b))))
     (λ _.
     ⊎-elim
@@ -77,9 +69,9 @@ objects-canon ls rs = given ∙ ap (λ (a : Members). gives (object a)) same
 
 -- ---- any other pair
 
-canon-behind : (ts us : Items) → canon-items (one-behind ts us) ≡ join (canon-items ts) (canon-items us)
-canon-behind none us = refl
-canon-behind (item t ts) us = ap (item (canon t)) (canon-behind ts us)
+canon-then : (ts us : Items) → canon-items (items-then ts us) ≡ join (canon-items ts) (canon-items us)
+canon-then none us = refl
+canon-then (item t ts) us = ap (item (canon t)) (canon-then ts us)
 
 canon-giving : (t : Tree) → canon-items (giving t) ≡ as-items (canon t)
 canon-giving null = refl
@@ -111,13 +103,13 @@ an-object (object ns) ms e = cc
 pub concat-canon : (t u : Tree) → concat (canon t) (canon u) ≡ gives (canon (plain-concat t u))
 concat-canon t u = go (members-of t) (members-of u) refl refl
   where
-    items : (members-of t ≡ nothing) ⊎ (members-of u ≡ nothing) → concat (canon t) (canon u) ≡ gives (canon (array (one-behind (giving t) (giving u))))
+    items : (members-of t ≡ nothing) ⊎ (members-of u ≡ nothing) → concat (canon t) (canon u) ≡ gives (canon (array (items-then (giving t) (giving u))))
     items h =
         concat-items (canon t) (canon u) (⊎-elim (λ a. inl (no-members t a)) (λ b. inr (no-members u b)) h)
-        ∙ ap (λ (a : Items). gives (array a)) (sym (canon-behind (giving t) (giving u) ∙ rw (canon-giving t, canon-giving u)))
+        ∙ ap (λ (a : Items). gives (array a)) (sym (canon-then (giving t) (giving u) ∙ rw (canon-giving t, canon-giving u)))
 
     go : (a b : Option Members) → members-of t ≡ a → members-of u ≡ b
-        → concat (canon t) (canon u) ≡ gives (canon (objects-or (array (one-behind (giving t) (giving u))) a b))
+        → concat (canon t) (canon u) ≡ gives (canon (objects-or (array (items-then (giving t) (giving u))) a b))
     go nothing b e f = items (inl e)
     go (some ls) nothing e f = items (inr f)
     go (some ls) (some rs) e f = rw (an-object t ls e, an-object u rs f) (objects-canon ls rs)
@@ -135,14 +127,14 @@ append-canon (boolean x) u = refl
 append-canon (number b) u = refl
 append-canon (string b) u = refl
 append-canon (extension b) u = refl
-append-canon (array ts) u = ap (λ (a : Items). gives (array a)) (sym (canon-behind ts (item u none)))
+append-canon (array ts) u = ap (λ (a : Items). gives (array a)) (sym (canon-then ts (item u none)))
 append-canon (object ms) u = refl
 
 -- ---- the results are proper
 
-behind-proper : (ts us : Items) → ProperItems ts → ProperItems us → ProperItems (one-behind ts us)
-behind-proper none us p q = q
-behind-proper (item t ts) us p q = (p .0, behind-proper ts us (p .1) q)
+then-proper : (ts us : Items) → ProperItems ts → ProperItems us → ProperItems (items-then ts us)
+then-proper none us p q = q
+then-proper (item t ts) us p q = (p .0, then-proper ts us (p .1) q)
 
 giving-proper : (t : Tree) → Proper t → ProperItems (giving t)
 giving-proper null p = (p, tt)
@@ -156,19 +148,19 @@ giving-proper (object ms) p = (p, tt)
 lacked-fewer : (rs ls : Members) → Fewer (names (lacked rs ls)) (names ls)
 lacked-fewer rs empty = refl
 lacked-fewer rs (member n t ls) =
-    by-has n rs (λ (a : Members). Fewer (names a) (names (member n t ls))) _ _
+    by-test (has-name n rs) (λ (a : Members). Fewer (names a) (names (member n t ls))) _ _
     (λ _. inl (lacked-fewer rs ls)) (λ _. inr (names (lacked rs ls), refl, lacked-fewer rs ls))
 
 lacked-proper : (rs ls : Members) → ProperMembers ls → ProperMembers (lacked rs ls)
 lacked-proper rs empty p = tt
 lacked-proper rs (member n t ls) p =
-    by-has n rs ProperMembers _ _ (λ _. lacked-proper rs ls (p .2)) (λ _. (p .0, p .1, lacked-proper rs ls (p .2)))
+    by-test (has-name n rs) ProperMembers _ _ (λ _. lacked-proper rs ls (p .2)) (λ _. (p .0, p .1, lacked-proper rs ls (p .2)))
 
 -- No name of the right is among those that it lacks.
 lacked-new : (rs ls : Members) (x : Bytes) → In x (names rs) → In x (names (lacked rs ls)) → ⊥
 lacked-new rs empty x i = λ j. j
 lacked-new rs (member n t ls) x i =
-    by-has n rs (λ (a : Members). In x (names a) → ⊥) _ _
+    by-test (has-name n rs) (λ (a : Members). In x (names a) → ⊥) _ _
     (λ _. lacked-new rs ls x i)
     (λ b j.
     ⊎-elim
@@ -203,10 +195,10 @@ overlay-proper ls rs p q = (
 pub concat-proper : (t u : Tree) → Proper t → Proper u → Proper (plain-concat t u)
 concat-proper t u p q = go (members-of t) (members-of u) refl refl
   where
-    items : Proper (array (one-behind (giving t) (giving u)))
-    items = behind-proper (giving t) (giving u) (giving-proper t p) (giving-proper u q)
+    items : Proper (array (items-then (giving t) (giving u)))
+    items = then-proper (giving t) (giving u) (giving-proper t p) (giving-proper u q)
 
-    go : (a b : Option Members) → members-of t ≡ a → members-of u ≡ b → Proper (objects-or (array (one-behind (giving t) (giving u))) a b)
+    go : (a b : Option Members) → members-of t ≡ a → members-of u ≡ b → Proper (objects-or (array (items-then (giving t) (giving u))) a b)
     go nothing b e f = items
     go (some ls) nothing e f = items
     go (some ls) (some rs) e f = overlay-proper ls rs (rw (an-object t ls e) at p) (rw (an-object u rs f) at q)
@@ -218,5 +210,5 @@ append-proper (boolean x) u v p q e = refused-gives e
 append-proper (number b) u v p q e = refused-gives e
 append-proper (string b) u v p q e = refused-gives e
 append-proper (extension b) u v p q e = refused-gives e
-append-proper (array ts) u v p q e = rw (← gives-inj {x = array (one-behind ts (item u none))} e) (behind-proper ts (item u none) p (q, tt))
+append-proper (array ts) u v p q e = rw (← gives-inj {x = array (items-then ts (item u none))} e) (then-proper ts (item u none) p (q, tt))
 append-proper (object ms) u v p q e = refused-gives e

@@ -161,42 +161,42 @@ mutual
 
 -- ---- an equal value
 
-taken-proper : (n : Bytes) (u : Tree) (ns r : Members) → Taken n u ns r → ProperMembers ns → (T (utf8 n) × Octets n) × Proper u × ProperMembers r
-taken-proper n u empty r k p = absurd k
-taken-proper n u (member m x ns) r k p =
+member-proper : (n : Bytes) (u : Tree) (ns r : Members) → Taken n u ns r → ProperMembers ns → (T (utf8 n) × Octets n) × Proper u × ProperMembers r
+member-proper n u empty r k p = absurd k
+member-proper n u (member m x ns) r k p =
     ⊎-elim
     (λ e. rw (e .0, e .1, e .2) p)
-    (λ e. let q = taken-proper n u ns (e .0) (e .2) (p .2) in (q .0, q .1, rw (e .1) (p .0, p .1, q .2)))
+    (λ e. let q = member-proper n u ns (e .0) (e .2) (p .2) in (q .0, q .1, rw (e .1) (p .0, p .1, q .2)))
     k
 
-taken-distinct : (n : Bytes) (u : Tree) (ns r : Members) → Taken n u ns r → distinct (names ns) ≡ true → (In n (names r) → ⊥) × (distinct (names r) ≡ true)
-taken-distinct n u empty r k d = absurd k
-taken-distinct n u (member m x ns) r k d =
+others-distinct : (n : Bytes) (u : Tree) (ns r : Members) → Taken n u ns r → distinct (names ns) ≡ true → (In n (names r) → ⊥) × (distinct (names r) ≡ true)
+others-distinct n u empty r k d = absurd k
+others-distinct n u (member m x ns) r k d =
     let c = distinct-cons m (names ns) d in
     let new = has-not m (names ns) (c .0) in
     ⊎-elim
     (λ e. rw (e .0, e .2) (new, c .1))
     (λ e.
-    let q = taken-distinct n u ns (e .0) (e .2) (c .1) in
+    let q = others-distinct n u ns (e .0) (e .2) (c .1) in
     rw (e .1) (
       λ i. ⊎-elim (λ (f : n ≡ m). new (rw f at (taken-in n u ns (e .0) (e .2)))) (λ j. q .0 j) i,
-      distinct-with m (names (e .0)) (λ i. new (taken-rest n u ns (e .0) (e .2) m i)) (q .1),
+      distinct-with m (names (e .0)) (λ i. new (others-in n u ns (e .0) (e .2) m i)) (q .1),
     ))
     k
   where
-    taken-rest : (n : Bytes) (u : Tree) (ns r : Members) → Taken n u ns r → (m : Bytes) → In m (names r) → In m (names ns)
-    taken-rest n u empty r k m i = absurd k
-    taken-rest n u (member y x ns) r k m i =
+    others-in : (n : Bytes) (u : Tree) (ns r : Members) → Taken n u ns r → (m : Bytes) → In m (names r) → In m (names ns)
+    others-in n u empty r k m i = absurd k
+    others-in n u (member y x ns) r k m i =
         ⊎-elim
         (λ e. inr (rw (e .2) at i))
-        (λ e. ⊎-elim (λ j. inl j) (λ j. inr (taken-rest n u ns (e .0) (e .2) m j)) (rw (e .1) at i))
+        (λ e. ⊎-elim (λ j. inl j) (λ j. inr (others-in n u ns (e .0) (e .2) m j)) (rw (e .1) at i))
         k
 
 same-distinct : (ms ns : Members) → SameMembers ms ns → distinct (names ns) ≡ true → distinct (names ms) ≡ true
 unfolding distinct
 same-distinct empty ns h d = refl
 same-distinct (member n t ms) ns h d =
-    let q = taken-distinct n (h .0) ns (h .1) (h .2) d in
+    let q = others-distinct n (h .0) ns (h .1) (h .2) d in
     let back : Same (object (h .1)) (object ms) = same-sym (object ms) (object (h .1)) (h .1, refl, h .4) in
     distinct-with n (names ms) (λ i. q .0 (names-back (h .1) back i)) (same-distinct ms (h .1) (h .4) (q .1))
   where
@@ -227,7 +227,7 @@ mutual
   same-proper-members : (ms ns : Members) → SameMembers ms ns → ProperMembers ns → ProperMembers ms
   same-proper-members empty ns h p = tt
   same-proper-members (member n t ms) ns h p =
-      let q = taken-proper n (h .0) ns (h .1) (h .2) p in
+      let q = member-proper n (h .0) ns (h .1) (h .2) p in
       (q .0, same-proper t (h .0) (h .3) (q .1), same-proper-members ms (h .1) (h .4) (q .2))
 
 -- ---- fewer names

@@ -21,7 +21,22 @@ use Rattle.runs.specs.declared.call.Edit.the-variants.{Get, Delete, Conc
 use Rattle.runs.specs.Call.{Call}
 use Rattle.runs.specs.Plain.{plain-look-up, plain-delete, no-delete, plain-concat, plain-strip, plain-append, plain-build}
 
--- What the account makes of a call: a value, an absence or a number.
+-- What it is fed of a call.
+pub record Request : Type 0 where
+  pub edit : Edit
+  pub left : ℕ
+  pub right : ℕ
+  pub path : Bytes
+  pub room : ℕ
+
+abbrev pub request : Call → Request
+request c = record { edit = c .edit; left = c .left; right = c .right; path = c .path; room = length (c .buffer) }
+
+abbrev pub requests : List Call → List Request
+requests [] = []
+requests (c ∷ cs) = request c ∷ requests cs
+
+-- What it makes of that: a value, an absence or a number.
 pub data Entry : Type 0 where
   value : Tree → Entry
   absence : Entry
@@ -50,9 +65,8 @@ edited Strip t u path = gives (some (plain-strip t))
 edited Append t u path = plain-append t u >>= λ v. gives (some v)
 edited Build t u path = plain-build t u >>= λ v. gives (some v)
 
--- What it makes of a call on its shelf.
-abbrev pub entry-on : Call → List Tree → Entry
-entry-on c values = entered (length (c .buffer)) (edited (c .edit) (getD values (c .left) null) (getD values (c .right) null) (c .path))
+abbrev pub entry-on : Request → List Tree → Entry
+entry-on r values = entered (r .room) (edited (r .edit) (getD values (r .left) null) (getD values (r .right) null) (r .path))
 
 -- How the call ends: the length of a result is that of the value's sound record.
 abbrev pub entry-ending : Entry → Ending
@@ -60,19 +74,16 @@ entry-ending (value t) = Done (record-length t)
 entry-ending absence = Absent
 entry-ending (refusal r) = Refused r
 
-abbrev pub account-ends : Call → List Tree → Ending
-account-ends c values = entry-ending (entry-on c values)
-
 abbrev pub added : Entry → List Tree → List Tree
 added (value t) values = values ++ (t ∷ [])
 added absence values = values
 added (refusal r) values = values
 
 -- The values after a list of calls, and how each of them ends.
-abbrev pub account : List Call → List Tree → List Tree
+abbrev pub account : List Request → List Tree → List Tree
 account [] values = values
-account (c ∷ cs) values = account cs (added (entry-on c values) values)
+account (r ∷ rs) values = account rs (added (entry-on r values) values)
 
-abbrev pub account-endings : List Call → List Tree → List Ending
+abbrev pub account-endings : List Request → List Tree → List Ending
 account-endings [] values = []
-account-endings (c ∷ cs) values = account-ends c values ∷ account-endings cs (added (entry-on c values) values)
+account-endings (r ∷ rs) values = entry-ending (entry-on r values) ∷ account-endings rs (added (entry-on r values) values)

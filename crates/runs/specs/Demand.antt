@@ -12,7 +12,7 @@ use Rattle.layout.specs.Sound.{Sound}
 use Rattle.layout.specs.Value.{Same}
 use Rattle.runs.specs.Call.{Call}
 use Rattle.runs.specs.Run.{run, endings, Takes}
-use Rattle.runs.specs.Account.{account, account-endings}
+use Rattle.runs.specs.Account.{requests, account, account-endings}
 
 -- `b` is a sound record with the value `v`: bytes that read as a tree whose names rise in every object, and the value of that tree
 -- is equal to `v`, whatever the order in which `v` has its members.
@@ -45,11 +45,11 @@ abbrev pub records-after : Start → List Bytes
 records-after s = run (s .calls) (s .shelf)
 
 abbrev pub values-after : Start → List Tree
-values-after s = account (s .calls) (s .values)
+values-after s = account (requests (s .calls)) (s .values)
 
 -- "Each call has ended in the result, absence or number that document 01 gives it".
 abbrev pub EndedAlike : Start → Type 0
-EndedAlike s = endings (s .calls) (s .shelf) ≡ account-endings (s .calls) (s .values)
+EndedAlike s = endings (s .calls) (s .shelf) ≡ account-endings (requests (s .calls)) (s .values)
 
 -- "Every record on either shelf is sound and has the value that document 01's plain account of that list gives there".
 abbrev pub HasItsValue : Start → Type 0

@@ -144,9 +144,9 @@ abbrev pub lacked : Members → Members → Members
 lacked rs empty = empty
 lacked rs (member n t ls) = cond (has-name n rs) (lacked rs ls) (member n t (lacked rs ls))
 
-abbrev pub one-behind : Items → Items → Items
-one-behind none us = us
-one-behind (item t ts) us = item t (one-behind ts us)
+abbrev pub items-then : Items → Items → Items
+items-then none us = us
+items-then (item t ts) us = item t (items-then ts us)
 
 abbrev pub giving : Tree → Items
 giving null = item null none
@@ -172,7 +172,7 @@ objects-or other (some ls) nothing = other
 objects-or other (some ls) (some rs) = object (together rs (lacked rs ls))
 
 abbrev pub plain-concat : Tree → Tree → Tree
-plain-concat t u = objects-or (array (one-behind (giving t) (giving u))) (members-of t) (members-of u)
+plain-concat t u = objects-or (array (items-then (giving t) (giving u))) (members-of t) (members-of u)
 
 -- ---- Strip: "the value without members that are null, at every level"
 
@@ -219,7 +219,7 @@ unfoldable pub plain-append : Tree → Tree → Answer Tree
 unfolding _>>=_
 plain-append t u = do
   ts ← array-items t
-  gives (array (one-behind ts (item u none)))
+  gives (array (items-then ts (item u none)))
 
 -- ---- Object build: "the first array's strings as names, in turn, with the second's values"
 
