@@ -221,3 +221,16 @@ demand-3 p q =
       rw (a .shelf, b .shelf, ← records-append (values-after p) (values-after q))
       (equal-alike (values-after p ++ values-after q) (good-append (values-after p) (values-after q) (a .good) (b .good)));
     }
+
+-- The order in which the account has the members of a value means nothing: however the values of a starting shelf are written, the
+-- same calls lead to equal values at each place.
+pub any-order : (p q : Start) → p .calls ≡ q .calls → p .shelf ≡ q .shelf → (i : ℕ) → i < length (records-after p)
+    → Same (getD (values-after p) i null) (getD (values-after q) i null)
+any-order p q c s i h =
+    let a = after-of p in
+    let b = after-of q in
+    let e : records (values-after p) ≡ records (values-after q) = sym (a .shelf) ∙ ap₂ run c s ∙ b .shelf in
+    let hp : i < length (records (values-after p)) = rw (a .shelf) at h in
+    let hq : i < length (records (values-after q)) = rw e at hp in
+    good-bytes (getD (values-after p) i null) (getD (values-after q) i null) (good-at (values-after p) i (a .good) hp) (good-at (values-after q) i (b .good) hq) .0
+    (sym (record-at (values-after p) i hp) ∙ ap (λ (x : List Bytes). getD x i []) e ∙ record-at (values-after q) i hq)

@@ -9,3 +9,4 @@ pub mod Cleaned
 pub mod Built
 pub mod Agrees
 pub mod Demands
+pub mod RunCases
