@@ -143,8 +143,7 @@ record-of b v s =
     let r = read-sound b (s .tree) (s .octets) (s .reads) in
     let o : Octets (encode (s .tree)) = rw (r .0 .bytes) (s .octets) in
     let p : Proper v = same-proper v (s .tree) (s .same) (sound-proper (s .tree) (r .0 .valid) (s .sound) (encoded-octets (s .tree) o)) in
-    let c : canon v ≡ s .tree = canon-unique v (s .tree) p (s .sound) (s .same) in
-    (
+    let c : canon v ≡ s .tree = canon-unique v (s .tree) p (s .sound) (s .same) in (
       sym (r .0 .bytes) ∙ ap encode (sym c),
       record {
         proper = p;
@@ -218,8 +217,8 @@ demand-3 p q =
       values-first = has-value p a;
       values-second = has-value q b;
       equal =
-      rw (a .shelf, b .shelf, ← records-append (values-after p) (values-after q))
-      (equal-alike (values-after p ++ values-after q) (good-append (values-after p) (values-after q) (a .good) (b .good)));
+          rw (a .shelf, b .shelf, ← records-append (values-after p) (values-after q))
+          (equal-alike (values-after p ++ values-after q) (good-append (values-after p) (values-after q) (a .good) (b .good)));
     }
 
 -- The order in which the account has the members of a value means nothing: however the values of a starting shelf are written, the
