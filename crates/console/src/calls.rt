@@ -1,6 +1,7 @@
 // The calls of the console.
 use crate::hex::RECORD_ROOM;
 use crate::hex::decode;
+use crate::run::answer_run;
 use crate::say::say;
 use crate::say::say_fault;
 use crate::say::say_refused;
@@ -8,9 +9,7 @@ use crate::text::Taken;
 use crate::text::count_arguments;
 use crate::text::trim;
 use crate::text::word_end;
-use crate::writing::Edit;
-use crate::writing::answer_strip;
-use crate::writing::answer_two;
+use crate::writing::answer_edit;
 use builders::names::is_same;
 use layout::check::Check;
 use layout::check::check_record;
@@ -18,6 +17,7 @@ use layout::sound::Soundness;
 use layout::sound::check_sound;
 use layout::util::byte;
 use layout::util::slice;
+use runs::call::Edit;
 
 fn say_check(record: &[u8]) {
     match check_record(record) {
@@ -59,6 +59,51 @@ fn answer_one(call: Call, text: &[u8]) {
     }
 }
 
+// What a word names.
+pub(crate) enum Word {
+    Edit(Edit),
+    Other,
+}
+
+// The edit that a word names.
+pub(crate) fn edit_of(word: &[u8]) -> Word {
+    if is_same(word, b"get") {
+        return Word::Edit(Edit::Get);
+    }
+    if is_same(word, b"delete") {
+        return Word::Edit(Edit::Delete);
+    }
+    if is_same(word, b"concat") {
+        return Word::Edit(Edit::Concat);
+    }
+    if is_same(word, b"strip") {
+        return Word::Edit(Edit::Strip);
+    }
+    if is_same(word, b"append") {
+        return Word::Edit(Edit::Append);
+    }
+    if is_same(word, b"build") {
+        return Word::Edit(Edit::Build);
+    }
+    Word::Other
+}
+
+// The calls that are no edits.
+fn answer_other(word: &[u8], rest: &[u8]) {
+    if is_same(word, b"check") {
+        return answer_one(Call::Check, rest);
+    }
+    if is_same(word, b"sound") {
+        return answer_one(Call::Sound, rest);
+    }
+    if is_same(word, b"run") {
+        return answer_run(rest);
+    }
+    say(
+        b"? there is no such call; there are check, sound, get, delete, concat, strip, append, build and run\n",
+    );
+}
+
 // The answer to a line, which comes without its end.
 pub(crate) fn answer(line: &[u8]) {
     let text = trim(line);
@@ -69,31 +114,8 @@ pub(crate) fn answer(line: &[u8]) {
     let end = word_end(text);
     let word = slice(text, 0, end);
     let rest = slice(text, end, text.len() - end);
-    if is_same(word, b"check") {
-        return answer_one(Call::Check, rest);
+    match edit_of(word) {
+        Word::Edit(edit) => answer_edit(edit, rest),
+        Word::Other => answer_other(word, rest),
     }
-    if is_same(word, b"sound") {
-        return answer_one(Call::Sound, rest);
-    }
-    if is_same(word, b"get") {
-        return answer_two(Edit::Get, rest);
-    }
-    if is_same(word, b"delete") {
-        return answer_two(Edit::Delete, rest);
-    }
-    if is_same(word, b"concat") {
-        return answer_two(Edit::Concat, rest);
-    }
-    if is_same(word, b"strip") {
-        return answer_strip(rest);
-    }
-    if is_same(word, b"append") {
-        return answer_two(Edit::Append, rest);
-    }
-    if is_same(word, b"build") {
-        return answer_two(Edit::Build, rest);
-    }
-    say(
-        b"? there is no such call; there are check, sound, get, delete, concat, strip, append and build\n",
-    );
 }

@@ -16,7 +16,9 @@
 mod calls;
 mod decimal;
 mod hex;
+mod run;
 mod say;
+mod shelf;
 mod text;
 mod writing;
 

@@ -16,32 +16,69 @@ pub(crate) fn say(text: &[u8]) {
 }
 
 // A number of document 01 with its words.
+pub(crate) fn say_number(number: u64) {
+    match number {
+        1 => say(b"refused 1 short"),
+        2 => say(b"refused 2 layout"),
+        3 => say(b"refused 3 text"),
+        4 => say(b"refused 4 number"),
+        5 => say(b"refused 5 too long or deep"),
+        6 => say(b"refused 6 path"),
+        7 => say(b"refused 7 kind"),
+        8 => say(b"refused 8 repeated name"),
+        9 => say(b"refused 9 result too long or deep"),
+        _ => say(b"refused 10 buffer too short"),
+    }
+}
+
 pub(crate) fn say_refused(refusal: Refusal) {
-    match refusal {
-        Refusal::Short => say(b"refused 1 short\n"),
-        Refusal::Layout => say(b"refused 2 layout\n"),
-        Refusal::Text => say(b"refused 3 text\n"),
-        Refusal::Number => say(b"refused 4 number\n"),
-        Refusal::Limit => say(b"refused 5 too long or deep\n"),
-        Refusal::Path => say(b"refused 6 path\n"),
-        Refusal::Kind => say(b"refused 7 kind\n"),
-        Refusal::Repeated => say(b"refused 8 repeated name\n"),
-        Refusal::Result => say(b"refused 9 result too long or deep\n"),
-        Refusal::Buffer => say(b"refused 10 buffer too short\n"),
-    }
+    say_number(refusal.number());
+    say(b"\n");
 }
 
-// Why an argument cannot be taken.
-pub(crate) fn say_fault(fault: Fault) {
+pub(crate) fn say_decimal(n: u64) {
+    io::print_decimal(1, n);
+}
+
+// Why an argument, or a call of a run, cannot be taken.
+fn say_why(fault: Fault) {
     match fault {
-        Fault::Missing => say(b"? a record is missing; an empty one is -\n"),
-        Fault::NotHex => say(b"? an argument is not hexadecimal\n"),
-        Fault::Odd => say(b"? an argument has half a byte at its end\n"),
-        Fault::NotDecimal => say(b"? the buffer's length is not a decimal number\n"),
+        Fault::Missing => say(b"a record is missing; an empty one is -\n"),
+        Fault::NotHex => say(b"an argument is not hexadecimal\n"),
+        Fault::Odd => say(b"an argument has half a byte at its end\n"),
+        Fault::NotDecimal => say(b"the buffer's length is not a decimal number\n"),
+        Fault::NotPlace => say(b"a place is not a decimal number\n"),
+        Fault::NoRecord => say(b"there is no record at that place\n"),
+        Fault::NoCall => say(
+            b"there is no such call; there are get, delete, concat, strip, append and build\n",
+        ),
+        Fault::OnePlace => say(b"this call takes a place, and the buffer's length if you like\n"),
+        Fault::PlaceAndPath => say(
+            b"this call takes a place, a path, and the buffer's length if you like\n",
+        ),
+        Fault::TwoPlaces => say(
+            b"this call takes two places, and the buffer's length if you like\n",
+        ),
+        Fault::Full => say(b"there is no room on the shelf\n"),
+        Fault::TooMany => say(b"a run has no room for another call\n"),
     }
 }
 
-fn say_hex(bytes: &[u8]) {
+pub(crate) fn say_fault(fault: Fault) {
+    say(b"? ");
+    say_why(fault);
+}
+
+// The same of one of several: a place on the shelf, or a call.
+pub(crate) fn say_fault_at(what: &[u8], number: usize, fault: Fault) {
+    say(b"? ");
+    say(what);
+    say_decimal(number as u64);
+    say(b": ");
+    say_why(fault);
+}
+
+pub(crate) fn say_hex(bytes: &[u8]) {
     let mut letters = [0u8; LETTERS];
     let mut i = 0;
     while i < bytes.len() {

@@ -3,12 +3,20 @@ use layout::util::slice;
 ghost use Prim.Native.Nat.{_≤_};
 ghost use lib.ListN.{length};
 
-// What is wrong with an argument.
+// What is wrong with an argument, or with a call of a run.
 pub(crate) enum Fault {
     Missing,
     NotHex,
     Odd,
     NotDecimal,
+    NotPlace,
+    NoRecord,
+    NoCall,
+    OnePlace,
+    PlaceAndPath,
+    TwoPlaces,
+    Full,
+    TooMany,
 }
 
 // An argument as it was taken: how many bytes it spells, or is the length of.
@@ -73,12 +81,17 @@ pub(crate) fn word_end(text: &[u8]) -> usize
     i
 }
 
-// How many arguments a text has, with `;` between them.
+// What stands between the arguments of a call, and between the calls of a run.
+pub(crate) const ARGUMENT_MARK: u8 = b';';
+
+pub(crate) const CALL_MARK: u8 = b':';
+
+// How many arguments a text has.
 pub(crate) fn count_arguments(text: &[u8]) -> usize {
     let mut n: usize = 1;
     let mut i = 0;
     while i < text.len() {
-        if text[i] == b';' {
+        if text[i] == ARGUMENT_MARK {
             n += 1;
         }
         i += 1;
@@ -96,7 +109,7 @@ fn argument_start(text: &[u8], number: usize) -> usize
         if n == number {
             return i;
         }
-        if text[i] == b';' {
+        if text[i] == ARGUMENT_MARK {
             n += 1;
         }
         i += 1;
@@ -104,14 +117,14 @@ fn argument_start(text: &[u8], number: usize) -> usize
     i
 }
 
-// The place of the `;` behind the argument that starts at a place, or the text's end.
-fn argument_end(text: &[u8], start: usize) -> usize
+// The place of the next mark at a place or behind it, or the text's end.
+pub(crate) fn part_end(text: &[u8], start: usize, mark: u8) -> usize
     requires { ⌜ start ≤ length (now text) ⌝ }
     ensures { λ r. ⌜ (start ≤ r) × (r ≤ length (now (text .entry))) ⌝ }
 {
     let mut i = start;
     while i < text.len() {
-        if text[i] == b';' {
+        if text[i] == mark {
             return i;
         }
         i += 1;
@@ -119,10 +132,10 @@ fn argument_end(text: &[u8], start: usize) -> usize
     i
 }
 
-// The argument of a number, without the `;` around it.
+// The argument of a number, without the marks around it.
 pub(crate) fn argument(text: &[u8], number: usize) -> &[u8] {
     let start = argument_start(text, number);
-    let end = argument_end(text, start);
+    let end = part_end(text, start, ARGUMENT_MARK);
     slice(text, start, end - start)
 }
 

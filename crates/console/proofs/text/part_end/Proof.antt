@@ -1,18 +1,18 @@
--- `console::text::argument_end` meets its contract.
+-- `console::text::part_end` meets its contract.
 use borrow.Author.Needs.{needs}
 use Prim.Native.Nat.{_≤_, _-_}
 use lib.ListN.{length}
-use Rattle.console.proofs.text.argument_end.Statement.{statement}
-use Rattle.console.proofs.text.argument_end.Tie as tie
+use Rattle.console.proofs.text.part_end.Statement.{statement}
+use Rattle.console.proofs.text.part_end.Tie as tie
 
 abbrev Inv-loop : tie.InvT-loop
-Inv-loop text start i₀ i = (start ≤ i) × (i ≤ length text)
+Inv-loop text start mark i₀ i = (start ≤ i) × (i ≤ length text)
 
 abbrev μ-loop : tie.MeasureT-loop
-μ-loop text start i₀ i = length text - i
+μ-loop text start mark i₀ i = length text - i
 
-pub argument-end-spec : {M : Type 1} → statement M
-argument-end-spec =
+pub part-end-spec : {M : Type 1} → statement M
+part-end-spec =
     tie.close
     (tie.spec
     Inv-loop
