@@ -26,8 +26,10 @@ use crate::text::count_arguments;
 use crate::text::part_end;
 use crate::text::trim;
 use crate::text::word_end;
+use crate::writing::Given;
 use crate::writing::ONE_RECORD;
 use crate::writing::TWO_RECORDS;
+use crate::writing::given_of;
 use crate::writing::lend;
 use layout::ending::Ending;
 use layout::util::slice;
@@ -67,41 +69,17 @@ enum Run {
 
 // ---- one call
 
-// How many records a call takes, a path being one, and what is wrong where it is given another number.
-fn records_of(edit: Edit) -> usize
-    ensures { λ r. ⌜ r ≤ 2 ⌝ }
-{
-    match edit {
-        Edit::Get => TWO_RECORDS,
-        Edit::Delete => TWO_RECORDS,
-        Edit::Concat => TWO_RECORDS,
-        Edit::Strip => ONE_RECORD,
-        Edit::Append => TWO_RECORDS,
-        Edit::Build => TWO_RECORDS,
-    }
-}
-
-fn usage_of(edit: Edit) -> Fault {
-    match edit {
-        Edit::Get => Fault::PlaceAndPath,
-        Edit::Delete => Fault::PlaceAndPath,
-        Edit::Concat => Fault::TwoPlaces,
-        Edit::Strip => Fault::OnePlace,
-        Edit::Append => Fault::TwoPlaces,
-        Edit::Build => Fault::TwoPlaces,
-    }
-}
-
-// Takes the buffer's length, and makes the edit.
+// Takes the buffer's length behind so many records, and makes the edit.
 fn run_lent(
     edit: Edit,
     left: &[u8],
     right: &[u8],
     path: &[u8],
     text: &[u8],
+    count: usize,
     room: &mut [u8],
 ) -> Ran {
-    match take_length(text, records_of(edit)) {
+    match take_length(text, count) {
         Taken::Length(n) => Ran::Ended(lend(edit, left, right, path, room, n)),
         Taken::Wrong(fault) => Ran::Wrong(fault),
     }
@@ -111,7 +89,7 @@ fn run_lent(
 fn run_path(edit: Edit, left: &[u8], text: &[u8], room: &mut [u8]) -> Ran {
     let mut path = [0u8; RECORD_ROOM];
     match decode(argument(text, 1), &mut path) {
-        Taken::Length(n) => run_lent(edit, left, b"", slice(&path, 0, n), text, room),
+        Taken::Length(n) => run_lent(edit, left, b"", slice(&path, 0, n), text, TWO_RECORDS, room),
         Taken::Wrong(fault) => Ran::Wrong(fault),
     }
 }
@@ -128,7 +106,15 @@ fn run_right(
 ) -> Ran {
     match take_place(text, 1, records) {
         Taken::Length(place) => {
-            run_lent(edit, left, record_at(shelf, ends, place), b"", text, room)
+            run_lent(
+                edit,
+                left,
+                record_at(shelf, ends, place),
+                b"",
+                text,
+                TWO_RECORDS,
+                room,
+            )
         }
         Taken::Wrong(fault) => Ran::Wrong(fault),
     }
@@ -144,13 +130,30 @@ fn run_left(
     records: usize,
     room: &mut [u8],
 ) -> Ran {
-    match edit {
-        Edit::Get => run_path(edit, left, text, room),
-        Edit::Delete => run_path(edit, left, text, room),
-        Edit::Concat => run_right(edit, left, text, shelf, ends, records, room),
-        Edit::Strip => run_lent(edit, left, b"", b"", text, room),
-        Edit::Append => run_right(edit, left, text, shelf, ends, records, room),
-        Edit::Build => run_right(edit, left, text, shelf, ends, records, room),
+    match given_of(edit) {
+        Given::Record => run_lent(edit, left, b"", b"", text, ONE_RECORD, room),
+        Given::RecordAndPath => run_path(edit, left, text, room),
+        Given::TwoRecords => run_right(edit, left, text, shelf, ends, records, room),
+    }
+}
+
+// So many records, where there are as many arguments, or one more for the buffer's length.
+fn take_records(arguments: usize, records: usize, fault: Fault) -> Taken
+    requires { ⌜ records ≤ 2 ⌝ }
+{
+    if (arguments == records) | (arguments == records + 1) {
+        return Taken::Length(records);
+    }
+    Taken::Wrong(fault)
+}
+
+// How many records a call takes, a path being one.
+fn take_count(edit: Edit, text: &[u8]) -> Taken {
+    let arguments = count_arguments(text);
+    match given_of(edit) {
+        Given::Record => take_records(arguments, ONE_RECORD, Fault::OnePlace),
+        Given::RecordAndPath => take_records(arguments, TWO_RECORDS, Fault::PlaceAndPath),
+        Given::TwoRecords => take_records(arguments, TWO_RECORDS, Fault::TwoPlaces),
     }
 }
 
@@ -163,10 +166,8 @@ fn run_edit(
     records: usize,
     room: &mut [u8],
 ) -> Ran {
-    let count = count_arguments(text);
-    let taken = records_of(edit);
-    if (count != taken) & (count != taken + 1) {
-        return Ran::Wrong(usage_of(edit));
+    if let Taken::Wrong(fault) = take_count(edit, text) {
+        return Ran::Wrong(fault);
     }
     match take_place(text, 0, records) {
         Taken::Length(place) => run_left(

@@ -15,7 +15,25 @@ use layout::writer::least;
 use runs::call::Edit;
 use runs::call::make_edit;
 
-// How many records strip takes, and how many the other calls below, a path being one.
+// What a call is given.
+pub(crate) enum Given {
+    Record,
+    RecordAndPath,
+    TwoRecords,
+}
+
+pub(crate) fn given_of(edit: Edit) -> Given {
+    match edit {
+        Edit::Get => Given::RecordAndPath,
+        Edit::Delete => Given::RecordAndPath,
+        Edit::Concat => Given::TwoRecords,
+        Edit::Strip => Given::Record,
+        Edit::Append => Given::TwoRecords,
+        Edit::Build => Given::TwoRecords,
+    }
+}
+
+// How many records that is, a path being one.
 pub(crate) const ONE_RECORD: usize = 1;
 
 pub(crate) const TWO_RECORDS: usize = 2;
@@ -85,12 +103,9 @@ fn answer_strip(text: &[u8]) {
 }
 
 pub(crate) fn answer_edit(edit: Edit, text: &[u8]) {
-    match edit {
-        Edit::Get => answer_two(edit, text),
-        Edit::Delete => answer_two(edit, text),
-        Edit::Concat => answer_two(edit, text),
-        Edit::Strip => answer_strip(text),
-        Edit::Append => answer_two(edit, text),
-        Edit::Build => answer_two(edit, text),
+    match given_of(edit) {
+        Given::Record => answer_strip(text),
+        Given::RecordAndPath => answer_two(edit, text),
+        Given::TwoRecords => answer_two(edit, text),
     }
 }
