@@ -8,6 +8,8 @@
 //   strip R            result HEX, or refused N WORDS: the record R without the members whose value is null, at every level
 //   append A ; R       result HEX, or refused N WORDS: the record R, as one item, at the end of the array A
 //   build N ; V        result HEX, or refused N WORDS: an object of the names in the array N with the values in the array V
+//   run R ; R : CALL : CALL
+//                      ENDING : ENDING : shelf R ; R ; R: the calls one after the other, with places for records; run.rt says more
 //
 // A record stands in hexadecimal, and so does a path, which is one; spaces in it are ignored, and an empty one is -. Behind the
 // records of a call that gives a result may stand one more argument, as in `append A ; R ; 100`: the length of the result's

@@ -13,11 +13,15 @@ use crate::hex::decode;
 use crate::say::say;
 use crate::say::say_decimal;
 use crate::say::say_fault_at;
-use crate::say::say_hex;
 use crate::say::say_number;
-use crate::shelf::add_record;
+use crate::shelf::PLACES;
+use crate::shelf::SHELF_ROOM;
+use crate::shelf::Shelved;
+use crate::shelf::Start;
+use crate::shelf::keep_record;
 use crate::shelf::record_at;
-use crate::text::ARGUMENT_MARK;
+use crate::shelf::say_shelf;
+use crate::shelf::take_shelf;
 use crate::text::CALL_MARK;
 use crate::text::Fault;
 use crate::text::Taken;
@@ -36,12 +40,7 @@ use layout::util::slice;
 use runs::call::Edit;
 ghost use Prim.Native.Nat.{_≤_};
 
-// Room for the bytes of the records, for how many records, and for how many calls. The longest line has records of half of these
-// bytes at most, so that there is room for more.
-const SHELF_ROOM: usize = 524_288;
-
-const PLACES: usize = 4_096;
-
+// Room for how many calls.
 const CALLS: usize = 4_096;
 
 // How a call ended, as a number: a refusal's own, an absence, or a result and its place.
@@ -55,13 +54,7 @@ enum Ran {
     Wrong(Fault),
 }
 
-// How many records the shelf then has, or why it stays.
-enum Shelved {
-    Records(usize),
-    Wrong(Fault),
-}
-
-// How many records the shelf has and how many calls were made, or which record or call cannot be taken, and why.
+// How many records the shelf has and how many calls were made, or which call cannot be taken, and why.
 enum Run {
     Made(usize, usize),
     Wrong(usize, Fault),
@@ -193,45 +186,7 @@ fn run_call(text: &[u8], shelf: &[u8], ends: &[usize], records: usize, room: &mu
     }
 }
 
-// ---- the shelf and the calls
-
-// Puts a record behind so many others; gives how many there are then.
-fn keep_record(record: &[u8], shelf: &mut [u8], ends: &mut [usize], records: usize) -> Shelved {
-    if PLACES <= records {
-        return Shelved::Wrong(Fault::Full);
-    }
-    if add_record(record, shelf, ends, records) {
-        return Shelved::Records(records + 1);
-    }
-    Shelved::Wrong(Fault::Full)
-}
-
-// Takes a record of the starting shelf.
-fn take_record(text: &[u8], shelf: &mut [u8], ends: &mut [usize], records: usize) -> Shelved {
-    let mut record = [0u8; RECORD_ROOM];
-    match decode(text, &mut record) {
-        Taken::Length(n) => keep_record(slice(&record, 0, n), shelf, ends, records),
-        Taken::Wrong(fault) => Shelved::Wrong(fault),
-    }
-}
-
-// Takes the starting shelf.
-fn take_shelf(text: &[u8], shelf: &mut [u8], ends: &mut [usize]) -> Run {
-    let mut records: usize = 0;
-    let mut start = 0;
-    loop {
-        let end = part_end(text, start, ARGUMENT_MARK);
-        let taken = take_record(slice(text, start, end - start), shelf, ends, records);
-        match taken {
-            Shelved::Records(n) => records = n,
-            Shelved::Wrong(fault) => return Run::Wrong(records, fault),
-        }
-        if end == text.len() {
-            return Run::Made(records, 0);
-        }
-        start = end + 1;
-    }
-}
+// ---- the calls
 
 // Notes how a call ended.
 fn note(endings: &mut [u64], call: usize, ending: u64) {
@@ -347,27 +302,6 @@ fn say_endings(endings: &[u64], calls: usize) {
     }
 }
 
-// A record as it can be given again.
-fn say_record(record: &[u8]) {
-    if record.len() == 0 {
-        return say(b"-");
-    }
-    say_hex(record);
-}
-
-fn say_shelf(shelf: &[u8], ends: &[usize], records: usize) {
-    say(b"shelf ");
-    let mut i = 0;
-    while i < records {
-        if i != 0 {
-            say(b" ; ");
-        }
-        say_record(record_at(shelf, ends, i));
-        i += 1;
-    }
-    say(b"\n");
-}
-
 // Makes the calls that a text has behind the starting shelf, if it has any, and says what came of them.
 fn answer_calls(text: &[u8], shelf: &mut [u8], ends: &mut [usize], first: usize) {
     if text.len() == 0 {
@@ -393,10 +327,10 @@ fn answer_calls(text: &[u8], shelf: &mut [u8], ends: &mut [usize], first: usize)
 fn answer_shelf(text: &[u8], shelf: &mut [u8], ends: &mut [usize]) {
     let end = part_end(text, 0, CALL_MARK);
     match take_shelf(slice(text, 0, end), shelf, ends) {
-        Run::Made(records, _) => {
+        Start::Records(records) => {
             answer_calls(slice(text, end, text.len() - end), shelf, ends, records)
         }
-        Run::Wrong(place, fault) => say_fault_at(b"place ", place, fault),
+        Start::Wrong(place, fault) => say_fault_at(b"place ", place, fault),
     }
 }
 

@@ -1,6 +1,32 @@
 // The shelf of a run: a row of bytes, and for each record where it ends.
+use crate::hex::RECORD_ROOM;
+use crate::hex::decode;
+use crate::say::say;
+use crate::say::say_hex;
+use crate::text::ARGUMENT_MARK;
+use crate::text::Fault;
+use crate::text::Taken;
+use crate::text::part_end;
 use layout::util::slice;
 use layout::writer::copy;
+
+// Room for the bytes of the records, and for how many. The longest line has records of half of these bytes at most, so that there is
+// room for more.
+pub(crate) const SHELF_ROOM: usize = 524_288;
+
+pub(crate) const PLACES: usize = 4_096;
+
+// How many records the shelf then has, or why it stays.
+pub(crate) enum Shelved {
+    Records(usize),
+    Wrong(Fault),
+}
+
+// How many records a starting shelf has, or which one cannot be taken, and why.
+pub(crate) enum Start {
+    Records(usize),
+    Wrong(usize, Fault),
+}
 
 // Where the record at a place ends.
 fn record_end(ends: &[usize], place: usize) -> usize {
@@ -29,12 +55,7 @@ pub(crate) fn record_at<'a>(shelf: &'a [u8], ends: &[usize], place: usize) -> &'
 }
 
 // Puts a record behind so many others; whether there was room for it.
-pub(crate) fn add_record(
-    record: &[u8],
-    shelf: &mut [u8],
-    ends: &mut [usize],
-    records: usize,
-) -> bool {
+fn add_record(record: &[u8], shelf: &mut [u8], ends: &mut [usize], records: usize) -> bool {
     let start = record_start(ends, records);
     if shelf.len() < start {
         return false;
@@ -48,4 +69,68 @@ pub(crate) fn add_record(
     copy(record, shelf, start);
     ends[records] = start + record.len();
     true
+}
+
+// Puts a record behind so many others; gives how many there are then.
+pub(crate) fn keep_record(
+    record: &[u8],
+    shelf: &mut [u8],
+    ends: &mut [usize],
+    records: usize,
+) -> Shelved {
+    if PLACES <= records {
+        return Shelved::Wrong(Fault::Full);
+    }
+    if add_record(record, shelf, ends, records) {
+        return Shelved::Records(records + 1);
+    }
+    Shelved::Wrong(Fault::Full)
+}
+
+// Takes a record of the starting shelf.
+fn take_record(text: &[u8], shelf: &mut [u8], ends: &mut [usize], records: usize) -> Shelved {
+    let mut record = [0u8; RECORD_ROOM];
+    match decode(text, &mut record) {
+        Taken::Length(n) => keep_record(slice(&record, 0, n), shelf, ends, records),
+        Taken::Wrong(fault) => Shelved::Wrong(fault),
+    }
+}
+
+// Takes the starting shelf.
+pub(crate) fn take_shelf(text: &[u8], shelf: &mut [u8], ends: &mut [usize]) -> Start {
+    let mut records: usize = 0;
+    let mut start = 0;
+    loop {
+        let end = part_end(text, start, ARGUMENT_MARK);
+        let taken = take_record(slice(text, start, end - start), shelf, ends, records);
+        match taken {
+            Shelved::Records(n) => records = n,
+            Shelved::Wrong(fault) => return Start::Wrong(records, fault),
+        }
+        if end == text.len() {
+            return Start::Records(records);
+        }
+        start = end + 1;
+    }
+}
+
+// A record as it can be given again.
+fn say_record(record: &[u8]) {
+    if record.len() == 0 {
+        return say(b"-");
+    }
+    say_hex(record);
+}
+
+pub(crate) fn say_shelf(shelf: &[u8], ends: &[usize], records: usize) {
+    say(b"shelf ");
+    let mut i = 0;
+    while i < records {
+        if i != 0 {
+            say(b" ; ");
+        }
+        say_record(record_at(shelf, ends, i));
+        i += 1;
+    }
+    say(b"\n");
 }

@@ -1,7 +1,7 @@
 -- A call on the sound records of values ends as the account says, and its result is the sound record of the account's value.
 use Prim.Native.Nat.{ℕ, _≤_, _<_}
 use native.Mathlib.Omega.{arith}
-use mathlib.Core.Path.{_≡_, refl, ap, sym, _∙_}
+use mathlib.Core.Path.{_≡_, refl, ap, _∙_}
 use mathlib.Core.Bool.{Bool, true, false, not, cond, _&&_, _||_}
 use mathlib.Core.List.{List}
 use mathlib.Core.Option.{Option, none as nothing, some}
@@ -15,7 +15,6 @@ use Rattle.layout.specs.Encode.{encode}
 use Rattle.layout.specs.Read.{read}
 use Rattle.layout.specs.Limits.{depth, record-length}
 use Rattle.layout.specs.Ended.{Outcome, result, absence, refusal, into}
-use Rattle.layout.specs.declared.refusal.Refusal.{Refusal}
 use Rattle.layout.specs.declared.refusal.Refusal.the-variants.{Kind, Result, Buffer}
 use Rattle.layout.proofs.Answers.{gives-inj}
 use Rattle.layout.proofs.Encoding.{read-encode}
@@ -23,7 +22,6 @@ use Rattle.layout.proofs.Readables.{length-encode}
 use Rattle.builders.specs.Build.{append, build, within, written, on-two}
 use Rattle.builders.proofs.Results.{on-two-is, within-is}
 use Rattle.edits.specs.Path.{Step, path-of}
-use Rattle.edits.specs.Find.{look-up}
 use Rattle.edits.specs.Delete.{delete, deletable}
 use Rattle.edits.specs.Keypath.{get-by, delete-by, found, on-path}
 use Rattle.edits.specs.Concat.{concat}

@@ -1,9 +1,9 @@
 -- Object build on values, as on sound trees.
-use Prim.Native.Nat.{ℕ, suc}
+use Prim.Native.Nat.{suc}
 use native.Mathlib.Omega.{arith}
 use mathlib.Core.Path.{_≡_, refl, ap, sym, _∙_}
 use mathlib.Core.Bool.{Bool, true, false, not}
-use mathlib.Core.List.{List, [], _∷_}
+use mathlib.Core.List.{List, _∷_}
 use lib.Dec.{T, eqb, eqb→eq, eqb·suc-suc}
 use borrow.Author.Tests.{ne-eqb}
 use Rattle.layout.specs.Bytes.{Bytes, Octets}
@@ -15,7 +15,7 @@ use Rattle.layout.specs.declared.refusal.Refusal.the-variants.{Kind, Repeated}
 use Rattle.layout.proofs.Answers.{from-bind, from-require, gives-inj, refused-gives}
 use Rattle.layout.proofs.Decoding.{names-pair}
 use Rattle.builders.specs.Order.{in-order, distinct}
-use Rattle.builders.specs.Build.{items-of, text-of, texts-of, count, build}
+use Rattle.builders.specs.Build.{texts-of, count, build}
 use Rattle.builders.proofs.Builds.{count-parts}
 use Rattle.builders.proofs.Results.{is-true, count-texts}
 use Rattle.runs.specs.Plain.{repeats, array-items, string-text, in-turn, plain-build}

@@ -7,7 +7,6 @@ use mathlib.Core.Logic.{inl, _↔_}
 use mathlib.Core.Bool.{true}
 use mathlib.Core.List.{_∷_}
 use mathlib.Core.Option.{Option, none as nothing, some}
-use lib.ListN.{length}
 use Rattle.layout.specs.Bytes.{Bytes}
 use Rattle.layout.specs.Tree.{Tree, null, boolean, number, string, extension, array, object, Items, none, item, Members, empty, member, names}
 use Rattle.layout.specs.Limits.{depth, depth-items, depth-members, size, size-items, size-members, record-length}

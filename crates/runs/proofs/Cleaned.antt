@@ -2,7 +2,6 @@
 use mathlib.Core.Path.{_≡_, refl, ap, ap₂, sym, _∙_}
 use mathlib.Core.Logic.{inl, inr, ⊎-elim}
 use mathlib.Core.Bool.{Bool, true, false, cond}
-use mathlib.Core.List.{_∷_}
 use mathlib.Core.Option.{Option, none as nothing, some}
 use Rattle.layout.specs.Bytes.{Bytes}
 use Rattle.layout.specs.Answer.{gives}
@@ -11,7 +10,7 @@ use Rattle.builders.specs.Order.{in-order, find, distinct}
 use Rattle.builders.proofs.InOrders.{in-order-rising, rising-distinct, has-not, distinct-cons}
 use Rattle.edits.specs.Find.{_then_}
 use Rattle.edits.specs.Strip.{is-null as null-tree, stripped, stripped-items, stripped-members, strip}
-use Rattle.edits.proofs.Deletes.{find-first, find-later, equal-or-not, find-unique, found-in, not-in}
+use Rattle.edits.proofs.Deletes.{find-first, find-later, equal-or-not, find-unique, not-in}
 use Rattle.edits.proofs.Strips.{strip-finds, strip-of-sound}
 use Rattle.runs.specs.Plain.{is-null, plain-strip, strip-items, strip-members}
 use Rattle.runs.proofs.Named.{by-test}

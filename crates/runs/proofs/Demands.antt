@@ -1,20 +1,18 @@
 -- Demand 3, proved: the statement is specs/Demand.antt.
-use Prim.Native.Nat.{ℕ, zero, suc, _+_, _<_, _≤_}
+use Prim.Native.Nat.{ℕ, zero, suc, _+_, _<_}
 use native.Mathlib.Omega.{arith}
 use mathlib.Core.Path.{_≡_, refl, ap, ap₂, sym, _∙_}
 use mathlib.Core.Logic.{_↔_}
 use mathlib.Core.List.{List, [], _∷_, _++_}
-use lib.ListN.{length, take, drop, getD, length-append}
+use lib.ListN.{length, drop, getD}
 use lib.Seq.{take-append-seam}
 use Rattle.layout.specs.Bytes.{Bytes, Octets}
-use Rattle.layout.specs.Answer.{gives}
 use Rattle.layout.specs.Tree.{Tree, null}
 use Rattle.layout.specs.Encode.{encode}
 use Rattle.layout.specs.Read.{read}
 use Rattle.layout.specs.Limits.{depth, record-length}
 use Rattle.layout.specs.Value.{Same}
 use Rattle.layout.specs.Ended.{Outcome, ending, filled}
-use Rattle.layout.specs.declared.ending.Ending.{Ending}
 use Rattle.layout.specs.declared.ending.Ending.the-variants.{Done}
 use Rattle.layout.proofs.Answers.{gives-inj}
 use Rattle.layout.proofs.Decoding.{read-sound}
@@ -22,9 +20,9 @@ use Rattle.layout.proofs.Readables.{length-encode}
 use Rattle.runs.specs.declared.call.Edit.{Edit}
 use Rattle.runs.specs.declared.call.Edit.the-variants.{Get, Delete, Concat, Strip, Append, Build}
 use Rattle.runs.specs.Call.{Call, There}
-use Rattle.runs.specs.Run.{outcome-on, ends, leaves, shelved, after, run, endings, Takes}
+use Rattle.runs.specs.Run.{outcome-on, shelved, after, run, endings, Takes}
 use Rattle.runs.specs.Account.{request, requests, Entry, value, absence, refusal, entry-on, entry-ending, added, account, account-endings}
-use Rattle.runs.specs.Demand.{SoundWith, AllSoundWith, Start, records-after, values-after, EndedAlike, HasItsValue, EqualAlike, Holds, Demand-3}
+use Rattle.runs.specs.Demand.{SoundWith, AllSoundWith, Start, records-after, values-after, EndedAlike, HasItsValue, EqualAlike, Demand-3}
 use Rattle.runs.proofs.Proper.{Proper, sound-proper, encoded-octets, proper-octets, same-proper}
 use Rattle.runs.proofs.Canon.{canon, canon-sound, same-canon, canon-proper, canon-unique, same-canons, canon-depth, canon-length}
 use Rattle.runs.proofs.Agrees.{Good, record-read, in-bytes, GoodEntry, OfRight, agree, agree-good}

@@ -6,18 +6,17 @@ use mathlib.Core.Bool.{Bool, true, false, not, cond}
 use mathlib.Core.List.{List, [], _∷_}
 use mathlib.Core.Option.{Option, none as nothing, some}
 use lib.Dec.{T, ltb, ltb→lt, nltb→le}
-use lib.IntN.{ℤ, pos, negsuc}
+use lib.IntN.{pos, negsuc}
 use Rattle.layout.specs.Bytes.{Bytes}
 use Rattle.layout.specs.Tree.{Tree, null, boolean, number, string, extension, array, object, Items, none, item, Members, empty, member}
-use Rattle.builders.specs.Order.{find}
 use Rattle.builders.specs.Build.{count}
 use Rattle.edits.specs.Path.{Step, name, index}
 use Rattle.edits.specs.Find.{_then_, place, step-place, step-name, item-at, step-into, look-up}
-use Rattle.edits.proofs.Deletes.{item-past, some-inj, nothing-some, found-or-not}
+use Rattle.edits.proofs.Deletes.{item-past, some-inj}
 use Rattle.runs.specs.Plain.{member-name, named, from-zero, item-number, how-many, numbered, taken, inward, plain-look-up}
 use Rattle.runs.proofs.Named.{by-name, named-find}
 use Rattle.runs.proofs.Proper.{Proper, ProperItems, ProperMembers}
-use Rattle.runs.proofs.Canon.{canon, canon-items, canon-members, canon-found, canon-find}
+use Rattle.runs.proofs.Canon.{canon, canon-items, canon-found, canon-find}
 
 -- ---- arrays
 

@@ -1,24 +1,22 @@
 -- Concat and append on values, as on sound trees.
-use Prim.Native.Nat.{ℕ}
 use mathlib.Core.Path.{_≡_, refl, ap, sym, _∙_}
 use mathlib.Core.Logic.{_⊎_, inl, inr, ⊎-elim}
-use mathlib.Core.Bool.{Bool, true, false, cond}
-use mathlib.Core.List.{List, [], _∷_}
+use mathlib.Core.Bool.{true}
 use mathlib.Core.Option.{Option, none as nothing, some}
 use Rattle.layout.specs.Bytes.{Bytes}
 use Rattle.layout.specs.Answer.{Answer, gives, refused, _>>=_}
 use Rattle.layout.specs.Tree.{Tree, null, boolean, number, string, extension, array, object, Items, none, item, Members, empty, member, names}
 use Rattle.layout.proofs.Answers.{gives-inj, refused-gives}
 use Rattle.layout.proofs.Values.{In}
-use Rattle.builders.specs.Order.{in-order, follow, find, has, distinct}
-use Rattle.builders.specs.Build.{items-of, join, append}
-use Rattle.builders.proofs.InOrders.{in-order-rising, find-in-order, or-else, rising-distinct, not-has, has-not, distinct-cons}
+use Rattle.builders.specs.Order.{in-order, follow, find, distinct}
+use Rattle.builders.specs.Build.{join, append}
+use Rattle.builders.proofs.InOrders.{in-order-rising, or-else, rising-distinct, has-not, distinct-cons}
 use Rattle.edits.specs.Concat.{as-items, members-in, concat}
-use Rattle.edits.proofs.Deletes.{false-true, find-first, find-later, equal-or-not, find-unique, found-in, not-in, nothing-some}
+use Rattle.edits.proofs.Deletes.{false-true, find-first, find-later, equal-or-not, find-unique, nothing-some}
 use Rattle.edits.proofs.Concats.{concat-given, concat-items, concat-find}
-use Rattle.runs.specs.Plain.{has-name, together, lacked, items-then, giving, members-of, objects-or, plain-concat, array-items, plain-append}
+use Rattle.runs.specs.Plain.{has-name, together, lacked, items-then, giving, members-of, objects-or, plain-concat, plain-append}
 use Rattle.runs.proofs.Named.{by-test, has-named, missing-name}
-use Rattle.runs.proofs.Proper.{Proper, ProperItems, ProperMembers, distinct-with, Fewer, fewer-distinct, fewer-in}
+use Rattle.runs.proofs.Proper.{Proper, ProperItems, ProperMembers, distinct-with, Fewer, fewer-distinct}
 use Rattle.runs.proofs.Canon.{canon, canon-items, canon-members, canon-found, canon-find}
 
 -- ---- two objects

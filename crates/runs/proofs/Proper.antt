@@ -2,25 +2,24 @@
 -- members stand. An equal value is one too, and so is the tree of a sound record.
 use Prim.Native.Nat.{ℕ}
 use native.Mathlib.Omega.{arith}
-use mathlib.Core.Path.{_≡_, refl, sym, _∙_}
+use mathlib.Core.Path.{_≡_, refl}
 use mathlib.Core.Logic.{_⊎_, inl, inr, ⊎-elim}
-use mathlib.Core.Bool.{true, false}
+use mathlib.Core.Bool.{true}
 use mathlib.Core.List.{List, [], _∷_, _++_}
 use lib.Dec.{T}
-use lib.ListN.{length}
 use Rattle.layout.specs.Bytes.{Bytes, Octets, be32}
 use Rattle.layout.specs.Text.{utf8}
 use Rattle.layout.specs.Number.{listed}
 use Rattle.layout.specs.Tree.{Tree, null, boolean, number, string, extension, array, object, Items, none, item, Members, empty, member, names}
 use Rattle.layout.specs.Encode.{Part, entry-word, entries, payloads, record-of, name-parts, item-parts, member-parts, payload, part, scalar, encode}
 use Rattle.layout.specs.Limits.{Valid, ValidItems, ValidMembers}
-use Rattle.layout.specs.Sound.{Rising, Sound, SoundItems, SoundMembers}
+use Rattle.layout.specs.Sound.{Sound, SoundItems, SoundMembers}
 use Rattle.layout.specs.Value.{Taken, Same, SameItems, SameMembers}
 use Rattle.layout.proofs.Words.{octets-left, octets-right, octets-append}
 use Rattle.layout.proofs.Decoding.{payloads-append}
 use Rattle.layout.proofs.Values.{In, taken-in, same-names}
 use Rattle.layout.proofs.Sames.{same-sym}
-use Rattle.builders.specs.Order.{has, distinct}
+use Rattle.builders.specs.Order.{distinct}
 use Rattle.builders.proofs.InOrders.{not-has, has-not, distinct-cons, rising-distinct}
 
 abbrev mutual

@@ -1,24 +1,22 @@
 -- Delete on values: the value without what the path finds is, in its sound tree, what delete leaves there.
 use Prim.Native.Nat.{ℕ, zero, suc, _<_}
 use native.Mathlib.Omega.{arith}
-use mathlib.Core.Path.{_≡_, refl, ap, ap₂, sym, _∙_}
+use mathlib.Core.Path.{_≡_, refl, ap, sym, _∙_}
 use mathlib.Core.Logic.{_⊎_, inl, inr, ⊎-elim}
-use mathlib.Core.Bool.{Bool, true, false, cond}
+use mathlib.Core.Bool.{true}
 use mathlib.Core.List.{List, [], _∷_}
 use mathlib.Core.Option.{Option, none as nothing, some}
 use Rattle.layout.specs.Bytes.{Bytes}
 use Rattle.layout.specs.Tree.{Tree, null, boolean, number, string, extension, array, object, Items, none, item, Members, empty, member, names}
-use Rattle.layout.specs.Sound.{Rising}
-use Rattle.layout.proofs.Values.{In}
 use Rattle.builders.specs.Order.{in-order, find, distinct}
 use Rattle.builders.specs.Build.{count}
 use Rattle.builders.proofs.InOrders.{in-order-rising, find-in-order, has-not, distinct-cons}
 use Rattle.edits.specs.Path.{Step}
-use Rattle.edits.specs.Find.{_then_, step-place, step-name, step-into, look-up}
+use Rattle.edits.specs.Find.{_then_, step-place}
 use Rattle.edits.specs.Delete.{kept-item, change-item, change-at, change-member, anew, left, or-same, delete}
-use Rattle.edits.proofs.Deletes.{some-inj, nothing-some, found-or-not, equal-or-not, find-first, find-later, found-in, not-in, find-other, find-changed, find-gone, find-unique}
+use Rattle.edits.proofs.Deletes.{some-inj, nothing-some, equal-or-not, find-first, find-later, not-in, find-other, find-changed, find-gone, find-unique}
 use Rattle.edits.proofs.Meanings.{deleted-missing, deleted-found}
-use Rattle.runs.specs.Plain.{member-name, named, item-number, how-many, numbered, taken, inward, plain-look-up, left-member, left-item, leave-named, leave-numbered, leave, rest, plain-delete}
+use Rattle.runs.specs.Plain.{member-name, item-number, how-many, numbered, taken, inward, plain-look-up, left-member, left-item, leave-named, leave-numbered, leave, rest, plain-delete}
 use Rattle.runs.proofs.Named.{by-name, named-find}
 use Rattle.runs.proofs.Proper.{Proper, ProperItems, ProperMembers, Fewer, fewer-distinct}
 use Rattle.runs.proofs.Canon.{canon, canon-items, canon-members, canon-found, canon-find}

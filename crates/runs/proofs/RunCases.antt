@@ -5,24 +5,22 @@ use Prim.Native.Nat.{ℕ, _<_}
 use native.Mathlib.Omega.{arith}
 use mathlib.Core.Path.{_≡_, refl, ap}
 use mathlib.Core.Bool.{Bool, true, false, _&&_}
-use mathlib.Core.List.{List, [], _∷_}
+use mathlib.Core.List.{[], _∷_}
 use lib.Dec.{T, ltb, ltb→lt}
-use lib.ListN.{length, getD, replicate}
+use lib.ListN.{getD, replicate}
 use Rattle.layout.specs.Bytes.{Bytes, Octets, be32}
 use Rattle.layout.specs.Answer.{gives}
 use Rattle.layout.specs.Order.{order}
-use Rattle.layout.specs.Tree.{Tree, null, boolean, number, string, array, object, none, item, empty, member}
+use Rattle.layout.specs.Tree.{Tree, boolean, number, string, array, object, none, item, empty, member}
 use Rattle.layout.specs.Read.{read}
 use Rattle.layout.specs.Sound.{Sound}
 use Rattle.layout.specs.Value.{Same}
-use Rattle.layout.specs.Ended.{into}
 use Rattle.layout.specs.declared.refusal.Refusal.the-variants.{Kind, Buffer}
-use Rattle.layout.specs.declared.ending.Ending.{Ending}
 use Rattle.layout.specs.declared.ending.Ending.the-variants.{Done, Absent, Refused}
 use Rattle.layout.proofs.Values.{same-refl}
 use Rattle.builders.specs.Order.{same, has}
 use Rattle.runs.specs.declared.call.Edit.{Edit}
-use Rattle.runs.specs.declared.call.Edit.the-variants.{Get, Delete, Concat, Strip, Append, Build}
+use Rattle.runs.specs.declared.call.Edit.the-variants.{Get, Concat, Strip, Append, Build}
 use Rattle.runs.specs.Call.{Call, outcome}
 use Rattle.runs.specs.Run.{endings}
 use Rattle.runs.specs.Account.{edited}

@@ -1,5 +1,5 @@
 -- A call of a run: document 01, "A call names its records by their places on the shelf, one place twice if it likes, and brings any
--- bytes as path and a result buffer of its own, of any length." The shelf is a list of records, and a place counts from 0.
+-- bytes as path and a result buffer of its own, of any length."
 use Prim.Native.Nat.{ℕ, _<_}
 use Rattle.layout.specs.Bytes.{Bytes}
 use Rattle.layout.specs.Ended.{Outcome}
@@ -10,8 +10,8 @@ use Rattle.edits.specs.Strip.{strip, on-one}
 use Rattle.runs.specs.declared.call.Edit.{Edit}
 use Rattle.runs.specs.declared.call.Edit.the-variants.{Get, Delete, Concat, Strip, Append, Build}
 
--- Its kind, the places of its records, its path and its buffer as it is lent. A call that takes one record takes the left one, and
--- a call without a path does not look at it.
+-- Its kind, the places of its records, counted from 0, its path, and its buffer as it is lent. A call that takes one record takes the
+-- left one, and one without a path does not look at it.
 pub record Call : Type 0 where
   pub edit : Edit
   pub left : ℕ
@@ -19,7 +19,8 @@ pub record Call : Type 0 where
   pub path : Bytes
   pub buffer : Bytes
 
--- What document 01 gives a call on two records, with a path and a buffer of `room` bytes: what the function's contract cites.
+-- What document 01 gives a call of a kind, on two records, with a path and a buffer of `room` bytes. It is what the contract of each
+-- of the six functions cites, and `make_edit`, which calls them, promises it of all.
 unfoldable pub outcome : Edit → Bytes → Bytes → Bytes → ℕ → Outcome
 unfolding on-path on-two on-one concat
 outcome Get left right path room = on-path get-by left path room

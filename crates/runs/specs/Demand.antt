@@ -1,4 +1,5 @@
--- Demand 3: for every two lists of calls, each from a shelf of sound records. Proved as `demand-3` of proofs/Demands.antt.
+-- Demand 3, the client's words clause by clause: for every two lists of calls, each from a shelf of sound records. It is proved as
+-- `demand-3` of proofs/Demands.antt.
 use Prim.Native.Nat.{ℕ, _<_}
 use mathlib.Core.Path.{_≡_}
 use mathlib.Core.Logic.{_↔_}
@@ -11,7 +12,7 @@ use Rattle.layout.specs.Read.{read}
 use Rattle.layout.specs.Sound.{Sound}
 use Rattle.layout.specs.Value.{Same}
 use Rattle.runs.specs.Call.{Call}
-use Rattle.runs.specs.Run.{run, endings, Takes}
+use Rattle.runs.specs.Run.{Shelf, run, endings, Takes}
 use Rattle.runs.specs.Account.{requests, account, account-endings}
 
 -- `b` is a sound record with the value `v`: bytes that read as a tree whose names rise in every object, and the value of that tree
@@ -24,7 +25,7 @@ pub record SoundWith (b : Bytes) (v : Tree) : Type 0 where
   pub same : Same v tree
 
 -- The same place by place, of as many records as values.
-abbrev pub AllSoundWith : List Bytes → List Tree → Type 0
+abbrev pub AllSoundWith : Shelf → List Tree → Type 0
 AllSoundWith [] [] = Unit {0}
 AllSoundWith [] (v ∷ values) = ⊥
 AllSoundWith (b ∷ shelf) [] = ⊥
@@ -34,14 +35,14 @@ AllSoundWith (b ∷ shelf) (v ∷ values) = SoundWith b v × AllSoundWith shelf 
 -- records in a row"; "a call takes any records then on its shelf".
 pub record Start : Type 0 where
   pub calls : List Call
-  pub shelf : List Bytes
+  pub shelf : Shelf
   pub values : List Tree
   pub some-record : 0 < length shelf
   pub all-sound : AllSoundWith shelf values
   pub takes : Takes calls shelf
 
 -- The records and the account's values after the calls.
-abbrev pub records-after : Start → List Bytes
+abbrev pub records-after : Start → Shelf
 records-after s = run (s .calls) (s .shelf)
 
 abbrev pub values-after : Start → List Tree
@@ -56,7 +57,7 @@ abbrev pub HasItsValue : Start → Type 0
 HasItsValue s = AllSoundWith (records-after s) (values-after s)
 
 -- Of these records, "any two .. have equal bytes exactly when those values are equal".
-abbrev pub EqualAlike : List Bytes → List Tree → Type 0
+abbrev pub EqualAlike : Shelf → List Tree → Type 0
 EqualAlike records values =
     (i j : ℕ) → i < length records → j < length records
     → (getD records i [] ≡ getD records j []) ↔ Same (getD values i null) (getD values j null)

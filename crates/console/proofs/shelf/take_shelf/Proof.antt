@@ -1,10 +1,10 @@
--- `console::run::take_shelf` meets its contract.
+-- `console::shelf::take_shelf` meets its contract.
 use borrow.Author.Needs.{needs}
 use Prim.Native.Nat.{_≤_, _-_}
 use mathlib.Core.Path.{_≡_}
 use lib.ListN.{length}
-use Rattle.console.proofs.run.take_shelf.Statement.{statement}
-use Rattle.console.proofs.run.take_shelf.Tie as tie
+use Rattle.console.proofs.shelf.take_shelf.Statement.{statement}
+use Rattle.console.proofs.shelf.take_shelf.Tie as tie
 
 abbrev Inv-loop : tie.InvT-loop
 Inv-loop text shelf₀ ends₀ records₀ start₀ shelf ends records start = (start ≤ length text) × (length shelf ≡ length shelf₀) × (length ends ≡ length ends₀)

@@ -1,8 +1,8 @@
--- `console::run::say_shelf` meets its contract.
+-- `console::shelf::say_shelf` meets its contract.
 use borrow.Author.Needs.{needs}
 use Prim.Native.Nat.{_≤_, _-_}
-use Rattle.console.proofs.run.say_shelf.Statement.{statement}
-use Rattle.console.proofs.run.say_shelf.Tie as tie
+use Rattle.console.proofs.shelf.say_shelf.Statement.{statement}
+use Rattle.console.proofs.shelf.say_shelf.Tie as tie
 
 abbrev Inv-loop : tie.InvT-loop
 Inv-loop shelf ends records i₀ t6 t7 i = i ≤ records
