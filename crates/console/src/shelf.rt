@@ -1,5 +1,4 @@
 // The shelf of a run: a row of bytes, and for each record where it ends.
-use crate::hex::RECORD_ROOM;
 use crate::hex::decode;
 use crate::say::say;
 use crate::say::say_hex;
@@ -54,44 +53,48 @@ pub(crate) fn record_at<'a>(shelf: &'a [u8], ends: &[usize], place: usize) -> &'
     slice(shelf, start, end - start)
 }
 
-// Puts a record behind so many others; whether there was room for it.
-fn add_record(record: &[u8], shelf: &mut [u8], ends: &mut [usize], records: usize) -> bool {
-    let start = record_start(ends, records);
-    if shelf.len() < start {
-        return false;
+// Notes a record of a length behind so many others, where the shelf has room for it; gives how many there are then.
+fn note_record(
+    ends: &mut [usize],
+    records: usize,
+    start: usize,
+    length: usize,
+    room: usize,
+) -> Shelved {
+    if room < start {
+        return Shelved::Wrong(Fault::Full);
     }
-    if shelf.len() - start < record.len() {
-        return false;
+    if room - start < length {
+        return Shelved::Wrong(Fault::Full);
     }
     if ends.len() <= records {
-        return false;
+        return Shelved::Wrong(Fault::Full);
     }
-    copy(record, shelf, start);
-    ends[records] = start + record.len();
-    true
+    ends[records] = start + length;
+    Shelved::Records(records + 1)
 }
 
-// Puts a record behind so many others; gives how many there are then.
+// Puts a record behind so many others.
 pub(crate) fn keep_record(
     record: &[u8],
     shelf: &mut [u8],
     ends: &mut [usize],
     records: usize,
 ) -> Shelved {
-    if PLACES <= records {
-        return Shelved::Wrong(Fault::Full);
-    }
-    if add_record(record, shelf, ends, records) {
-        return Shelved::Records(records + 1);
-    }
-    Shelved::Wrong(Fault::Full)
+    let start = record_start(ends, records);
+    copy(record, shelf, start);
+    note_record(ends, records, start, record.len(), shelf.len())
 }
 
-// Takes a record of the starting shelf.
+// Takes a record of the starting shelf, and puts it there whole, however long it is.
 fn take_record(text: &[u8], shelf: &mut [u8], ends: &mut [usize], records: usize) -> Shelved {
-    let mut record = [0u8; RECORD_ROOM];
-    match decode(text, &mut record) {
-        Taken::Length(n) => keep_record(slice(&record, 0, n), shelf, ends, records),
+    let start = record_start(ends, records);
+    let room = shelf.len();
+    if room < start {
+        return Shelved::Wrong(Fault::Full);
+    }
+    match decode(text, &mut shelf[start..]) {
+        Taken::Length(n) => note_record(ends, records, start, n, room),
         Taken::Wrong(fault) => Shelved::Wrong(fault),
     }
 }
