@@ -33,7 +33,7 @@ mutual
   same-items-sym none us h = rw h refl
   same-items-sym (item t ts) us h = rw (h .2) (t, ts, refl, same-sym t (h .0) (h .3), same-items-sym ts (h .1) (h .4))
 
-  same-members-sym : (ms ns : Members) → SameMembers ms ns → SameMembers ns ms
+  pub same-members-sym : (ms ns : Members) → SameMembers ms ns → SameMembers ns ms
   same-members-sym empty ns h = rw h refl
   same-members-sym (member n t ms) ns h =
       same-taken n t (h .0) ns (h .1) ms (h .2) (same-sym t (h .0) (h .3)) (same-members-sym ms (h .1) (h .4))

@@ -67,15 +67,16 @@ in-bytes (refuse r) = refusal r
 record-length-canon : (t : Tree) → Proper t → length (encode (canon t)) ≡ record-length t
 record-length-canon t p = length-encode (canon t) ∙ canon-length t p
 
--- Within the limits: 10, or a result.
+-- 10, or a result.
+ten : (t : Tree) (b : Bool) → cond b (refusal Buffer) (result (encode (canon t))) ≡ in-bytes (cond b (refuse Buffer) (value t))
+ten t true = refl
+ten t false = refl
+
+-- Within the limits.
 fits-into : (t : Tree) (room : ℕ) → Proper t → depth t ≤ 64 → record-length t ≤ 65536 → into room (encode (canon t)) ≡ in-bytes (fitting room t)
 unfolding into
 fits-into t room p d l =
-    rw (record-length-canon t p, le-ltb 65536 (record-length t) l, le-ltb 64 (depth t) d) (go (ltb room (record-length t)))
-  where
-    go : (b : Bool) → cond b (refusal Buffer) (result (encode (canon t))) ≡ in-bytes (cond b (refuse Buffer) (value t))
-    go true = refl
-    go false = refl
+    rw (record-length-canon t p, le-ltb 65536 (record-length t) l, le-ltb 64 (depth t) d) (ten t (ltb room (record-length t)))
 
 leb-ltb : (a n : ℕ) → leb a n ≡ not (ltb n a)
 leb-ltb a n = go (ltb n a) (ltb→lt n a) (nltb→le n a)
@@ -91,15 +92,11 @@ fits-within t room p =
     rw (within-is (canon t), canon-length t p, canon-depth t p, leb-ltb (record-length t) 65536, leb-ltb (depth t) 64)
     (go (ltb 65536 (record-length t)) (ltb 64 (depth t)))
   where
-    last : (b : Bool) → cond b (refusal Buffer) (result (encode (canon t))) ≡ in-bytes (cond b (refuse Buffer) (value t))
-    last true = refl
-    last false = refl
-
     go : (a b : Bool) → written room (require (not a && not b) Result >>= λ _. gives (canon t))
         ≡ in-bytes (cond (a || b) (refuse Result) (cond (ltb room (record-length t)) (refuse Buffer) (value t)))
     go true b = refl
     go false true = refl
-    go false false = rw (record-length-canon t p) (last (ltb room (record-length t)))
+    go false false = rw (record-length-canon t p) (ten t (ltb room (record-length t)))
 
 -- ---- what the account adds is good
 

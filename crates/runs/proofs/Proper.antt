@@ -18,7 +18,7 @@ use Rattle.layout.specs.Value.{Taken, Same, SameItems, SameMembers}
 use Rattle.layout.proofs.Words.{octets-left, octets-right, octets-append}
 use Rattle.layout.proofs.Decoding.{payloads-append}
 use Rattle.layout.proofs.Values.{In, taken-in, same-names}
-use Rattle.layout.proofs.Sames.{same-sym}
+use Rattle.layout.proofs.Sames.{same-members-sym}
 use Rattle.builders.specs.Order.{distinct}
 use Rattle.builders.proofs.InOrders.{not-has, has-not, distinct-cons, rising-distinct}
 
@@ -196,14 +196,8 @@ unfolding distinct
 same-distinct empty ns h d = refl
 same-distinct (member n t ms) ns h d =
     let q = others-distinct n (h .0) ns (h .1) (h .2) d in
-    let back : Same (object (h .1)) (object ms) = same-sym (object ms) (object (h .1)) (h .1, refl, h .4) in
-    distinct-with n (names ms) (λ i. q .0 (names-back (h .1) back i)) (same-distinct ms (h .1) (h .4) (q .1))
-  where
-    object-inj : {a b : Members} → object a ≡ object b → a ≡ b
-    object-inj e = cc
-
-    names-back : (r : Members) → Same (object r) (object ms) → In n (names ms) → In n (names r)
-    names-back r b i = let is : SameMembers r ms = rw (object-inj (b .1)) (b .2) in same-names r ms is n i
+    let back = same-members-sym ms (h .1) (h .4) in
+    distinct-with n (names ms) (λ i. q .0 (same-names (h .1) ms back n i)) (same-distinct ms (h .1) (h .4) (q .1))
 
 mutual
   pub same-proper : (t u : Tree) → Same t u → Proper u → Proper t
