@@ -1,4 +1,4 @@
--- Equality of values is an equivalence: `same-refl` of Values, and these two.
+-- Equality of values is an equivalence: `same-refl` of Values, and here the other way round and one after the other.
 use mathlib.Core.Path.{refl, sym}
 use mathlib.Core.Logic.{_⊎_, inl, inr, ⊎-elim}
 use Rattle.layout.specs.Bytes.{Bytes}

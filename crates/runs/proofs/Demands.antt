@@ -1,5 +1,5 @@
 -- Demand 3, proved: the statement is specs/Demand.antt.
-use Prim.Native.Nat.{ℕ, zero, suc, _+_, _<_}
+use Prim.Native.Nat.{ℕ, zero, suc, _<_}
 use native.Mathlib.Omega.{arith}
 use mathlib.Core.Path.{_≡_, refl, ap, ap₂, sym, _∙_}
 use mathlib.Core.Logic.{_↔_}
@@ -37,10 +37,6 @@ records (t ∷ values) = encode (canon t) ∷ records values
 abbrev AllGood : List Tree → Type 0
 AllGood [] = Unit {0}
 AllGood (t ∷ values) = Good t × AllGood values
-
-records-length : (values : List Tree) → length (records values) ≡ length values
-records-length [] = refl
-records-length (t ∷ values) = ap suc (records-length values)
 
 records-append : (values others : List Tree) → records (values ++ others) ≡ records values ++ records others
 records-append [] others = refl
