@@ -1,0 +1,158 @@
+//! A safe wrapper over the functions of include/jsonb.h: slices in, slices out.
+//!
+//! What the header asks of a C caller is kept by the types: a slice's pointer is never null and has as many bytes as its length says,
+//! and a buffer that is lent `&mut` overlaps no record and no path. So nothing here can be called wrongly; any bytes at all will do.
+//!
+//! A result is the front part of the buffer that was lent. A refusal and an absence leave the buffer as it was.
+
+/// A buffer of this length serves every call: no result is longer.
+pub const ROOM: usize = 65_536;
+
+/// Why a call was refused: the ten numbers, and who can cause each.
+#[derive(Clone, Copy, PartialEq, Eq, Debug)]
+pub enum Refusal {
+    /// The sender of a record: it is cut short.
+    Short = 1,
+    /// The sender of a record: its layout is damaged.
+    Layout = 2,
+    /// The sender of a record: a text or a name is not UTF-8.
+    Text = 3,
+    /// The sender of a record: a number is of no listed form.
+    Number = 4,
+    /// The sender of a record: it is over 65,536 bytes, or nested deeper than 64.
+    Limit = 5,
+    /// The writer of a path: it is unreadable, no array, or holds what is neither a name nor an index.
+    Path = 6,
+    /// The author of an edit: the record is of a kind that the edit does not take.
+    Kind = 7,
+    /// The author of an edit: a repeated name.
+    Repeated = 8,
+    /// The author of an edit: the result would be over 65,536 bytes or deeper than 64.
+    Result = 9,
+    /// The lender of the buffer: it is shorter than the result.
+    Buffer = 10,
+}
+
+const REFUSALS: [Refusal; 10] = [
+    Refusal::Short,
+    Refusal::Layout,
+    Refusal::Text,
+    Refusal::Number,
+    Refusal::Limit,
+    Refusal::Path,
+    Refusal::Kind,
+    Refusal::Repeated,
+    Refusal::Result,
+    Refusal::Buffer,
+];
+
+impl Refusal {
+    pub fn number(self) -> u32 {
+        self as u32
+    }
+}
+
+impl std::fmt::Display for Refusal {
+    fn fmt(&self, f: &mut std::fmt::Formatter) -> std::fmt::Result {
+        let words = match self {
+            Refusal::Short => "short",
+            Refusal::Layout => "layout",
+            Refusal::Text => "text",
+            Refusal::Number => "number",
+            Refusal::Limit => "too long or deep",
+            Refusal::Path => "path",
+            Refusal::Kind => "kind",
+            Refusal::Repeated => "repeated name",
+            Refusal::Result => "result too long or deep",
+            Refusal::Buffer => "buffer too short",
+        };
+        write!(f, "{} {}", self.number(), words)
+    }
+}
+
+impl std::error::Error for Refusal {}
+
+/// The functions of include/jsonb.h.
+mod c {
+    extern "C" {
+        pub fn jsonb_check(record: *const u8, record_length: usize) -> u64;
+        pub fn jsonb_strip_nulls(target: *const u8, target_length: usize, out: *mut u8, out_length: usize) -> u64;
+    }
+
+    /// The other edits take two records, or a record and a path, and a buffer.
+    pub type Edit = unsafe extern "C" fn(*const u8, usize, *const u8, usize, *mut u8, usize) -> u64;
+
+    macro_rules! edits {
+        ($($name:ident)*) => {
+            extern "C" {
+                $(pub fn $name(first: *const u8, first_length: usize, second: *const u8, second_length: usize,
+                               out: *mut u8, out_length: usize) -> u64;)*
+            }
+        };
+    }
+
+    edits! { jsonb_get_by_keypath jsonb_delete_by_keypath jsonb_concat jsonb_append jsonb_build_object }
+}
+
+/// JSONB_ABSENT: below it an answer is a length, above it 2^32 and the number of a refusal.
+const ABSENT: u64 = 1 << 32;
+
+/// The length of the result, or `None` for an absence.
+fn ending(answer: u64) -> Result<Option<usize>, Refusal> {
+    if answer < ABSENT {
+        return Ok(Some(answer as usize));
+    }
+    if answer == ABSENT {
+        return Ok(None);
+    }
+    Err(REFUSALS[(answer - ABSENT) as usize - 1])
+}
+
+/// An edit of two records, or of a record and a path.
+fn edit<'a>(call: c::Edit, first: &[u8], second: &[u8], out: &'a mut [u8]) -> Result<Option<&'a [u8]>, Refusal> {
+    // Each pointer comes with the length of its slice, and `out` is borrowed for writing, so that it overlaps neither record.
+    let answer = unsafe { call(first.as_ptr(), first.len(), second.as_ptr(), second.len(), out.as_mut_ptr(), out.len()) };
+    Ok(ending(answer)?.map(move |length| &out[..length]))
+}
+
+/// An edit that has no absence.
+fn edit_always<'a>(call: c::Edit, first: &[u8], second: &[u8], out: &'a mut [u8]) -> Result<&'a [u8], Refusal> {
+    Ok(edit(call, first, second, out)?.expect("only a look-up has an absence"))
+}
+
+/// Whether a record is readable, or why it is not.
+pub fn check(record: &[u8]) -> Result<(), Refusal> {
+    ending(unsafe { c::jsonb_check(record.as_ptr(), record.len()) }).map(|_| ())
+}
+
+/// What a path finds in a record, as a record of its own; `None` where it finds nothing. A path is an array record of names and indexes.
+pub fn get_by_keypath<'a>(target: &[u8], path: &[u8], out: &'a mut [u8]) -> Result<Option<&'a [u8]>, Refusal> {
+    edit(c::jsonb_get_by_keypath, target, path, out)
+}
+
+/// The record without what a path finds in it; the record itself where it finds nothing.
+pub fn delete_by_keypath<'a>(target: &[u8], path: &[u8], out: &'a mut [u8]) -> Result<&'a [u8], Refusal> {
+    edit_always(c::jsonb_delete_by_keypath, target, path, out)
+}
+
+/// The left record overlaid with the right one: two objects become one, anything else an array of both.
+pub fn concat<'a>(left: &[u8], right: &[u8], out: &'a mut [u8]) -> Result<&'a [u8], Refusal> {
+    edit_always(c::jsonb_concat, left, right, out)
+}
+
+/// The record without the members whose value is null, at every level.
+pub fn strip_nulls<'a>(target: &[u8], out: &'a mut [u8]) -> Result<&'a [u8], Refusal> {
+    let answer = unsafe { c::jsonb_strip_nulls(target.as_ptr(), target.len(), out.as_mut_ptr(), out.len()) };
+    let length = ending(answer)?.expect("only a look-up has an absence");
+    Ok(&out[..length])
+}
+
+/// The array with the record as one more item.
+pub fn append<'a>(array: &[u8], item: &[u8], out: &'a mut [u8]) -> Result<&'a [u8], Refusal> {
+    edit_always(c::jsonb_append, array, item, out)
+}
+
+/// The object of the names in one array with the values in the other.
+pub fn build_object<'a>(names: &[u8], values: &[u8], out: &'a mut [u8]) -> Result<&'a [u8], Refusal> {
+    edit_always(c::jsonb_build_object, names, values, out)
+}

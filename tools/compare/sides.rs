@@ -1,0 +1,166 @@
+// One request to both sides, and what their answers are to each other.
+use std::fmt;
+
+use jsonb::{answer, Answer, Edit, Error, Request};
+
+use crate::port;
+use crate::port::Refusal;
+use crate::reading::{depth, faults, Fault, DEPTH_LIMIT, RECORD_LIMIT};
+
+/// What the port answers.
+#[derive(Clone, PartialEq, Debug)]
+pub enum Ours {
+    Result(Vec<u8>),
+    Absent,
+    Refused(Refusal),
+}
+
+impl fmt::Display for Ours {
+    fn fmt(&self, f: &mut fmt::Formatter) -> fmt::Result {
+        match self {
+            Ours::Result(bytes) => write!(f, "result {}", jsonb::to_hex(bytes)),
+            Ours::Absent => write!(f, "absent"),
+            Ours::Refused(refusal) => write!(f, "refused {refusal}"),
+        }
+    }
+}
+
+/// How two answers stand to each other. `Alike`: they say the same. `Listed`: a difference of a kind that docs/DIFFERENCES.md must have.
+/// `NoCall`: the Rust has no such call. `Wrong`: what should never be.
+#[derive(Clone, PartialEq, Eq, PartialOrd, Ord, Debug)]
+pub enum Verdict {
+    Alike(&'static str),
+    Listed(String),
+    NoCall(&'static str),
+    Wrong(&'static str),
+}
+
+// ---- the port
+
+/// What a buffer is filled with, so that a byte that is written is seen; another byte where the result may hold this one.
+const FILL: u8 = 0xa5;
+
+/// Answers, and makes sure that no byte was written that should not be.
+pub fn ask_port(request: &Request, buffer: &mut Vec<u8>) -> Result<Ours, &'static str> {
+    let room = request.room.unwrap_or(port::ROOM);
+    buffer.clear();
+    buffer.resize(room, FILL);
+    let (first, second) = (&request.first[..], &request.second[..]);
+    let ended = match request.edit {
+        Edit::Get => port::get_by_keypath(first, second, buffer),
+        Edit::Delete => port::delete_by_keypath(first, second, buffer).map(Some),
+        Edit::Concat => port::concat(first, second, buffer).map(Some),
+        Edit::Strip => port::strip_nulls(first, buffer).map(Some),
+        Edit::Append => port::append(first, second, buffer).map(Some),
+        Edit::Build => port::build_object(first, second, buffer).map(Some),
+    };
+    let ours = match ended {
+        Ok(Some(result)) => Ours::Result(result.to_vec()),
+        Ok(None) => Ours::Absent,
+        Err(refusal) => Ours::Refused(refusal),
+    };
+    let filled = if let Ours::Result(result) = &ours { result.len() } else { 0 };
+    if buffer[filled..].iter().any(|b| *b != FILL) {
+        return Err("the port wrote behind its result");
+    }
+    Ok(ours)
+}
+
+// ---- both
+
+/// Why document 01 refuses the records: the faults of the first and then those of the second.
+fn faults_of(request: &Request) -> Vec<Fault> {
+    let mut all = faults(&request.first);
+    if !request.edit.has_path() && request.edit != Edit::Strip {
+        all.extend(faults(&request.second));
+    }
+    all
+}
+
+/// The cause of a difference. Of several faults the Rust may meet any, or none.
+fn cause_of(faults: &[Fault]) -> &'static str {
+    if faults.len() > 1 {
+        return "several faults";
+    }
+    faults[0].cause
+}
+
+/// What the Rust did, as a row of docs/DIFFERENCES.md says it.
+fn did(theirs: &Answer) -> &'static str {
+    match theirs {
+        Answer::Result(_) | Answer::Absent => "the Rust answers",
+        Answer::Error(_) => "the Rust has another error",
+        Answer::Panic => "the Rust panics",
+        Answer::Memory => "the Rust asks for more than 1 GiB",
+        Answer::NoCall(_) | Answer::StandIn => "no answer of the Rust's",
+    }
+}
+
+/// Whether an error of the Rust's is a number's.
+fn is_number(error: &Error, number: u32) -> bool {
+    match error {
+        Error::InvalidEOF => number == 1,
+        Error::InvalidJsonb => number == 2,
+        Error::InvalidJsonbNumber => number == 4,
+        Error::InvalidJsonType => number == 7,
+        Error::ObjectDuplicateKey => number == 8,
+        _ => false,
+    }
+}
+
+fn judge_refused(request: &Request, refusal: Refusal, faults: &[Fault], theirs: &Answer) -> Verdict {
+    let listed = |cause: &str| match faults.len() {
+        0 | 1 => Verdict::Listed(format!("{} {cause}: {}", refusal.number(), did(theirs))),
+        _ => Verdict::Listed(format!("{cause}: {}", did(theirs))),
+    };
+    match (refusal, theirs) {
+        (_, Answer::StandIn) => Verdict::Wrong("a stand-in was reached"),
+        (_, Answer::Error(error)) if is_number(error, refusal.number()) => Verdict::Alike("the same refusal"),
+        (_, Answer::NoCall(why)) if !faults.is_empty() => Verdict::NoCall(why),
+        (_, _) if !faults.is_empty() => listed(cause_of(faults)),
+        (Refusal::Path | Refusal::Kind, Answer::NoCall(why)) => Verdict::NoCall(why),
+        (Refusal::Result, Answer::Result(result)) if result.len() > RECORD_LIMIT => listed("result over 65,536 bytes"),
+        (Refusal::Result, Answer::Result(result)) if depth(result) > DEPTH_LIMIT => listed("result deeper than 64"),
+        (Refusal::Buffer, Answer::Result(result)) if result.len() > request.room.unwrap_or(RECORD_LIMIT) => {
+            listed("buffer too short")
+        }
+        _ => Verdict::Wrong("the port refuses and the Rust does not"),
+    }
+}
+
+/// The verdict on the answers to a request.
+pub fn judge(request: &Request, ours: &Ours, theirs: &Answer) -> Verdict {
+    let number = if let Ours::Refused(refusal) = ours { refusal.number() } else { 0 };
+    let faults = faults_of(request);
+    if faults.is_empty() && (1..=5).contains(&number) {
+        return Verdict::Wrong("the port refuses a readable record");
+    }
+    if !faults.is_empty() && faults[0].number != number {
+        return Verdict::Wrong("document 01 has another number for the record");
+    }
+    match (ours, theirs) {
+        (Ours::Result(ours), Answer::Result(theirs)) if ours == theirs => Verdict::Alike("the same result"),
+        (Ours::Result(_), Answer::Result(_)) => Verdict::Wrong("other bytes"),
+        (Ours::Absent, Answer::Absent) => Verdict::Alike("an absence"),
+        (Ours::Refused(refusal), _) => judge_refused(request, *refusal, &faults, theirs),
+        _ => Verdict::Wrong("the Rust has another ending"),
+    }
+}
+
+/// Asks both and judges. `QuotedName` must act as `Name`, and the check must say what the reading of document 01 says.
+pub fn compare(request: &Request, buffer: &mut Vec<u8>) -> (Ours, Answer, Verdict) {
+    let theirs = answer(request, false);
+    let ours = match ask_port(request, buffer) {
+        Ok(ours) => ours,
+        Err(why) => return (Ours::Absent, theirs, Verdict::Wrong(why)),
+    };
+    let verdict = judge(request, &ours, &theirs);
+    if request.edit.has_path() && answer(request, true) != theirs {
+        return (ours, theirs, Verdict::Wrong("QuotedName does not act as Name"));
+    }
+    let checked = port::check(&request.first).err().map(Refusal::number);
+    if checked != faults(&request.first).first().map(|fault| fault.number) {
+        return (ours, theirs, Verdict::Wrong("the check is not document 01's"));
+    }
+    (ours, theirs, verdict)
+}
