@@ -5,6 +5,7 @@ use crate::run::answer_run;
 use crate::say::say;
 use crate::say::say_fault;
 use crate::say::say_refused;
+use crate::show::show_record;
 use crate::text::Taken;
 use crate::text::count_arguments;
 use crate::text::trim;
@@ -38,12 +39,14 @@ fn say_sound(record: &[u8]) {
 enum Call {
     Check,
     Sound,
+    Show,
 }
 
 fn answer_record(call: Call, record: &[u8]) {
     match call {
         Call::Check => say_check(record),
         Call::Sound => say_sound(record),
+        Call::Show => show_record(record),
     }
 }
 
@@ -96,11 +99,14 @@ fn answer_other(word: &[u8], rest: &[u8]) {
     if is_same(word, b"sound") {
         return answer_one(Call::Sound, rest);
     }
+    if is_same(word, b"show") {
+        return answer_one(Call::Show, rest);
+    }
     if is_same(word, b"run") {
         return answer_run(rest);
     }
     say(
-        b"? there is no such call; there are check, sound, get, delete, concat, strip, append, build and run\n",
+        b"? there is no such call; there are check, sound, show, get, delete, concat, strip, append, build and run\n",
     );
 }
 

@@ -1,7 +1,8 @@
-// The console: a line of hexadecimal in, an answer out, a line for a line.
+// The console: a line of hexadecimal in, an answer out, a line for a line but for an outline.
 //
 //   check R            ok, or refused N WORDS
 //   sound R            sound, unsound, or refused N WORDS
+//   show R             an outline, a line for each item at every level, or refused N WORDS; show.rt says more
 //   get R ; PATH       result HEX, absent, or refused N WORDS: what the path finds in the record R
 //   delete R ; PATH    result HEX, or refused N WORDS: the record R without what the path finds in it
 //   concat L ; R       result HEX, or refused N WORDS: the record L overlaid with the record R
@@ -21,6 +22,8 @@ mod hex;
 mod run;
 mod say;
 mod shelf;
+mod show;
+mod spell;
 mod text;
 mod writing;
 

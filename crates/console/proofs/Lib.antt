@@ -1,0 +1,2 @@
+-- The laws of the console.
+pub mod Outlines

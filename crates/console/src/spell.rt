@@ -1,0 +1,144 @@
+// An item in words: what it is, and what its payload spells, as it stands in an outline.
+use crate::say::say;
+use crate::say::say_decimal;
+use crate::say::say_hex;
+use layout::item::Kind;
+use layout::number::Number;
+use layout::util::slice;
+
+// The bytes below the space, and the one behind the last letter, are not shown as they are.
+const SPACE: u8 = 0x20;
+
+const DELETE: u8 = 0x7f;
+
+// Both 00 and 5000 read as an unsigned 0. The first of them is the one of a single byte.
+const ZERO_LENGTH: usize = 1;
+
+// The digits of a float's 64 bits.
+const FLOAT_DIGITS: usize = 16;
+
+// ---- text
+
+fn is_control(c: u8) -> bool {
+    (c < SPACE) | (c == DELETE)
+}
+
+fn is_escaped(c: u8) -> bool {
+    (c == b'"') | ((c == b'\\') | is_control(c))
+}
+
+fn say_escaped(c: u8) {
+    let letter = [c];
+    if is_control(c) {
+        say(b"\\u00");
+        return say_hex(&letter);
+    }
+    say(b"\\");
+    say(&letter);
+}
+
+// Text between quotation marks. What stands between two escaped bytes is written at once.
+pub(crate) fn say_text(text: &[u8]) {
+    say(b"\"");
+    let mut start = 0;
+    let mut i = 0;
+    while i < text.len() {
+        let c = text[i];
+        if is_escaped(c) {
+            say(slice(text, start, i - start));
+            say_escaped(c);
+            start = i + 1;
+        }
+        i += 1;
+    }
+    say(slice(text, start, i - start));
+    say(b"\"");
+}
+
+// ---- numbers
+
+// The least of the signed numbers has no positive counterpart, so that a negative one is turned around at −1.
+fn say_signed(v: i64) {
+    if v < 0 {
+        say(b"-");
+        return say_decimal((-1 - v) as u64 + 1);
+    }
+    say_decimal(v as u64);
+}
+
+fn say_int(v: i64) {
+    say_signed(v);
+    say(b" (signed)");
+}
+
+fn say_uint(v: u64, length: usize) {
+    say_decimal(v);
+    if length == ZERO_LENGTH {
+        return say(b" (zero)");
+    }
+    say(b" (unsigned)");
+}
+
+// A float is shown by its bits, which the language has no decimal for.
+fn say_float(bits: u64) {
+    say(b"bits ");
+    io::print_hex(1, bits, FLOAT_DIGITS);
+    say(b" (float)");
+}
+
+fn say_decimal64(value: i64, scale: u8) {
+    say_signed(value);
+    say(b" scale ");
+    say_decimal(scale as u64);
+    say(b" (decimal)");
+}
+
+fn say_wide_decimal(bytes: usize) {
+    say(b"of ");
+    say_decimal(bytes as u64);
+    say(b" bytes (decimal)");
+}
+
+fn say_number_item(payload: &[u8]) {
+    say(b"number ");
+    match Number::decode(payload) {
+        Number::Nan => say(b"NaN"),
+        Number::Infinity => say(b"infinity"),
+        Number::NegInfinity => say(b"minus infinity"),
+        Number::Int64(v) => say_int(v),
+        Number::UInt64(v) => say_uint(v, payload.len()),
+        Number::Float64(bits) => say_float(bits),
+        Number::Decimal64(value, scale) => say_decimal64(value, scale),
+        Number::WideDecimal(bytes) => say_wide_decimal(bytes),
+        // No readable record has one.
+        Number::Refused(_) => {}
+    }
+}
+
+// ---- items
+
+fn say_string(payload: &[u8]) {
+    say(b"string ");
+    say_text(payload);
+}
+
+fn say_extension(payload: &[u8]) {
+    say(b"extension ");
+    if payload.len() == 0 {
+        return say(b"-");
+    }
+    say_hex(payload);
+}
+
+// An item that is no container.
+pub(crate) fn say_leaf(kind: Kind, payload: &[u8]) {
+    match kind {
+        Kind::Null => say(b"null"),
+        Kind::String => say_string(payload),
+        Kind::Number => say_number_item(payload),
+        Kind::False => say(b"false"),
+        Kind::True => say(b"true"),
+        Kind::Container => {}
+        Kind::Extension => say_extension(payload),
+    }
+}
