@@ -1,10 +1,11 @@
--- The laws of an outline: what a step of a walk has found lies in the slice, and a negative number can be turned around.
+-- The laws of an outline: a readable record is short, what a step of a walk has found lies in the slice, and a negative number can
+-- be turned around.
 use Prim.Native.Nat.{ℕ, suc, _+_, _-_, _^_, _≤_, _<_}
 use mathlib.Core.Path.{_≡_, refl, sym, _∙_}
 use mathlib.Core.Bool.{Bool, true, false, not, cond}
 use native.Mathlib.Omega.{arith}
-use borrow.Author.Tests.{ltb-true}
-use lib.Dec.{eqb}
+use borrow.Author.Tests.{ltb-true, leb-true, leb-false}
+use lib.Dec.{eqb, leb}
 use lib.IntN.{ℤ, pos, negsuc, natAbs, _-ℤ_}
 use lib.ListN.{length}
 use lib.Signed.{ltZ}
@@ -14,10 +15,15 @@ use mir.ValLaws.{toZ-ofZ}
 use Rattle.layout.specs.Bytes.{Bytes, inside, word-at}
 use Rattle.layout.specs.Entry.{length-of}
 use Rattle.layout.specs.Number.{pattern}
+use Rattle.layout.specs.Read.{read}
+use Rattle.layout.specs.Check.{checked}
 use Rattle.layout.specs.Walk.{entry-good, item-of, array-step, member-step, object-step}
 use Rattle.layout.proofs.Fields.{inside-le}
+use Rattle.layout.proofs.Checks.{read-long}
 use Rattle.layout.proofs.Patterns.{pattern-high}
 use Rattle.layout.specs.declared.refusal.Refusal.the-variants.{Short, Layout}
+use Rattle.layout.specs.declared.check.Check.{Check}
+use Rattle.layout.specs.declared.check.Check.the-variants.{Readable, Refused as Fault}
 use Rattle.layout.specs.declared.item.JsonbItem.{JsonbItem}
 use Rattle.layout.specs.declared.iterator.ArrayIterator.{ArrayIterator}
 use Rattle.layout.specs.declared.iterator.ArrayStep.{ArrayStep}
@@ -26,6 +32,18 @@ use Rattle.layout.specs.declared.iterator.ObjectIterator.{ObjectIterator}
 use Rattle.layout.specs.declared.iterator.ObjectMember.{ObjectMember}
 use Rattle.layout.specs.declared.iterator.ObjectStep.{ObjectStep}
 use Rattle.layout.specs.declared.iterator.ObjectStep.the-variants.{Member, End as NoMember, Refused as RefusedMember}
+
+-- ---- records
+
+pub readable-short : (s : Bytes) (c : Check) → c ≡ checked (read s) → c ≡ Readable → length s ≤ 65536
+readable-short s c hc q = by-test (leb (length s) 65536) refl
+  where
+    by-test : (b : Bool) → leb (length s) 65536 ≡ b → length s ≤ 65536
+    by-test true t = leb-true (length s) 65536 t
+    by-test false t =
+        let l = read-long s (leb-false (length s) 65536 t) in
+        let z : _≡_ {A = ℕ} 0 1 = cc in
+        absurd (omega arith)
 
 -- ---- steps
 
@@ -45,8 +63,8 @@ unfolding array-step item-of
 item-inside s w r i n hr q =
     let e = word-at s (w .«jentry_offset») in
     let t =
-        item-tests (eqb (w .remaining) 0) (inside s (w .«jentry_offset») 4) (entry-good false e)
-        (inside s (w .«item_offset») (length-of e)) (item-of e (w .«item_offset»)) i _ n (sym hr ∙ q)
+    item-tests (eqb (w .remaining) 0) (inside s (w .«jentry_offset») 4) (entry-good false e)
+    (inside s (w .«item_offset») (length-of e)) (item-of e (w .«item_offset»)) i _ n (sym hr ∙ q)
     in
     rw (← t .1) (inside-le s (w .«item_offset») (length-of e) true (sym (t .0)) refl)
 
@@ -78,12 +96,12 @@ value-inside s w r m n hr q =
     let k = word-at s (w .«key_jentry_offset») in
     let v = word-at s (w .«val_jentry_offset») in
     let e =
-        entry-tests (eqb (w .remaining) 0) (inside s (w .«key_jentry_offset») 4) (entry-good true k)
-        (inside s (w .«val_jentry_offset») 4) (entry-good false v) (member-step s w k v) m n (sym hr ∙ q)
+    entry-tests (eqb (w .remaining) 0) (inside s (w .«key_jentry_offset») 4) (entry-good true k)
+    (inside s (w .«val_jentry_offset») 4) (entry-good false v) (member-step s w k v) m n (sym hr ∙ q)
     in
     let t =
-        member-tests (inside s (w .«key_offset») (length-of k)) (inside s (w .«val_offset») (length-of v))
-        (record { key = item-of k (w .«key_offset»); val = item-of v (w .«val_offset») }) m _ n e
+    member-tests (inside s (w .«key_offset») (length-of k)) (inside s (w .«val_offset») (length-of v))
+    (record { key = item-of k (w .«key_offset»); val = item-of v (w .«val_offset») }) m _ n e
     in
     rw (← t .1) (inside-le s (w .«val_offset») (length-of v) true (sym (t .0)) refl)
 

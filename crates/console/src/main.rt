@@ -1,4 +1,4 @@
-// The console: a line of hexadecimal in, an answer out, a line for a line but for an outline.
+// The console: a line of hexadecimal in, an answer out, a line for a line but for outlines.
 //
 //   check R            ok, or refused N WORDS
 //   sound R            sound, unsound, or refused N WORDS

@@ -34,8 +34,8 @@ use layout::writer::put;
 ghost use Prim.Native.Nat.{_+_, _^_, _≤_, _<_};
 ghost use lib.ListN.{length};
 
-// Where the columns of the place and of the length end, where the words of the root start, and how much further in those of each
-// level do, down to the deepest.
+// A line: where the columns of the place and of the length end, where the root's words start, how much further in those of each level
+// start, and where those of the deepest do.
 const PLACE_END: usize = 5;
 
 const LENGTH_END: usize = 11;
@@ -44,13 +44,14 @@ const WORDS_START: usize = 13;
 
 const INDENT: usize = 2;
 
-const WORDS_LIMIT: usize = WORDS_START + INDENT * 64;
+const WORDS_LIMIT: usize = WORDS_START + INDENT * DEPTH_LIMIT as usize;
 
+// The base of a number in a column.
 const BASE: usize = 10;
 
 // ---- the columns
 
-// Stores the decimal digits of a number in front of a place.
+// Stores a number in decimal, its last digit in front of a place.
 fn put_decimal(out: &mut [u8], end: usize, n: usize) {
     let mut at = end;
     let mut rest = n;
@@ -64,7 +65,7 @@ fn put_decimal(out: &mut [u8], end: usize, n: usize) {
     }
 }
 
-// What stands in front of an item's words. How many levels there may be in the item says how deep it is itself.
+// What a line has in front of its words. The allowance starts at the depth limit and falls level by level, so that it tells the level.
 fn say_columns(place: usize, length: usize, allowance: u32)
     requires { ⌜ allowance ≤ 64 ⌝ }
 {
@@ -75,7 +76,7 @@ fn say_columns(place: usize, length: usize, allowance: u32)
     say(slice(&columns, 0, WORDS_START + INDENT * level));
 }
 
-// ---- the words of a container
+// ---- words
 
 fn say_array(n: usize) {
     say(b"array of ");
@@ -83,6 +84,7 @@ fn say_array(n: usize) {
     say(b"\n");
 }
 
+// The names of an object that do not rise are told there, and not at the containers around it.
 fn say_object(s: &[u8], n: usize)
     requires { ⌜ n < 2 ^ 29 ⌝ }
 {
@@ -105,9 +107,9 @@ fn say_name(name: &[u8]) {
     say(b": ");
 }
 
-// ---- the levels. The place is that of the slice in the whole record.
+// ---- levels. The place is always that of the slice s in the whole record.
 
-// The words of an item, and behind them the lines of what stands in it.
+// The words of an item, and below its line those of what stands in it.
 fn show_item(s: &[u8], item: JsonbItem, place: usize, allowance: u32)
     requires { ⌜ (place + length (now s) ≤ 65536) × (item .place ≤ length (now s)) × (allowance ≤ 64) ⌝ }
 {
@@ -120,6 +122,7 @@ fn show_item(s: &[u8], item: JsonbItem, place: usize, allowance: u32)
     say(b"\n");
 }
 
+// A line for each item of an array. Those that the walk has left are counted, so that the loop ends with them.
 fn show_items(s: &[u8], place: usize, allowance: u32)
     requires { ⌜ (place + length (now s) ≤ 65536) × (allowance ≤ 64) ⌝ }
 {
@@ -141,6 +144,7 @@ fn show_items(s: &[u8], place: usize, allowance: u32)
     }
 }
 
+// The same for an object.
 fn show_members(s: &[u8], place: usize, allowance: u32)
     requires { ⌜ (place + length (now s) ≤ 65536) × (allowance ≤ 64) ⌝ }
 {
@@ -162,7 +166,8 @@ fn show_members(s: &[u8], place: usize, allowance: u32)
     }
 }
 
-// A container's words, and its items one level further in. No readable record is deeper than the allowance.
+// The words of a container, and below its line its items, one level further in. No readable record is deeper than the allowance, and
+// none has a scalar in it.
 fn show_container(s: &[u8], place: usize, allowance: u32)
     requires { ⌜ (place + length (now s) ≤ 65536) × (allowance ≤ 64) ⌝ }
 {
@@ -185,6 +190,7 @@ fn show_container(s: &[u8], place: usize, allowance: u32)
 
 // ---- the root
 
+// A scalar record is its one item.
 fn show_scalar(s: &[u8]) {
     let payload = slice(s, SCALAR_START, s.len());
     say_columns(SCALAR_START, payload.len(), DEPTH_LIMIT);

@@ -6,15 +6,15 @@ use layout::item::Kind;
 use layout::number::Number;
 use layout::util::slice;
 
-// The bytes below the space, and the one behind the last letter, are not shown as they are.
+// The control bytes are those below the space, and the last of ASCII.
 const SPACE: u8 = 0x20;
 
 const DELETE: u8 = 0x7f;
 
-// Both 00 and 5000 read as an unsigned 0. The first of them is the one of a single byte.
+// The length of the payload 00. It reads as an unsigned 0, as 5000 does, which is longer.
 const ZERO_LENGTH: usize = 1;
 
-// The digits of a float's 64 bits.
+// The hexadecimal digits of 64 bits.
 const FLOAT_DIGITS: usize = 16;
 
 // ---- text
@@ -27,6 +27,7 @@ fn is_escaped(c: u8) -> bool {
     (c == b'"') | ((c == b'\\') | is_control(c))
 }
 
+// A control byte stands as \\u00 and two digits, the others as they are behind a reverse solidus.
 fn say_escaped(c: u8) {
     let letter = [c];
     if is_control(c) {
@@ -37,7 +38,7 @@ fn say_escaped(c: u8) {
     say(&letter);
 }
 
-// Text between quotation marks. What stands between two escaped bytes is written at once.
+// Text between quotation marks. The bytes between two that are escaped are written at once.
 pub(crate) fn say_text(text: &[u8]) {
     say(b"\"");
     let mut start = 0;
@@ -57,7 +58,7 @@ pub(crate) fn say_text(text: &[u8]) {
 
 // ---- numbers
 
-// The least of the signed numbers has no positive counterpart, so that a negative one is turned around at −1.
+// The least number has no positive counterpart, so that a negative one is turned around at −1, which leaves one less.
 fn say_signed(v: i64) {
     if v < 0 {
         say(b"-");
@@ -79,7 +80,7 @@ fn say_uint(v: u64, length: usize) {
     say(b" (unsigned)");
 }
 
-// A float is shown by its bits, which the language has no decimal for.
+// Of a float the bits are shown, as layout hands them out.
 fn say_float(bits: u64) {
     say(b"bits ");
     io::print_hex(1, bits, FLOAT_DIGITS);
@@ -99,6 +100,7 @@ fn say_wide_decimal(bytes: usize) {
     say(b" bytes (decimal)");
 }
 
+// By layout's reading of the payload, which never refuses one of a readable record.
 fn say_number_item(payload: &[u8]) {
     say(b"number ");
     match Number::decode(payload) {
@@ -110,7 +112,6 @@ fn say_number_item(payload: &[u8]) {
         Number::Float64(bits) => say_float(bits),
         Number::Decimal64(value, scale) => say_decimal64(value, scale),
         Number::WideDecimal(bytes) => say_wide_decimal(bytes),
-        // No readable record has one.
         Number::Refused(_) => {}
     }
 }

@@ -1,3 +1,6 @@
+-- `console::show::show_container`, `console::show::show_item`, `console::show::show_items` and `console::show::show_members` meet
+-- their contracts. They call each other; the number that falls is three times the allowance, and a place in the turn. That a step's
+-- item lies in the slice keeps its place in the record below the limit.
 use borrow.Author.Needs.{needs}
 use native.Mathlib.Omega.{arith}
 use mathlib.Core.Path.{ap}
@@ -32,12 +35,8 @@ use Rattle.layout.proofs.iterator.ObjectIterator.new.Reads as iterator-ObjectIt
 use Rattle.layout.proofs.iterator.ObjectIterator.next.Reads as iterator-ObjectIterator-next-reads
 use Rattle.layout.proofs.util.read_header.Reads as read-header-reads
 use Rattle.layout.proofs.util.slice.Reads as slice-reads
-use Rattle.console.proofs.show.+show_container+show_item+show_items+show_members.{
-  statement,
-}
-use Rattle.console.proofs.show.+show_container+show_item+show_items+show_members.Tie.{
-  close,
-}
+use Rattle.console.proofs.show.+show_container+show_item+show_items+show_members.{statement}
+use Rattle.console.proofs.show.+show_container+show_item+show_items+show_members.Tie.{close}
 
 abbrev μ-show-container : Measures 1 show-container-kinds.ps ℕ
 μ-show-container κs a = 3 * a .1 .1 .0
@@ -98,104 +97,13 @@ show-items-claims t = (iterator-ArrayIterator-new-reads.Asked, iterator-ArrayIte
 abbrev show-members-claims : ℕ → show-members-lts.Claims
 show-members-claims t = (iterator-ObjectIterator-new-reads.Asked, iterator-ObjectIterator-new-reads.Learnt, iterator-ObjectIterator-next-reads.Asked, iterator-ObjectIterator-next-reads.Learnt, say-columns-reads.Asked, say-columns-reads.Learnt, slice-reads.Asked, slice-reads.Learnt, say-name-reads.Asked, say-name-reads.Learnt, show-item-below t, show-item.Post)
 
--- src/show.rt:170:9
-show-container-returns : (t : ℕ) → show-container-lts.Need-returns (show-container-claims t) (show-container-at t) show-container.Post
-show-container-returns t c = search needs
-
--- src/show.rt:172:11
-show-container-read-header-requires : (t : ℕ) → show-container-lts.Need-read-header-requires (show-container-claims t) (show-container-at t) show-container.Post
-show-container-read-header-requires t c κs = search needs
-
-show-container-enum-told : (t : ℕ) → show-container-lts.Need-enum-told (show-container-claims t) (show-container-at t) show-container.Post
-show-container-enum-told t c = search needs
-
-show-container-enum-told-2 : (t : ℕ) → show-container-lts.Need-enum-told-2 (show-container-claims t) (show-container-at t) show-container.Post
-show-container-enum-told-2 t c = search needs
-
--- src/show.rt:175:23
-show-container-enum-known-n : (t : ℕ) → show-container-lts.Need-enum-known-n (show-container-claims t) (show-container-at t) show-container.Post
-show-container-enum-known-n t c = search needs
-
--- src/show.rt:176:13
-show-container-say-array-requires : (t : ℕ) → show-container-lts.Need-say-array-requires (show-container-claims t) (show-container-at t) show-container.Post
-show-container-say-array-requires t c κs = search needs
-
--- src/show.rt:177:34
-show-container-sub-show-items : (t : ℕ) → show-container-lts.Need-sub-show-items (show-container-claims t) (show-container-at t) show-container.Post
-show-container-sub-show-items t c = search needs
-
--- src/show.rt:177:13
-show-container-show-items-requires : (t : ℕ) → show-container-lts.Need-show-items-requires (show-container-claims t) (show-container-at t) show-container.Post
-show-container-show-items-requires t c κs = search needs
-
--- src/show.rt:179:24
-show-container-enum-known-n-2 : (t : ℕ) → show-container-lts.Need-enum-known-n-2 (show-container-claims t) (show-container-at t) show-container.Post
-show-container-enum-known-n-2 t c = search needs
-
--- src/show.rt:180:13
 show-container-say-object-requires : (t : ℕ) → show-container-lts.Need-say-object-requires (show-container-claims t) (show-container-at t) show-container.Post
 show-container-say-object-requires t c κs = told-object _ _ (c .before .before .before .read-header .ensures) _ (c .before .n2 .given .1) .1
 
--- src/show.rt:181:36
-show-container-sub-show-members : (t : ℕ) → show-container-lts.Need-sub-show-members (show-container-claims t) (show-container-at t) show-container.Post
-show-container-sub-show-members t c = search needs
-
--- src/show.rt:181:13
-show-container-show-members-requires : (t : ℕ) → show-container-lts.Need-show-members-requires (show-container-claims t) (show-container-at t) show-container.Post
-show-container-show-members-requires t c κs = search needs
-
--- src/show.rt:166:1
-show-container-returns-2 : (t : ℕ) → show-container-lts.Need-returns-2 (show-container-claims t) (show-container-at t) show-container.Post
-show-container-returns-2 t c = search needs
-
--- src/show.rt:166:1
-show-container-returns-3 : (t : ℕ) → show-container-lts.Need-returns-3 (show-container-claims t) (show-container-at t) show-container.Post
-show-container-returns-3 t c = search needs
-
--- src/show.rt:166:1
-show-container-returns-4 : (t : ℕ) → show-container-lts.Need-returns-4 (show-container-claims t) (show-container-at t) show-container.Post
-show-container-returns-4 t c = search needs
-
--- src/show.rt:166:1
-show-container-returns-5 : (t : ℕ) → show-container-lts.Need-returns-5 (show-container-claims t) (show-container-at t) show-container.Post
-show-container-returns-5 t c = search needs
-
--- src/show.rt:114:9
-show-item-slice-requires : (t : ℕ) → show-item-lts.Need-slice-requires (show-item-claims t) (show-item-at t) show-item.Post
-show-item-slice-requires t c κs = search needs
-
--- src/show.rt:117:40
-show-item-enum-told : (t : ℕ) → show-item-lts.Need-enum-told (show-item-claims t) (show-item-at t) show-item.Post
-show-item-enum-told t c = search needs
-
--- src/show.rt:117:40
-show-item-add-show-container : (t : ℕ) → show-item-lts.Need-add-show-container (show-item-claims t) (show-item-at t) show-item.Post
-show-item-add-show-container t c = search needs
-
--- src/show.rt:117:9
 show-item-show-container-requires : (t : ℕ) → show-item-lts.Need-show-container-requires (show-item-claims t) (show-item-at t) show-item.Post
 show-item-show-container-requires t c κs =
-    let l = simp (length-take, length-drop) at (ap length (c .before .before .before .slice .ensures)) in search needs
-
--- src/show.rt:117:9
-show-item-returns : (t : ℕ) → show-item-lts.Need-returns (show-item-claims t) (show-item-at t) show-item.Post
-show-item-returns t c = search needs
-
--- src/show.rt:119:5
-show-item-say-leaf-requires : (t : ℕ) → show-item-lts.Need-say-leaf-requires (show-item-claims t) (show-item-at t) show-item.Post
-show-item-say-leaf-requires t c κs = search needs
-
--- src/show.rt:120:9
-show-item-slice-aggregate-say : (t : ℕ) → show-item-lts.Need-slice-aggregate-say (show-item-claims t) (show-item-at t) show-item.Post
-show-item-slice-aggregate-say t c = search needs
-
--- src/show.rt:120:5
-show-item-say-requires : (t : ℕ) → show-item-lts.Need-say-requires (show-item-claims t) (show-item-at t) show-item.Post
-show-item-say-requires t c κs = search needs
-
--- src/show.rt:111:1
-show-item-returns-2 : (t : ℕ) → show-item-lts.Need-returns-2 (show-item-claims t) (show-item-at t) show-item.Post
-show-item-returns-2 t c = search needs
+    let l = simp (length-take, length-drop) at (ap length (c .before .before .before .slice .ensures)) in
+    search needs
 
 abbrev show-items-Inv-loop : show-items-lts.InvT-loop
 show-items-Inv-loop s place allowance count walk₀ index₀ walk index = index ≤ count
@@ -203,67 +111,15 @@ show-items-Inv-loop s place allowance count walk₀ index₀ walk index = index 
 abbrev show-items-μ-loop : show-items-lts.MeasureT-loop
 show-items-μ-loop s place allowance count walk₀ index₀ walk index = count - index
 
--- src/show.rt:126:36
-show-items-new-requires : (t : ℕ) → show-items-lts.Need-new-requires (show-items-claims t) (show-items-at t) show-items.Post show-items-Inv-loop show-items-μ-loop
-show-items-new-requires t c κs = search needs
-
--- src/show.rt:126:27
-show-items-enum-known-first : (t : ℕ) → show-items-lts.Need-enum-known-first (show-items-claims t) (show-items-at t) show-items.Post show-items-Inv-loop show-items-μ-loop
-show-items-enum-known-first t c = search needs
-
--- src/show.rt:127:9
-show-items-returns : (t : ℕ) → show-items-lts.Need-returns (show-items-claims t) (show-items-at t) show-items.Post show-items-Inv-loop show-items-μ-loop
-show-items-returns t c = search needs
-
--- src/show.rt:132:5
-show-items-loop-holds : (t : ℕ) → show-items-lts.Need-loop-holds (show-items-claims t) (show-items-at t) show-items.Post show-items-Inv-loop show-items-μ-loop
-show-items-loop-holds t c = search needs
-
--- src/show.rt:133:43
-show-items-next-requires : (t : ℕ) → show-items-lts.Need-next-requires (show-items-claims t) (show-items-at t) show-items.Post show-items-Inv-loop show-items-μ-loop
-show-items-next-requires t c κs = search needs
-
--- src/show.rt:133:29
-show-items-enum-known-item : (t : ℕ) → show-items-lts.Need-enum-known-item (show-items-claims t) (show-items-at t) show-items.Post show-items-Inv-loop show-items-μ-loop
-show-items-enum-known-item t c = search needs
-
--- src/show.rt:134:13
-show-items-returns-2 : (t : ℕ) → show-items-lts.Need-returns-2 (show-items-claims t) (show-items-at t) show-items.Post show-items-Inv-loop show-items-μ-loop
-show-items-returns-2 t c = search needs
-
--- src/show.rt:136:21
 show-items-add-say-columns : (t : ℕ) → show-items-lts.Need-add-say-columns (show-items-claims t) (show-items-at t) show-items.Post show-items-Inv-loop show-items-μ-loop
 show-items-add-say-columns t c =
-    let h = item-inside _ (c .before .before .before .before .before .before .loop .walk) _ _ _ (c .before .before .before .before .next .ensures) (c .before .before .item .given .1) in search needs
+    let h = item-inside _ (c .before .before .before .before .before .before .loop .walk) _ _ _ (c .before .before .before .before .next .ensures) (c .before .before .item .given .1) in
+    search needs
 
--- src/show.rt:136:9
-show-items-say-columns-requires : (t : ℕ) → show-items-lts.Need-say-columns-requires (show-items-claims t) (show-items-at t) show-items.Post show-items-Inv-loop show-items-μ-loop
-show-items-say-columns-requires t c κs = search needs
-
--- src/show.rt:137:9
-show-items-say-index-requires : (t : ℕ) → show-items-lts.Need-say-index-requires (show-items-claims t) (show-items-at t) show-items.Post show-items-Inv-loop show-items-μ-loop
-show-items-say-index-requires t c κs = search needs
-
--- src/show.rt:138:9
 show-items-show-item-requires : (t : ℕ) → show-items-lts.Need-show-item-requires (show-items-claims t) (show-items-at t) show-items.Post show-items-Inv-loop show-items-μ-loop
 show-items-show-item-requires t c κs =
-    let h = item-inside _ (c .before .before .before .before .before .before .before .before .loop .walk) _ _ _ (c .before .before .before .before .before .before .next .ensures) (c .before .before .before .before .item .given .1) in search needs
-
--- src/show.rt:140:9
-show-items-add-index : (t : ℕ) → show-items-lts.Need-add-index (show-items-claims t) (show-items-at t) show-items.Post show-items-Inv-loop show-items-μ-loop
-show-items-add-index t c = search needs
-
--- src/show.rt:132:5
-show-items-loop-less : (t : ℕ) → show-items-lts.Need-loop-less (show-items-claims t) (show-items-at t) show-items.Post show-items-Inv-loop show-items-μ-loop
-show-items-loop-less t c = search needs
-
--- src/show.rt:132:5
-show-items-loop-again : (t : ℕ) → show-items-lts.Need-loop-again (show-items-claims t) (show-items-at t) show-items.Post show-items-Inv-loop show-items-μ-loop
-show-items-loop-again t c = search needs
-
--- src/show.rt:123:1
-show-items-returns-3 : (t : ℕ) → show-items-lts.Need-returns-3 (show-items-claims t) (show-items-at t) show-items.Post show-items-Inv-loop show-items-μ-loop
-show-items-returns-3 t c = search needs
+    let h = item-inside _ (c .before .before .before .before .before .before .before .before .loop .walk) _ _ _ (c .before .before .before .before .before .before .next .ensures) (c .before .before .before .before .item .given .1) in
+    search needs
 
 abbrev show-members-Inv-loop : show-members-lts.InvT-loop
 show-members-Inv-loop s place allowance count walk₀ i₀ walk i = i ≤ count
@@ -271,143 +127,94 @@ show-members-Inv-loop s place allowance count walk₀ i₀ walk i = i ≤ count
 abbrev show-members-μ-loop : show-members-lts.MeasureT-loop
 show-members-μ-loop s place allowance count walk₀ i₀ walk i = count - i
 
--- src/show.rt:147:37
-show-members-new-requires : (t : ℕ) → show-members-lts.Need-new-requires (show-members-claims t) (show-members-at t) show-members.Post show-members-Inv-loop show-members-μ-loop
-show-members-new-requires t c κs = search needs
-
--- src/show.rt:147:28
-show-members-enum-known-first : (t : ℕ) → show-members-lts.Need-enum-known-first (show-members-claims t) (show-members-at t) show-members.Post show-members-Inv-loop show-members-μ-loop
-show-members-enum-known-first t c = search needs
-
--- src/show.rt:148:9
-show-members-returns : (t : ℕ) → show-members-lts.Need-returns (show-members-claims t) (show-members-at t) show-members.Post show-members-Inv-loop show-members-μ-loop
-show-members-returns t c = search needs
-
--- src/show.rt:153:5
-show-members-loop-holds : (t : ℕ) → show-members-lts.Need-loop-holds (show-members-claims t) (show-members-at t) show-members.Post show-members-Inv-loop show-members-μ-loop
-show-members-loop-holds t c = search needs
-
--- src/show.rt:154:48
-show-members-next-requires : (t : ℕ) → show-members-lts.Need-next-requires (show-members-claims t) (show-members-at t) show-members.Post show-members-Inv-loop show-members-μ-loop
-show-members-next-requires t c κs = search needs
-
--- src/show.rt:154:32
-show-members-enum-known-member : (t : ℕ) → show-members-lts.Need-enum-known-member (show-members-claims t) (show-members-at t) show-members.Post show-members-Inv-loop show-members-μ-loop
-show-members-enum-known-member t c = search needs
-
--- src/show.rt:155:13
-show-members-returns-2 : (t : ℕ) → show-members-lts.Need-returns-2 (show-members-claims t) (show-members-at t) show-members.Post show-members-Inv-loop show-members-μ-loop
-show-members-returns-2 t c = search needs
-
--- src/show.rt:157:21
 show-members-add-say-columns : (t : ℕ) → show-members-lts.Need-add-say-columns (show-members-claims t) (show-members-at t) show-members.Post show-members-Inv-loop show-members-μ-loop
 show-members-add-say-columns t c =
-    let h = value-inside _ (c .before .before .before .before .before .before .loop .walk) _ _ _ (c .before .before .before .before .next .ensures) (c .before .before .member .given .1) in omega (arith, c .before .before .before .before .before .before .before .before .before .before .before .before .pre .1 .0)
+    let h = value-inside _ (c .before .before .before .before .before .before .loop .walk) _ _ _ (c .before .before .before .before .next .ensures) (c .before .before .member .given .1) in
+    omega (arith, c .before .before .before .before .before .before .before .before .before .before .before .before .pre .1 .0)
 
--- src/show.rt:157:9
 show-members-say-columns-requires : (t : ℕ) → show-members-lts.Need-say-columns-requires (show-members-claims t) (show-members-at t) show-members.Post show-members-Inv-loop show-members-μ-loop
 show-members-say-columns-requires t c κs = omega (arith, c .before .before .before .before .before .before .before .before .before .before .before .before .pre .1 .1)
 
--- src/show.rt:158:18
-show-members-slice-requires : (t : ℕ) → show-members-lts.Need-slice-requires (show-members-claims t) (show-members-at t) show-members.Post show-members-Inv-loop show-members-μ-loop
-show-members-slice-requires t c κs = search needs
-
--- src/show.rt:158:9
-show-members-say-name-requires : (t : ℕ) → show-members-lts.Need-say-name-requires (show-members-claims t) (show-members-at t) show-members.Post show-members-Inv-loop show-members-μ-loop
-show-members-say-name-requires t c κs = search needs
-
--- src/show.rt:159:9
 show-members-show-item-requires : (t : ℕ) → show-members-lts.Need-show-item-requires (show-members-claims t) (show-members-at t) show-members.Post show-members-Inv-loop show-members-μ-loop
 show-members-show-item-requires t c κs =
-    let h = value-inside _ (c .before .before .before .before .before .before .before .before .before .loop .walk) _ _ _ (c .before .before .before .before .before .before .before .next .ensures) (c .before .before .before .before .before .member .given .1) in let p = c .before .before .before .before .before .before .before .before .before .before .before .before .before .before .before .pre in omega (arith, p .0, p .1 .0, p .1 .1)
+    let h = value-inside _ (c .before .before .before .before .before .before .before .before .before .loop .walk) _ _ _ (c .before .before .before .before .before .before .before .next .ensures) (c .before .before .before .before .before .member .given .1) in
+    let p = c .before .before .before .before .before .before .before .before .before .before .before .before .before .before .before .pre in
+    omega (arith, p .0, p .1 .0, p .1 .1)
 
--- src/show.rt:161:9
 show-members-add-i : (t : ℕ) → show-members-lts.Need-add-i (show-members-claims t) (show-members-at t) show-members.Post show-members-Inv-loop show-members-μ-loop
 show-members-add-i t c = omega (arith, c .before .before .before .before .before .before .before .before .before .before .loop .inv, c .before .before .before .before .before .before .before .before .before .loop-test .taken, c .before .before .before .before .before .before .before .before .before .before .before .known-told .given)
-
--- src/show.rt:153:5
-show-members-loop-less : (t : ℕ) → show-members-lts.Need-loop-less (show-members-claims t) (show-members-at t) show-members.Post show-members-Inv-loop show-members-μ-loop
-show-members-loop-less t c = search needs
-
--- src/show.rt:153:5
-show-members-loop-again : (t : ℕ) → show-members-lts.Need-loop-again (show-members-claims t) (show-members-at t) show-members.Post show-members-Inv-loop show-members-μ-loop
-show-members-loop-again t c = search needs
-
--- src/show.rt:144:1
-show-members-returns-3 : (t : ℕ) → show-members-lts.Need-returns-3 (show-members-claims t) (show-members-at t) show-members.Post show-members-Inv-loop show-members-μ-loop
-show-members-returns-3 t c = search needs
 
 pub +show-container+show-item+show-items+show-members-spec : {M : Type 1} → statement M
 +show-container+show-item+show-items+show-members-spec =
     close μ-show-container μ-show-item μ-show-items μ-show-members (λ t. show-container-lts.spec (show-container-claims t)
     (show-container-at t)
     show-container.Post
-    (show-container-returns t)
-    (show-container-read-header-requires t)
-    (show-container-enum-told t)
-    (show-container-enum-told-2 t)
-    (show-container-enum-known-n t)
-    (show-container-say-array-requires t)
-    (show-container-sub-show-items t)
-    (show-container-show-items-requires t)
-    (show-container-enum-known-n-2 t)
+    (λ c. search needs)
+    (λ c κs. search needs)
+    (λ c. search needs)
+    (λ c. search needs)
+    (λ c. search needs)
+    (λ c κs. search needs)
+    (λ c. search needs)
+    (λ c κs. search needs)
+    (λ c. search needs)
     (show-container-say-object-requires t)
-    (show-container-sub-show-members t)
-    (show-container-show-members-requires t)
-    (show-container-returns-2 t)
-    (show-container-returns-3 t)
-    (show-container-returns-4 t)
-    (show-container-returns-5 t))
+    (λ c. search needs)
+    (λ c κs. search needs)
+    (λ c. search needs)
+    (λ c. search needs)
+    (λ c. search needs)
+    (λ c. search needs))
     (λ t. show-item-lts.spec (show-item-claims t)
     (show-item-at t)
     show-item.Post
-    (show-item-slice-requires t)
-    (show-item-enum-told t)
-    (show-item-add-show-container t)
+    (λ c κs. search needs)
+    (λ c. search needs)
+    (λ c. search needs)
     (show-item-show-container-requires t)
-    (show-item-returns t)
-    (show-item-say-leaf-requires t)
-    (show-item-slice-aggregate-say t)
-    (show-item-say-requires t)
-    (show-item-returns-2 t))
+    (λ c. search needs)
+    (λ c κs. search needs)
+    (λ c. search needs)
+    (λ c κs. search needs)
+    (λ c. search needs))
     (λ t. show-items-lts.spec (show-items-claims t)
     (show-items-at t)
     show-items.Post
     show-items-Inv-loop
     show-items-μ-loop
-    (show-items-new-requires t)
-    (show-items-enum-known-first t)
-    (show-items-returns t)
-    (show-items-loop-holds t)
-    (show-items-next-requires t)
-    (show-items-enum-known-item t)
-    (show-items-returns-2 t)
+    (λ c κs. search needs)
+    (λ c. search needs)
+    (λ c. search needs)
+    (λ c. search needs)
+    (λ c κs. search needs)
+    (λ c. search needs)
+    (λ c. search needs)
     (show-items-add-say-columns t)
-    (show-items-say-columns-requires t)
-    (show-items-say-index-requires t)
+    (λ c κs. search needs)
+    (λ c κs. search needs)
     (show-items-show-item-requires t)
-    (show-items-add-index t)
-    (show-items-loop-less t)
-    (show-items-loop-again t)
-    (show-items-returns-3 t))
+    (λ c. search needs)
+    (λ c. search needs)
+    (λ c. search needs)
+    (λ c. search needs))
     λ t. show-members-lts.spec (show-members-claims t)
     (show-members-at t)
     show-members.Post
     show-members-Inv-loop
     show-members-μ-loop
-    (show-members-new-requires t)
-    (show-members-enum-known-first t)
-    (show-members-returns t)
-    (show-members-loop-holds t)
-    (show-members-next-requires t)
-    (show-members-enum-known-member t)
-    (show-members-returns-2 t)
+    (λ c κs. search needs)
+    (λ c. search needs)
+    (λ c. search needs)
+    (λ c. search needs)
+    (λ c κs. search needs)
+    (λ c. search needs)
+    (λ c. search needs)
     (show-members-add-say-columns t)
     (show-members-say-columns-requires t)
-    (show-members-slice-requires t)
-    (show-members-say-name-requires t)
+    (λ c κs. search needs)
+    (λ c κs. search needs)
     (show-members-show-item-requires t)
     (show-members-add-i t)
-    (show-members-loop-less t)
-    (show-members-loop-again t)
-    (show-members-returns-3 t)
+    (λ c. search needs)
+    (λ c. search needs)
+    (λ c. search needs)
