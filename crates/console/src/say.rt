@@ -11,6 +11,9 @@ const SPELLED: usize = 2048;
 
 const LETTERS: usize = 2 * SPELLED;
 
+// The letters of 64 bits.
+const BITS_LETTERS: usize = 16;
+
 pub(crate) fn say(text: &[u8]) {
     io::write_all(1, text);
 }
@@ -38,6 +41,11 @@ pub(crate) fn say_refused(refusal: Refusal) {
 
 pub(crate) fn say_decimal(n: u64) {
     io::print_decimal(1, n);
+}
+
+// Sixty-four bits in hexadecimal, with the zeros in front.
+pub(crate) fn say_bits(bits: u64) {
+    io::print_hex(1, bits, BITS_LETTERS);
 }
 
 // Why an argument, or a call of a run, cannot be taken.
@@ -87,6 +95,14 @@ pub(crate) fn say_hex(bytes: &[u8]) {
         say(slice(&letters, 0, 2 * part.len()));
         i += SPELLED;
     }
+}
+
+// Bytes as they can be given again.
+pub(crate) fn say_bytes(bytes: &[u8]) {
+    if bytes.len() == 0 {
+        return say(b"-");
+    }
+    say_hex(bytes);
 }
 
 fn say_result(result: &[u8]) {

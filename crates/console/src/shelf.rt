@@ -1,7 +1,7 @@
 // The shelf of a run: a row of bytes, and for each record where it ends.
 use crate::hex::decode;
 use crate::say::say;
-use crate::say::say_hex;
+use crate::say::say_bytes;
 use crate::text::ARGUMENT_MARK;
 use crate::text::Fault;
 use crate::text::Taken;
@@ -117,14 +117,6 @@ pub(crate) fn take_shelf(text: &[u8], shelf: &mut [u8], ends: &mut [usize]) -> S
     }
 }
 
-// A record as it can be given again.
-fn say_record(record: &[u8]) {
-    if record.len() == 0 {
-        return say(b"-");
-    }
-    say_hex(record);
-}
-
 pub(crate) fn say_shelf(shelf: &[u8], ends: &[usize], records: usize) {
     say(b"shelf ");
     let mut i = 0;
@@ -132,7 +124,7 @@ pub(crate) fn say_shelf(shelf: &[u8], ends: &[usize], records: usize) {
         if i != 0 {
             say(b" ; ");
         }
-        say_record(record_at(shelf, ends, i));
+        say_bytes(record_at(shelf, ends, i));
         i += 1;
     }
     say(b"\n");

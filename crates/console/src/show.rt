@@ -46,7 +46,7 @@ const INDENT: usize = 2;
 
 const WORDS_LIMIT: usize = WORDS_START + INDENT * DEPTH_LIMIT as usize;
 
-// The base of a number in a column.
+// Of the numbers in the columns.
 const BASE: usize = 10;
 
 // ---- the columns
@@ -84,7 +84,7 @@ fn say_array(n: usize) {
     say(b"\n");
 }
 
-// The names of an object that do not rise are told there, and not at the containers around it.
+// Names that do not rise are told at their own object, and not at the containers around it.
 fn say_object(s: &[u8], n: usize)
     requires { ⌜ n < 2 ^ 29 ⌝ }
 {
@@ -122,7 +122,8 @@ fn show_item(s: &[u8], item: JsonbItem, place: usize, allowance: u32)
     say(b"\n");
 }
 
-// A line for each item of an array. Those that the walk has left are counted, so that the loop ends with them.
+// A line for each item of an array, and below it those of what stands in it. The walk ends when the items do; counting them shows that
+// the loop does.
 fn show_items(s: &[u8], place: usize, allowance: u32)
     requires { ⌜ (place + length (now s) ≤ 65536) × (allowance ≤ 64) ⌝ }
 {

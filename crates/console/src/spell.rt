@@ -1,5 +1,7 @@
 // An item in words: what it is, and what its payload spells, as it stands in an outline.
 use crate::say::say;
+use crate::say::say_bits;
+use crate::say::say_bytes;
 use crate::say::say_decimal;
 use crate::say::say_hex;
 use layout::item::Kind;
@@ -14,9 +16,6 @@ const DELETE: u8 = 0x7f;
 // The length of the payload 00. It reads as an unsigned 0, as 5000 does, which is longer.
 const ZERO_LENGTH: usize = 1;
 
-// The hexadecimal digits of 64 bits.
-const FLOAT_DIGITS: usize = 16;
-
 // ---- text
 
 fn is_control(c: u8) -> bool {
@@ -27,7 +26,7 @@ fn is_escaped(c: u8) -> bool {
     (c == b'"') | ((c == b'\\') | is_control(c))
 }
 
-// A control byte stands as \\u00 and two digits, the others as they are behind a reverse solidus.
+// A control byte stands as \u00 and two digits, a quotation mark and a reverse solidus behind a reverse solidus.
 fn say_escaped(c: u8) {
     let letter = [c];
     if is_control(c) {
@@ -58,7 +57,7 @@ pub(crate) fn say_text(text: &[u8]) {
 
 // ---- numbers
 
-// The least number has no positive counterpart, so that a negative one is turned around at −1, which leaves one less.
+// The least number has no positive counterpart: a negative one is turned around at −1, and what that takes is added without a sign.
 fn say_signed(v: i64) {
     if v < 0 {
         say(b"-");
@@ -83,7 +82,7 @@ fn say_uint(v: u64, length: usize) {
 // Of a float the bits are shown, as layout hands them out.
 fn say_float(bits: u64) {
     say(b"bits ");
-    io::print_hex(1, bits, FLOAT_DIGITS);
+    say_bits(bits);
     say(b" (float)");
 }
 
@@ -125,10 +124,7 @@ fn say_string(payload: &[u8]) {
 
 fn say_extension(payload: &[u8]) {
     say(b"extension ");
-    if payload.len() == 0 {
-        return say(b"-");
-    }
-    say_hex(payload);
+    say_bytes(payload);
 }
 
 // An item that is no container.
