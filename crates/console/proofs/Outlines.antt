@@ -1,6 +1,6 @@
 -- The laws of an outline: a readable record is short, what a step of a walk has found lies in the slice, and a negative number can
 -- be turned around.
-use Prim.Native.Nat.{ℕ, suc, _+_, _-_, _^_, _≤_, _<_}
+use Prim.Native.Nat.{ℕ, _+_, _≤_, _<_}
 use mathlib.Core.Path.{_≡_, refl, sym, _∙_}
 use mathlib.Core.Bool.{Bool, true, false, not, cond}
 use native.Mathlib.Omega.{arith}
@@ -23,7 +23,7 @@ use Rattle.layout.proofs.Checks.{read-long}
 use Rattle.layout.proofs.Patterns.{pattern-high}
 use Rattle.layout.specs.declared.refusal.Refusal.the-variants.{Short, Layout}
 use Rattle.layout.specs.declared.check.Check.{Check}
-use Rattle.layout.specs.declared.check.Check.the-variants.{Readable, Refused as Fault}
+use Rattle.layout.specs.declared.check.Check.the-variants.{Readable}
 use Rattle.layout.specs.declared.item.JsonbItem.{JsonbItem}
 use Rattle.layout.specs.declared.iterator.ArrayIterator.{ArrayIterator}
 use Rattle.layout.specs.declared.iterator.ArrayStep.{ArrayStep}
