@@ -34,7 +34,7 @@ use Rattle.layout.proofs.Checks.{parts-step}
 
 -- The test and what it says.
 
-both : (a b : Bool) {A B : Type 0} → T a ↔ A → T b ↔ B → T (a && b) ↔ (A × B)
+pub both : (a b : Bool) {A B : Type 0} → T a ↔ A → T b ↔ B → T (a && b) ↔ (A × B)
 both true b p q = (λ h. (p .0 tt, q .0 h), λ h. q .1 (h .1))
 both false b p q = (λ h. absurd h, λ h. absurd (p .1 (h .0)))
 
@@ -73,7 +73,7 @@ rising-names [] = refl
 rising-names (n ∷ []) = refl
 rising-names (n ∷ m ∷ ns) = ap (λ b. before n m && b) (rising-names (m ∷ ns))
 
-names-at : (w n : ℕ) (ps qs : List Part) → length ps ≡ n → n + n ≡ length (ps ++ qs) → AllFit (ps ++ qs) → Named n (kinds (ps ++ qs)) →
+pub names-at : (w n : ℕ) (ps qs : List Part) → length ps ≡ n → n + n ≡ length (ps ++ qs) → AllFit (ps ++ qs) → Named n (kinds (ps ++ qs)) →
     (parts-at (record-of w (ps ++ qs)) 0 (4 + 4 * (n + n)) (n + n) ≡ ps ++ qs) × (parts-at (record-of w (ps ++ qs)) 0 (4 + 4 * (n + n)) n ≡ ps)
 names-at w n ps qs l h f k =
     let whole : parts-at (record-of w (ps ++ qs)) 0 (4 + 4 * (n + n)) (n + n) ≡ ps ++ qs = rw h (parts-at-record w n (ps ++ qs) f k) in

@@ -96,7 +96,7 @@ fn jentry_to_jsonb_item(entry: u32, place: usize) -> JsonbItem
 }
 
 // The bytes of an object's names together, from the first `count` entries of its table.
-fn key_length(s: &[u8], count: usize) -> usize
+pub fn key_length(s: &[u8], count: usize) -> usize
     requires { ⌜ count < 2 ^ 29 ⌝ }
     ensures { λ r. ⌜ r ≡ lengths (now (s .entry)) 0 count ⌝ }
 {

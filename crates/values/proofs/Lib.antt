@@ -1,0 +1,2 @@
+-- The laws of equal values, from the leaf up.
+pub mod Alikes

@@ -1,0 +1,93 @@
+-- Equal values by places in the bytes, as the code goes. proofs/Alikes.antt ties it to the layout's `Same`.
+use Prim.Native.Nat.{ℕ, zero, suc, _+_, _*_}
+use mathlib.Core.Bool.{Bool, true, false, cond, _&&_}
+use mathlib.Core.List.{List, [], _∷_}
+use lib.Dec.{ltb, eqb}
+use Rattle.layout.specs.Bytes.{Bytes, word-at}
+use Rattle.layout.specs.Entry.{code, kind-of, lengths}
+use Rattle.layout.specs.Encode.{Part}
+use Rattle.layout.specs.Order.{order}
+use Rattle.layout.specs.Place.{parts-at}
+use Rattle.layout.specs.Read.{header}
+use Rattle.layout.specs.declared.item.Kind.{Kind}
+use Rattle.layout.specs.declared.item.Kind.the-variants.{Null, String, Number, False, True, Container, Extension}
+use Rattle.layout.specs.declared.order.Ordering.{Ordering}
+use Rattle.layout.specs.declared.order.Ordering.the-variants.{Less, Equal, Greater}
+use Rattle.layout.specs.declared.util.Header.{Header}
+use Rattle.layout.specs.declared.util.Header.the-variants.{Array, Object, Scalar, Refused}
+
+abbrev pub is-equal : Ordering → Bool
+is-equal Less = false
+is-equal Equal = true
+is-equal Greater = false
+
+unfoldable pub same-bytes : Bytes → Bytes → Bool
+same-bytes a b = is-equal (order a b)
+
+-- Items: of one kind, with equal payloads; `f` tells whether those of containers have equal values.
+abbrev pub part-of : ℕ → Bytes → Part
+part-of c b = record { kind = kind-of c; bytes = b }
+
+unfoldable pub same-payload : (Bytes → Bytes → Bool) → Kind → Bytes → Bytes → Bool
+same-payload f Null a b = same-bytes a b
+same-payload f String a b = same-bytes a b
+same-payload f Number a b = same-bytes a b
+same-payload f False a b = same-bytes a b
+same-payload f True a b = same-bytes a b
+same-payload f Container a b = f a b
+same-payload f Extension a b = same-bytes a b
+
+unfoldable pub same-part : (Bytes → Bytes → Bool) → Part → Part → Bool
+same-part f p q = eqb (code (p .kind)) (code (q .kind)) && same-payload f (p .kind) (p .bytes) (q .bytes)
+
+-- Arrays: items in order.
+unfoldable pub same-parts : (Bytes → Bytes → Bool) → List Part → List Part → Bool
+same-parts f [] [] = true
+same-parts f [] (q ∷ qs) = false
+same-parts f (p ∷ ps) [] = false
+same-parts f (p ∷ ps) (q ∷ qs) = same-part f p q && same-parts f ps qs
+
+-- Objects: members, each a name and a value.
+pub record Member : Type 0 where
+  pub name : Bytes
+  pub value : Part
+
+abbrev pub member-of : Bytes → ℕ → Bytes → Member
+member-of n c b = record { name = n; value = part-of c b }
+
+abbrev pub pairs : List Part → List Part → List Member
+pairs [] vs = []
+pairs (n ∷ ns) [] = []
+pairs (n ∷ ns) (v ∷ vs) = record { name = n .bytes; value = v } ∷ pairs ns vs
+
+-- `k` of the `n` members of an object, from the `i`th on, whose name and value start at `p` and `q`; and all of them.
+unfoldable pub members-at : Bytes → ℕ → ℕ → ℕ → ℕ → ℕ → List Member
+members-at s n i p q k = pairs (parts-at s i p k) (parts-at s (n + i) q k)
+
+abbrev pub members : Bytes → ℕ → List Member
+members s n = members-at s n 0 (4 + 4 * (n + n)) (4 + 4 * (n + n) + lengths s 0 n) n
+
+unfoldable pub like : (Bytes → Bytes → Bool) → Member → Member → Bool
+like f m n = same-bytes (m .name) (n .name) && same-part f (m .value) (n .value)
+
+-- How many are like `m`.
+unfoldable pub likes : (Bytes → Bytes → Bool) → Member → List Member → ℕ
+likes f m [] = 0
+likes f m (n ∷ ns) = cond (like f m n) 1 0 + likes f m ns
+
+-- Of as many members: each has fewer like it behind it than there are in the other object.
+unfoldable pub same-members : (Bytes → Bytes → Bool) → List Member → List Member → Bool
+same-members f [] ns = true
+same-members f (m ∷ ms) ns = ltb (likes f m ms) (likes f m ns) && same-members f ms ns
+
+-- Records with equal headers; a scalar record has one item.
+abbrev pub same-by : (Bytes → Bytes → Bool) → Header → Bytes → Bytes → Bool
+same-by f (Refused r) a b = false
+same-by f (Scalar n) a b = same-parts f (parts-at a 0 8 1) (parts-at b 0 8 1)
+same-by f (Array n) a b = same-parts f (parts-at a 0 (4 + 4 * n) n) (parts-at b 0 (4 + 4 * n) n)
+same-by f (Object n) a b = same-members f (members a n) (members b n)
+
+-- Down to `k` levels.
+unfoldable pub same-at : ℕ → Bytes → Bytes → Bool
+same-at zero a b = false
+same-at (suc k) a b = eqb (word-at a 0) (word-at b 0) && same-by (same-at k) (header a) a b

@@ -1,0 +1,40 @@
+// The grade of a record against the one that was expected.
+use crate::value::is_same_value;
+use layout::check::Check;
+use layout::check::check_record;
+use layout::order::Ordering;
+use layout::order::compare;
+use layout::refusal::Refusal;
+ghost use Rattle.values.specs.Grade.{Graded};
+
+pub enum Grade {
+    // The expected record itself.
+    Right,
+    // Other bytes of the same value: an object's members in another order.
+    SameValue,
+    // A readable record of another value.
+    OtherValue,
+    // No readable record.
+    Damaged(Refusal),
+    // The expected record is not readable, so nothing can be graded against it.
+    NoKey(Refusal),
+}
+
+// The grade of a candidate. The expected record is checked first, then the candidate.
+pub fn grade_record(candidate: &[u8], expected: &[u8]) -> Grade
+    ensures { λ r. ⌜ Graded r (now (candidate .entry)) (now (expected .entry)) ⌝ }
+{
+    if let Check::Refused(refusal) = check_record(expected) {
+        return Grade::NoKey(refusal);
+    }
+    if let Check::Refused(refusal) = check_record(candidate) {
+        return Grade::Damaged(refusal);
+    }
+    if let Ordering::Equal = compare(candidate, expected) {
+        return Grade::Right;
+    }
+    if is_same_value(candidate, expected) {
+        return Grade::SameValue;
+    }
+    Grade::OtherValue
+}
