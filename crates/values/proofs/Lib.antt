@@ -1,2 +1,3 @@
 -- The laws of equal values, from the leaf up.
+pub mod Likes
 pub mod Alikes
