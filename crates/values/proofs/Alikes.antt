@@ -25,7 +25,8 @@ use Rattle.layout.proofs.Encoding.{array-header, object-header, scalar-header, 
 use Rattle.layout.proofs.Readables.{record-of-length}
 use Rattle.layout.proofs.Places.{parts-at-record, drop-parts}
 use Rattle.layout.proofs.Sounds.{both, names-at}
-use Rattle.values.specs.Alike.{same-bytes, same-payload, same-part, same-parts, pairs, members-at, members, same-members, same-at}
+use Rattle.values.specs.Alike.{same-bytes, same-payload, same-part, same-parts, Member, member-at, next, members-from, first, members, same-members, same-at}
+use Rattle.values.specs.declared.value.MemberAt.{MemberAt}
 use Rattle.values.proofs.Likes.{bytes-test, listed, Tells, Told, Small, same-length, members-test}
 
 -- "Values of unlike sort differ": by the kind, and between containers by the header.
@@ -145,13 +146,27 @@ object-word : (ms : Members) → length (member-parts ms) < 2 ^ 29 → word-at (
 unfolding word-at
 object-word ms h = word-be32 (2 ^ 30 + length (member-parts ms)) _ (omega arith)
 
+-- Members from names and values.
+abbrev pairs : List Part → List Part → List Member
+pairs [] vs = []
+pairs (n ∷ ns) [] = []
+pairs (n ∷ ns) (v ∷ vs) = record { name = n .bytes; value = v } ∷ pairs ns vs
+
 pairs-of : (ms : Members) → pairs (name-parts (names ms)) (member-parts ms) ≡ listed ms
 pairs-of empty = refl
 pairs-of (member n t ms) = rw (pairs-of ms)
 
+pairs-from : (s : Bytes) (n : ℕ) (m : MemberAt) (k : ℕ) →
+    members-from s n m k ≡ pairs (parts-at s (m .index) (m .name) k) (parts-at s (n + m .index) (m .value) k)
+unfolding parts-at members-from member-at next
+pairs-from s n m zero = refl
+pairs-from s n m (suc k) =
+    let e : n + (m .index + 1) ≡ n + m .index + 1 = omega arith in
+    rw (pairs-from s n (next s n m) k, e)
+
 -- The members of an object's bytes are those of the object.
 members-record : (ms : Members) → ObjectFits ms → members (payload (object ms)) (length (member-parts ms)) ≡ listed ms
-unfolding members-at
+unfolding first
 members-record ms f =
     let np : List Part = name-parts (names ms) in
     let mp : List Part = member-parts ms in
@@ -161,7 +176,7 @@ members-record ms f =
     let w = names-at (2 ^ 30 + n) n np mp (names-count ms) (f .whole) (f .fits) (f .named) in
     let z : n + 0 ≡ 0 + n = omega arith in
     let v : parts-at s (0 + n) (p + lengths s 0 n) n ≡ mp = sym (drop-parts s 0 p n n) ∙ ap (drop n) (w .0) ∙ drop-at np mp n (names-count ms) in
-    rw (w .1, z, v) (pairs-of ms)
+    pairs-from s n (first s n) n ∙ rw (w .1, z, v) (pairs-of ms)
 
 items-length : (ts us : Items) → SameItems ts us → length (item-parts ts) ≡ length (item-parts us)
 items-length none us h = rw h

@@ -1,13 +1,14 @@
 -- Equal values by places in the bytes, as the code goes. proofs/Alikes.antt ties it to the layout's `Same`.
-use Prim.Native.Nat.{ℕ, zero, suc, _+_, _*_}
+use Prim.Native.Nat.{ℕ, zero, suc, _+_, _*_, _^_, _≤_}
 use mathlib.Core.Bool.{Bool, true, false, cond, _&&_}
 use mathlib.Core.List.{List, [], _∷_}
 use lib.Dec.{ltb, eqb}
+use lib.ListN.{take, drop}
 use Rattle.layout.specs.Bytes.{Bytes, word-at}
-use Rattle.layout.specs.Entry.{code, kind-of, lengths}
+use Rattle.layout.specs.Entry.{code, kind-of, length-of, entry-at, lengths}
 use Rattle.layout.specs.Encode.{Part}
 use Rattle.layout.specs.Order.{order}
-use Rattle.layout.specs.Place.{parts-at}
+use Rattle.layout.specs.Place.{part-at, parts-at}
 use Rattle.layout.specs.Read.{header}
 use Rattle.layout.specs.declared.item.Kind.{Kind}
 use Rattle.layout.specs.declared.item.Kind.the-variants.{Null, String, Number, False, True, Container, Extension}
@@ -15,6 +16,7 @@ use Rattle.layout.specs.declared.order.Ordering.{Ordering}
 use Rattle.layout.specs.declared.order.Ordering.the-variants.{Less, Equal, Greater}
 use Rattle.layout.specs.declared.util.Header.{Header}
 use Rattle.layout.specs.declared.util.Header.the-variants.{Array, Object, Scalar, Refused}
+use Rattle.values.specs.declared.value.MemberAt.{MemberAt}
 
 abbrev pub is-equal : Ordering → Bool
 is-equal Less = false
@@ -52,20 +54,36 @@ pub record Member : Type 0 where
   pub name : Bytes
   pub value : Part
 
-abbrev pub member-of : Bytes → ℕ → Bytes → Member
-member-of n c b = record { name = n; value = part-of c b }
+-- Member `m` of the `n` of an object, by its places, and the one behind it.
+unfoldable pub member-at : Bytes → ℕ → MemberAt → Member
+member-at s n m =
+    record {
+      name = take (length-of (entry-at s (m .index))) (drop (m .name) s);
+      value = part-at s (n + m .index) (m .value);
+    }
 
-abbrev pub pairs : List Part → List Part → List Member
-pairs [] vs = []
-pairs (n ∷ ns) [] = []
-pairs (n ∷ ns) (v ∷ vs) = record { name = n .bytes; value = v } ∷ pairs ns vs
+unfoldable pub next : Bytes → ℕ → MemberAt → MemberAt
+next s n m =
+    record {
+      index = m .index + 1;
+      name = m .name + length-of (entry-at s (m .index));
+      value = m .value + length-of (entry-at s (n + m .index));
+    }
 
--- `k` of the `n` members of an object, from the `i`th on, whose name and value start at `p` and `q`; and all of them.
-unfoldable pub members-at : Bytes → ℕ → ℕ → ℕ → ℕ → ℕ → List Member
-members-at s n i p q k = pairs (parts-at s i p k) (parts-at s (n + i) q k)
+-- `k` members, from `m` on; the first; and all of them.
+unfoldable pub members-from : Bytes → ℕ → MemberAt → ℕ → List Member
+members-from s n m zero = []
+members-from s n m (suc k) = member-at s n m ∷ members-from s n (next s n m) k
+
+unfoldable pub first : Bytes → ℕ → MemberAt
+first s n = record { index = 0; name = 4 + 4 * (n + n); value = 4 + 4 * (n + n) + lengths s 0 n }
 
 abbrev pub members : Bytes → ℕ → List Member
-members s n = members-at s n 0 (4 + 4 * (n + n)) (4 + 4 * (n + n) + lengths s 0 n) n
+members s n = members-from s n (first s n) n
+
+-- Places that a sum of lengths can have reached, so that the next sum fits the machine's word.
+abbrev pub Near : MemberAt → Type 0
+Near m = (m .name ≤ 2 ^ 58 + 2 ^ 28 * m .index) × (m .value ≤ 2 ^ 58 + 2 ^ 28 * m .index)
 
 unfoldable pub like : (Bytes → Bytes → Bool) → Member → Member → Bool
 like f m n = same-bytes (m .name) (n .name) && same-part f (m .value) (n .value)

@@ -18,13 +18,20 @@ use layout::util::read_header;
 use layout::util::read_u32;
 use layout::util::slice;
 ghost use mathlib.Core.Path.{_≡_};
-ghost use mathlib.Core.Bool.{cond};
 ghost use Prim.Native.Nat.{_+_, _-_, _*_, _^_, _<_, _≤_, min};
-ghost use Rattle.layout.specs.Entry.{code, lengths};
+ghost use Rattle.layout.specs.Entry.{code};
 ghost use Rattle.layout.specs.Place.{«parts-at» as partsAt};
-ghost use Rattle.values.specs.Alike.{«same-bytes» as sameBytes, «part-of» as partOf, «same-part» as samePart, «same-parts» as sameParts};
-ghost use Rattle.values.specs.Alike.{«member-of» as memberOf, like, likes, «members-at» as membersAt, members, «same-members» as sameMembers};
+ghost use Rattle.values.specs.Alike.{«same-bytes» as sameBytes, «part-of» as partOf, «same-part» as samePart};
+ghost use Rattle.values.specs.Alike.{«same-parts» as sameParts, Near, first, next, «member-at» as memberAt};
+ghost use Rattle.values.specs.Alike.{«members-from» as membersFrom, members, like, likes, «same-members» as sameMembers};
 ghost use Rattle.values.specs.Alike.{«same-at» as sameAt};
+
+// A member of an object: its number among them, and the places of its name and value.
+pub struct MemberAt {
+    pub index: usize,
+    pub name: usize,
+    pub value: usize,
+}
 
 // The type code of a kind.
 fn code_of(kind: Kind) -> u32
@@ -89,52 +96,71 @@ fn are_same_items(a: &[u8], b: &[u8], n: usize, start: usize, allowance: u32) ->
     true
 }
 
-// Whether two members are alike: equal names, and equal values. Values are only looked at where the names are equal.
-fn is_like(name: &[u8], code: u32, value: &[u8], other_name: &[u8], other_code: u32, other: &[u8], allowance: u32) -> bool
-    ensures { λ r. ⌜ r
-        ≡ like (sameAt allowance) (memberOf (now (name .entry)) code (now (value .entry)))
-            (memberOf (now («other_name» .entry)) «other_code» (now (other .entry))) ⌝ }
+// The first of an object's n members.
+fn first_member(s: &[u8], n: usize) -> MemberAt
+    requires { ⌜ n < 2 ^ 29 ⌝ }
+    ensures { λ r. ⌜ r ≡ first (now (s .entry)) n ⌝ }
 {
+    let start = HEADER_SIZE + JENTRY_SIZE * (n + n);
+    MemberAt {
+        index: 0,
+        name: start,
+        value: start + key_length(s, n),
+    }
+}
+
+// The member behind one of n.
+fn next_member(s: &[u8], n: usize, at: MemberAt) -> MemberAt
+    requires { ⌜ (n < 2 ^ 29) × (at .index < n) × Near at ⌝ }
+    ensures { λ r. ⌜ r ≡ next (now (s .entry)) n at ⌝ }
+{
+    MemberAt {
+        index: at.index + 1,
+        name: at.name + payload_len(read_jentry(s, at.index)) as usize,
+        value: at.value + payload_len(read_jentry(s, n + at.index)) as usize,
+    }
+}
+
+// Whether two members are alike: equal names, and equal values. Values are only looked at where the names are equal.
+fn is_like(a: &[u8], member: MemberAt, b: &[u8], other: MemberAt, n: usize, allowance: u32) -> bool
+    requires { ⌜ (n < 2 ^ 29) × (member .index < n) × (other .index < n) ⌝ }
+    ensures { λ r. ⌜ r ≡ like (sameAt allowance) (memberAt (now (a .entry)) n member) (memberAt (now (b .entry)) n other) ⌝ }
+{
+    let name = slice(a, member.name, payload_len(read_jentry(a, member.index)) as usize);
+    let other_name = slice(b, other.name, payload_len(read_jentry(b, other.index)) as usize);
     if is_same_bytes(name, other_name) {
-        return is_same_item(code, value, other_code, other, allowance);
+        let entry = read_jentry(a, n + member.index);
+        let payload = slice(a, member.value, payload_len(entry) as usize);
+        let other_entry = read_jentry(b, n + other.index);
+        let other_payload = slice(b, other.value, payload_len(other_entry) as usize);
+        return is_same_item(type_code(entry), payload, type_code(other_entry), other_payload, allowance);
     }
     false
 }
 
-// How many of an object's n members from the one numbered `from` on are like the one given, whose places are `name_at` and
-// `value_at`; `limit` where there are as many or more, so that no more are looked for.
+// How many of the n members of `b`, from the one at `from` on, are like a member of `a`; `limit` where there are as many or more,
+// so that no more are looked for.
 fn count_like(
-    name: &[u8],
-    code: u32,
-    value: &[u8],
-    s: &[u8],
+    a: &[u8],
+    member: MemberAt,
+    b: &[u8],
+    from: MemberAt,
     n: usize,
-    from: usize,
-    name_at: usize,
-    value_at: usize,
     limit: usize,
     allowance: u32,
 ) -> usize
-    requires { ⌜ (n < 2 ^ 29) × (from ≤ n) × («name_at» < 2 ^ 60) × («value_at» < 2 ^ 60) ⌝ }
+    requires { ⌜ (n < 2 ^ 29) × (member .index < n) × (from .index ≤ n) × Near from ⌝ }
     ensures { λ r. ⌜ r
-        ≡ min limit (likes (sameAt allowance) (memberOf (now (name .entry)) code (now (value .entry)))
-            (membersAt (now (s .entry)) n from «name_at» «value_at» (n - from))) ⌝ }
+        ≡ min limit (likes (sameAt allowance) (memberAt (now (a .entry)) n member) (membersFrom (now (b .entry)) n from (n - from .index))) ⌝ }
 {
-    let mut name_place = name_at;
-    let mut place = value_at;
-    let mut i = from;
+    let mut at = from;
     let mut count = 0;
-    while i < n {
+    while at.index < n {
         if count == limit {
             return count;
         }
-        let name_len = payload_len(read_jentry(s, i)) as usize;
-        let entry = read_jentry(s, n + i);
-        let len = payload_len(entry) as usize;
-        count += is_like(name, code, value, slice(s, name_place, name_len), type_code(entry), slice(s, place, len), allowance) as usize;
-        name_place += name_len;
-        place += len;
-        i += 1;
+        count += is_like(a, member, b, at, n, allowance) as usize;
+        at = next_member(b, n, at);
     }
     count
 }
@@ -146,26 +172,16 @@ fn are_same_members(a: &[u8], b: &[u8], n: usize, allowance: u32) -> bool
     requires { ⌜ n < 2 ^ 29 ⌝ }
     ensures { λ r. ⌜ r ≡ sameMembers (sameAt allowance) (members (now (a .entry)) n) (members (now (b .entry)) n) ⌝ }
 {
-    let start = HEADER_SIZE + JENTRY_SIZE * (n + n);
-    let other_place = start + key_length(b, n);
-    let mut name_place = start;
-    let mut place = start + key_length(a, n);
-    let mut i = 0;
-    while i < n {
-        let name_len = payload_len(read_jentry(a, i)) as usize;
-        let entry = read_jentry(a, n + i);
-        let len = payload_len(entry) as usize;
-        let name = slice(a, name_place, name_len);
-        let code = type_code(entry);
-        let value = slice(a, place, len);
-        name_place += name_len;
-        place += len;
-        i += 1;
-        let behind = count_like(name, code, value, a, n, i, name_place, place, n, allowance);
-        let found = count_like(name, code, value, b, n, 0, start, other_place, behind + 1, allowance);
-        if found <= behind {
+    let start = first_member(b, n);
+    let mut at = first_member(a, n);
+    while at.index < n {
+        let behind = next_member(a, n, at);
+        let left = count_like(a, at, a, behind, n, n, allowance);
+        let found = count_like(a, at, b, start, n, left + 1, allowance);
+        if found <= left {
             return false;
         }
+        at = behind;
     }
     true
 }
