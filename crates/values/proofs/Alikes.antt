@@ -25,20 +25,20 @@ use Rattle.layout.proofs.Encoding.{array-header, object-header, scalar-header, 
 use Rattle.layout.proofs.Readables.{record-of-length}
 use Rattle.layout.proofs.Places.{parts-at-record, drop-parts}
 use Rattle.layout.proofs.Sounds.{both, names-at}
-use Rattle.values.specs.Alike.{same-bytes, same-payload, same-part, same-parts, Member, member-at, next, members-from, first, members, same-members, same-at}
+use Rattle.values.specs.Alike.{same-bytes, payload-at, same-kind, same-payload, same-part, same-parts, Member, member-at, next, members-from, first, members, same-members, same-at}
 use Rattle.values.specs.declared.value.MemberAt.{MemberAt}
 use Rattle.values.proofs.Likes.{bytes-test, listed, Tells, Told, Small, same-length, members-test}
 
 -- "Values of unlike sort differ": by the kind, and between containers by the header.
 
-same-kind : (t u : Tree) → Same t u → kind t ≡ kind u
-same-kind null u h = rw h
-same-kind (boolean x) u h = rw h
-same-kind (number b) u h = rw h
-same-kind (string b) u h = rw h
-same-kind (extension b) u h = rw h
-same-kind (array ts) u h = rw (h .1)
-same-kind (object ms) u h = rw (h .1)
+one-kind : (t u : Tree) → Same t u → kind t ≡ kind u
+one-kind null u h = rw h
+one-kind (boolean x) u h = rw h
+one-kind (number b) u h = rw h
+one-kind (string b) u h = rw h
+one-kind (extension b) u h = rw h
+one-kind (array ts) u h = rw (h .1)
+one-kind (object ms) u h = rw (h .1)
 
 kind-code : (k : Kind) → kind-of (code k) ≡ k
 unfolding kind-of
@@ -50,8 +50,9 @@ kind-code True = refl
 kind-code Container = refl
 kind-code Extension = refl
 
-code-test : (k l : Kind) → T (eqb (code k) (code l)) ↔ (k ≡ l)
-code-test k l = (
+kind-test : (k l : Kind) → T (same-kind k l) ↔ (k ≡ l)
+unfolding same-kind
+kind-test k l = (
   λ h. sym (kind-code k) ∙ ap kind-of (eqb→eq (code k) (code l) h) ∙ kind-code l,
   λ e. eq-test (code k) (code l) (ap code e),
 )
@@ -115,7 +116,7 @@ leaf-test : (f : Bytes → Bytes → Bool) (t u : Tree) → Leaf t → T (same-p
 unfolding same-part
 leaf-test f t u l =
     rw (payload-leaf f (kind t) (payload t) (payload u) l)
-    (Iff·trans (both (eqb (code (kind t)) (code (kind u))) (same-bytes (payload t) (payload u)) (code-test (kind t) (kind u)) (bytes-test (payload t) (payload u)))
+    (Iff·trans (both (same-kind (kind t) (kind u)) (same-bytes (payload t) (payload u)) (kind-test (kind t) (kind u)) (bytes-test (payload t) (payload u)))
     (Iff·trans equal (leaf-same t u l)))
   where
     equal : ((kind t ≡ kind u) × (payload t ≡ payload u)) ↔ (u ≡ t)
@@ -158,7 +159,7 @@ pairs-of (member n t ms) = rw (pairs-of ms)
 
 pairs-from : (s : Bytes) (n : ℕ) (m : MemberAt) (k : ℕ) →
     members-from s n m k ≡ pairs (parts-at s (m .index) (m .name) k) (parts-at s (n + m .index) (m .value) k)
-unfolding parts-at members-from member-at next
+unfolding parts-at members-from member-at next payload-at
 pairs-from s n m zero = refl
 pairs-from s n m (suc k) =
     let e : n + (m .index + 1) ≡ n + m .index + 1 = omega arith in
@@ -282,14 +283,14 @@ module _ (k : ℕ) where
       (λ a. let e : array us ≡ object (a .0) = a .1 in let z : _≡_ {A = ℕ} 0 1 = cc in omega arith))
 
 leaf-other : (f : Bytes → Bytes → Bool) (t u : Tree) → code (kind t) ≡ 5 → Leaf u → T (same-part f (part t) (part u)) ↔ Same t u
-unfolding same-part
+unfolding same-part same-kind
 leaf-other f t u e l =
     never (code (kind t)) (code (kind u)) (same-payload f (kind t) (payload t) (payload u))
     (λ q. eqb-false (code (kind u)) 5 l (sym q ∙ e))
-    (λ h. eqb-false (code (kind u)) 5 l (ap code (sym (same-kind t u h)) ∙ e))
+    (λ h. eqb-false (code (kind u)) 5 l (ap code (sym (one-kind t u h)) ∙ e))
 
 mutual
-  unfolding same-part same-payload same-parts
+  unfolding same-part same-kind same-payload same-parts
 
   -- The test of items answers whether they have equal values.
   part-test : (t : Tree) (k : ℕ) → depth t ≤ k → length (payload t) < 2 ^ 28 → Tells (same-at k) t
@@ -370,11 +371,11 @@ container-word =
     (λ t l e h. absurd (eqb-false (code (kind t)) 5 l e))
 
 container-part : (f : Bytes → Bytes → Bool) (t u : Tree) → code (kind t) ≡ 5 → code (kind u) ≡ 5 → same-part f (part t) (part u) ≡ f (payload t) (payload u)
-unfolding same-part same-payload
+unfolding same-part same-kind same-payload
 container-part f t u e g = rw (container t e, container u g)
   where
     container : (t : Tree) → code (kind t) ≡ 5 → kind t ≡ Container
-    container t e = code-test (kind t) Container .0 (eq-test (code (kind t)) 5 e)
+    container t e = kind-test (kind t) Container .0 (eq-test (code (kind t)) 5 e)
 
 containers-test : (k : ℕ) (t u : Tree) → code (kind t) ≡ 5 → code (kind u) ≡ 5 → depth t ≤ k → length (encode t) ≤ 65536 → length (encode u) ≤ 65536 →
     T (same-at k (encode t) (encode u)) ↔ Same t u
@@ -402,7 +403,7 @@ record-test t u d h s = go (eqb (code (kind t)) 5) (eqb (code (kind u)) 5) refl 
         rw (e, f) (scalars-test 63 t u p (omega (arith, ap length e)) (omega (arith, ap length f)))
     go true false p q =
         heads-differ 63 (encode t) (encode u) (λ e. omega (arith, container-word t (eqb-true (code (kind t)) 5 p) h, leaf-word u q))
-        (λ a. eqb-false (code (kind u)) 5 q (ap code (sym (same-kind t u a)) ∙ eqb-true (code (kind t)) 5 p))
+        (λ a. eqb-false (code (kind u)) 5 q (ap code (sym (one-kind t u a)) ∙ eqb-true (code (kind t)) 5 p))
     go false true p q =
         heads-differ 63 (encode t) (encode u) (λ e. omega (arith, container-word u (eqb-true (code (kind u)) 5 q) s, leaf-word t p))
-        (λ a. eqb-false (code (kind t)) 5 p (ap code (same-kind t u a) ∙ eqb-true (code (kind u)) 5 q))
+        (λ a. eqb-false (code (kind t)) 5 p (ap code (one-kind t u a) ∙ eqb-true (code (kind u)) 5 q))

@@ -5,7 +5,7 @@ use mathlib.Core.List.{List, [], _∷_}
 use lib.Dec.{ltb, eqb}
 use lib.ListN.{take, drop}
 use Rattle.layout.specs.Bytes.{Bytes, word-at}
-use Rattle.layout.specs.Entry.{code, kind-of, length-of, entry-at, lengths}
+use Rattle.layout.specs.Entry.{code, length-of, entry-at, lengths}
 use Rattle.layout.specs.Encode.{Part}
 use Rattle.layout.specs.Order.{order}
 use Rattle.layout.specs.Place.{part-at, parts-at}
@@ -26,9 +26,13 @@ is-equal Greater = false
 unfoldable pub same-bytes : Bytes → Bytes → Bool
 same-bytes a b = is-equal (order a b)
 
+-- The payload at a place, as long as entry `i` says.
+unfoldable pub payload-at : Bytes → ℕ → ℕ → Bytes
+payload-at s i p = take (length-of (entry-at s i)) (drop p s)
+
 -- Items: of one kind, with equal payloads; `f` tells whether those of containers have equal values.
-abbrev pub part-of : ℕ → Bytes → Part
-part-of c b = record { kind = kind-of c; bytes = b }
+unfoldable pub same-kind : Kind → Kind → Bool
+same-kind k l = eqb (code k) (code l)
 
 unfoldable pub same-payload : (Bytes → Bytes → Bool) → Kind → Bytes → Bytes → Bool
 same-payload f Null a b = same-bytes a b
@@ -40,7 +44,7 @@ same-payload f Container a b = f a b
 same-payload f Extension a b = same-bytes a b
 
 unfoldable pub same-part : (Bytes → Bytes → Bool) → Part → Part → Bool
-same-part f p q = eqb (code (p .kind)) (code (q .kind)) && same-payload f (p .kind) (p .bytes) (q .bytes)
+same-part f p q = same-kind (p .kind) (q .kind) && same-payload f (p .kind) (p .bytes) (q .bytes)
 
 -- Arrays: items in order.
 unfoldable pub same-parts : (Bytes → Bytes → Bool) → List Part → List Part → Bool
@@ -57,10 +61,7 @@ pub record Member : Type 0 where
 -- Member `m` of the `n` of an object, by its places, and the one behind it.
 unfoldable pub member-at : Bytes → ℕ → MemberAt → Member
 member-at s n m =
-    record {
-      name = take (length-of (entry-at s (m .index))) (drop (m .name) s);
-      value = part-at s (n + m .index) (m .value);
-    }
+    record { name = payload-at s (m .index) (m .name); value = part-at s (n + m .index) (m .value) }
 
 unfoldable pub next : Bytes → ℕ → MemberAt → MemberAt
 next s n m =

@@ -19,12 +19,12 @@ use layout::util::read_u32;
 use layout::util::slice;
 ghost use mathlib.Core.Path.{_≡_};
 ghost use Prim.Native.Nat.{_+_, _-_, _*_, _^_, _<_, _≤_, min};
-ghost use Rattle.layout.specs.Entry.{code};
-ghost use Rattle.layout.specs.Place.{«parts-at» as partsAt};
-ghost use Rattle.values.specs.Alike.{«same-bytes» as sameBytes, «part-of» as partOf, «same-part» as samePart};
-ghost use Rattle.values.specs.Alike.{«same-parts» as sameParts, Near, first, next, «member-at» as memberAt};
-ghost use Rattle.values.specs.Alike.{«members-from» as membersFrom, members, like, likes, «same-members» as sameMembers};
-ghost use Rattle.values.specs.Alike.{«same-at» as sameAt};
+ghost use Rattle.layout.specs.Entry.{code, «kind-of» as kindOf};
+ghost use Rattle.layout.specs.Place.{«part-at» as partAt, «parts-at» as partsAt};
+ghost use Rattle.values.specs.Alike.{«same-bytes» as sameBytes, «same-kind» as sameKind, «payload-at» as payloadAt};
+ghost use Rattle.values.specs.Alike.{«same-part» as samePart, «same-parts» as sameParts, Near, first, next};
+ghost use Rattle.values.specs.Alike.{«member-at» as memberAt, «members-from» as membersFrom, members, like, likes};
+ghost use Rattle.values.specs.Alike.{«same-members» as sameMembers, «same-at» as sameAt};
 
 // A member of an object: its number among them, and the places of its name and value.
 pub struct MemberAt {
@@ -58,14 +58,33 @@ fn is_same_bytes(a: &[u8], b: &[u8]) -> bool
     }
 }
 
-// Whether two items have equal values: they are of one kind, and their payloads are equal bytes or, in containers, equal values.
-// Containers are gone through down to `allowance` levels.
-fn is_same_item(code: u32, payload: &[u8], other_code: u32, other: &[u8], allowance: u32) -> bool
-    ensures { λ r. ⌜ r ≡ samePart (sameAt allowance) (partOf code (now (payload .entry))) (partOf «other_code» (now (other .entry))) ⌝ }
+// Whether two type codes are of one kind.
+fn is_same_kind(code: u32, other: u32) -> bool
+    ensures { λ r. ⌜ r ≡ sameKind (kindOf code) (kindOf other) ⌝ }
 {
-    if code_of(kind_of(code)) != code_of(kind_of(other_code)) {
+    code_of(kind_of(code)) == code_of(kind_of(other))
+}
+
+// The payload at a place, as long as entry i says.
+fn payload_at(s: &[u8], i: usize, place: usize) -> &[u8]
+    requires { ⌜ i ≤ 2 ^ 30 ⌝ }
+    ensures { λ r. ⌜ now r ≡ payloadAt (now (s .entry)) i place ⌝ }
+{
+    slice(s, place, payload_len(read_jentry(s, i)) as usize)
+}
+
+// Whether two items, of entries i and j, have equal values: they are of one kind, and their payloads are equal bytes or, in
+// containers, equal values. Containers are gone through down to `allowance` levels.
+fn is_same_item(a: &[u8], i: usize, place: usize, b: &[u8], j: usize, other_place: usize, allowance: u32) -> bool
+    requires { ⌜ (i ≤ 2 ^ 30) × (j ≤ 2 ^ 30) ⌝ }
+    ensures { λ r. ⌜ r ≡ samePart (sameAt allowance) (partAt (now (a .entry)) i place) (partAt (now (b .entry)) j «other_place») ⌝ }
+{
+    let code = type_code(read_jentry(a, i));
+    if !is_same_kind(code, type_code(read_jentry(b, j))) {
         return false;
     }
+    let payload = payload_at(a, i, place);
+    let other = payload_at(b, j, other_place);
     if code == CONTAINER_CODE {
         return is_same_nested(payload, other, allowance);
     }
@@ -81,13 +100,9 @@ fn are_same_items(a: &[u8], b: &[u8], n: usize, start: usize, allowance: u32) ->
     let mut other_place = start;
     let mut i = 0;
     while i < n {
-        let entry = read_jentry(a, i);
-        let len = payload_len(entry) as usize;
-        let other = read_jentry(b, i);
-        let other_len = payload_len(other) as usize;
-        if is_same_item(type_code(entry), slice(a, place, len), type_code(other), slice(b, other_place, other_len), allowance) {
-            place += len;
-            other_place += other_len;
+        if is_same_item(a, i, place, b, i, other_place, allowance) {
+            place += payload_len(read_jentry(a, i)) as usize;
+            other_place += payload_len(read_jentry(b, i)) as usize;
             i += 1;
             continue;
         }
@@ -126,14 +141,9 @@ fn is_like(a: &[u8], member: MemberAt, b: &[u8], other: MemberAt, n: usize, allo
     requires { ⌜ (n < 2 ^ 29) × (member .index < n) × (other .index < n) ⌝ }
     ensures { λ r. ⌜ r ≡ like (sameAt allowance) (memberAt (now (a .entry)) n member) (memberAt (now (b .entry)) n other) ⌝ }
 {
-    let name = slice(a, member.name, payload_len(read_jentry(a, member.index)) as usize);
-    let other_name = slice(b, other.name, payload_len(read_jentry(b, other.index)) as usize);
-    if is_same_bytes(name, other_name) {
-        let entry = read_jentry(a, n + member.index);
-        let payload = slice(a, member.value, payload_len(entry) as usize);
-        let other_entry = read_jentry(b, n + other.index);
-        let other_payload = slice(b, other.value, payload_len(other_entry) as usize);
-        return is_same_item(type_code(entry), payload, type_code(other_entry), other_payload, allowance);
+    let name = payload_at(a, member.index, member.name);
+    if is_same_bytes(name, payload_at(b, other.index, other.name)) {
+        return is_same_item(a, n + member.index, member.value, b, n + other.index, other.value, allowance);
     }
     false
 }
