@@ -2,3 +2,4 @@
 pub mod Likes
 pub mod Alikes
 pub mod Turns
+pub mod Grades

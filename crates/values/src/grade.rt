@@ -1,9 +1,8 @@
 // The grade of a record against the one that was expected.
+use crate::value::is_same_bytes;
 use crate::value::is_same_value;
 use layout::check::Check;
 use layout::check::check_record;
-use layout::order::Ordering;
-use layout::order::compare;
 use layout::refusal::Refusal;
 ghost use Rattle.values.specs.Grade.{Graded};
 
@@ -30,7 +29,7 @@ pub fn grade_record(candidate: &[u8], expected: &[u8]) -> Grade
     if let Check::Refused(refusal) = check_record(candidate) {
         return Grade::Damaged(refusal);
     }
-    if let Ordering::Equal = compare(candidate, expected) {
+    if is_same_bytes(candidate, expected) {
         return Grade::Right;
     }
     if is_same_value(candidate, expected) {

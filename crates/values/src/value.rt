@@ -48,7 +48,8 @@ fn code_of(kind: Kind) -> u32
     }
 }
 
-fn is_same_bytes(a: &[u8], b: &[u8]) -> bool
+// Whether two texts, payloads or records are equal bytes.
+pub(crate) fn is_same_bytes(a: &[u8], b: &[u8]) -> bool
     ensures { λ r. ⌜ r ≡ sameBytes (now (a .entry)) (now (b .entry)) ⌝ }
 {
     match compare(a, b) {

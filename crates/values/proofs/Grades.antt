@@ -1,0 +1,119 @@
+-- Grades: each answer of the code says what `Graded` says, and of any two records just one grade is true.
+use Prim.Native.Nat.{_≤_}
+use mathlib.Core.Path.{_≡_, refl, ap, sym, subst, _∙_}
+use mathlib.Core.Logic.{_↔_}
+use mathlib.Core.Bool.{Bool, true, false}
+use lib.Dec.{T}
+use lib.ListN.{length}
+use Rattle.layout.specs.Bytes.{Bytes, Octets}
+use Rattle.layout.specs.Answer.{Answer, gives, refused}
+use Rattle.layout.specs.Tree.{Tree}
+use Rattle.layout.specs.Encode.{encode}
+use Rattle.layout.specs.Read.{read}
+use Rattle.layout.specs.Value.{Same}
+use Rattle.layout.specs.Check.{checked}
+use Rattle.layout.specs.declared.check.Check.{Check}
+use Rattle.layout.specs.declared.check.Check.the-variants.{Readable, Refused}
+use Rattle.layout.specs.declared.refusal.Refusal.{Refusal}
+use Rattle.layout.proofs.Answers.{gives-inj, refused-gives}
+use Rattle.layout.proofs.Decoding.{read-sound}
+use Rattle.layout.proofs.Nestings.{readable-gives, refused-as}
+use Rattle.layout.proofs.Values.{same-refl}
+use Rattle.values.specs.Alike.{same-bytes, same-at}
+use Rattle.values.specs.Grade.{Graded}
+use Rattle.values.specs.declared.grade.Grade.{Grade}
+use Rattle.values.specs.declared.grade.Grade.the-variants.{Right, SameValue, OtherValue, Damaged, NoKey}
+use Rattle.values.proofs.Likes.{bytes-test}
+use Rattle.values.proofs.Alikes.{record-test}
+
+-- What the promise of `is_same_value` says of readable records: whether they have equal values.
+pub same-value : (a b : Bytes) (t u : Tree) → Octets a → Octets b → read a ≡ gives t → read b ≡ gives u → T (same-at 64 a b) ↔ Same t u
+same-value a b t u o p e f =
+    let d = read-sound a t o e in
+    let g = read-sound b u p f in
+    let l : length (encode t) ≤ 65536 = rw (d .0 .bytes) (d .1) in
+    let m : length (encode u) ≤ 65536 = rw (g .0 .bytes) (g .1) in
+    rw (d .0 .bytes, g .0 .bytes) at (record-test t u (d .0 .deep) l m)
+
+module _ (c e : Bytes) (k : Check) (hk : k ≡ checked (read e)) where
+  pub graded-no-key : (r : Refusal) → k ≡ Refused r → Graded (NoKey r) c e
+  graded-no-key r q = refused-as (read e) k r hk q
+
+  module _ (key : k ≡ Readable) (d : Check) (hd : d ≡ checked (read c)) where
+    pub graded-damaged : (r : Refusal) → d ≡ Refused r → Graded (Damaged r) c e
+    graded-damaged r q =
+        let u = readable-gives (read e) k hk key in
+        (u .0, u .1, refused-as (read c) d r hd q)
+
+    module _ (good : d ≡ Readable) (s : Bool) (hs : s ≡ same-bytes c e) where
+      pub graded-right : s ≡ true → Graded Right c e
+      graded-right q =
+          let t = readable-gives (read c) d hd good in
+          (t .0, t .1, bytes-test c e .0 (subst T (sym q ∙ hs) tt))
+
+      module _ (unequal : s ≡ false) (oc : Octets c) (oe : Octets e) (g : Bool) (hg : g ≡ same-at 64 c e) where
+        pub graded-same : g ≡ true → Graded SameValue c e
+        graded-same q =
+            let t = readable-gives (read c) d hd good in
+            let u = readable-gives (read e) k hk key in
+            (
+              t .0,
+              u .0,
+              t .1,
+              u .1,
+              λ h. subst T (sym hs ∙ unequal) (bytes-test c e .1 h),
+              same-value c e (t .0) (u .0) oc oe (t .1) (u .1) .0 (subst T (sym q ∙ hg) tt),
+            )
+
+        pub graded-other : g ≡ false → Graded OtherValue c e
+        graded-other q =
+            let t = readable-gives (read c) d hd good in
+            let u = readable-gives (read e) k hk key in
+            (t .0, u .0, t .1, u .1, λ h. subst T (sym hg ∙ q) (same-value c e (t .0) (u .0) oc oe (t .1) (u .1) .1 h))
+
+-- No two grades are both true.
+module _ (c e : Bytes) where
+  right-other : Graded Right c e → Graded OtherValue c e → ⊥
+  right-other p q =
+      let same : q .0 ≡ q .1 = gives-inj (sym (q .2) ∙ ap read (p .2) ∙ q .3) in
+      q .4 (subst (Same (q .0)) same (same-refl (q .0)))
+
+  same-other : Graded SameValue c e → Graded OtherValue c e → ⊥
+  same-other p q =
+      let t : q .0 ≡ p .0 = gives-inj (sym (q .2) ∙ p .2) in
+      let u : q .1 ≡ p .1 = gives-inj (sym (q .3) ∙ p .3) in
+      q .4 (rw (t, u) (p .5))
+
+  right-no-key : (r : Refusal) → Graded Right c e → Graded (NoKey r) c e → ⊥
+  right-no-key r p q = refused-gives (sym q ∙ ap read (sym (p .2)) ∙ p .1)
+
+refused-inj : (r x : Refusal) → _≡_ {A = Answer Tree} (refused r) (refused x) → r ≡ x
+refused-inj r x h = cc
+
+-- Of any two records just one grade is true.
+pub graded-one : (g h : Grade) (c e : Bytes) → Graded g c e → Graded h c e → g ≡ h
+graded-one Right Right c e p q = refl
+graded-one Right SameValue c e p q = absurd (q .4 (p .2))
+graded-one Right OtherValue c e p q = absurd (right-other c e p q)
+graded-one Right (Damaged r) c e p q = refused-gives (sym (q .2) ∙ p .1)
+graded-one Right (NoKey r) c e p q = absurd (right-no-key c e r p q)
+graded-one SameValue Right c e p q = absurd (p .4 (q .2))
+graded-one SameValue SameValue c e p q = refl
+graded-one SameValue OtherValue c e p q = absurd (same-other c e p q)
+graded-one SameValue (Damaged r) c e p q = refused-gives (sym (q .2) ∙ p .2)
+graded-one SameValue (NoKey r) c e p q = refused-gives (sym q ∙ p .3)
+graded-one OtherValue Right c e p q = absurd (right-other c e q p)
+graded-one OtherValue SameValue c e p q = absurd (same-other c e q p)
+graded-one OtherValue OtherValue c e p q = refl
+graded-one OtherValue (Damaged r) c e p q = refused-gives (sym (q .2) ∙ p .2)
+graded-one OtherValue (NoKey r) c e p q = refused-gives (sym q ∙ p .3)
+graded-one (Damaged r) Right c e p q = refused-gives (sym (p .2) ∙ q .1)
+graded-one (Damaged r) SameValue c e p q = refused-gives (sym (p .2) ∙ q .2)
+graded-one (Damaged r) OtherValue c e p q = refused-gives (sym (p .2) ∙ q .2)
+graded-one (Damaged r) (Damaged x) c e p q = ap Damaged (refused-inj r x (sym (p .2) ∙ q .2))
+graded-one (Damaged r) (NoKey x) c e p q = refused-gives (sym q ∙ p .1)
+graded-one (NoKey r) Right c e p q = absurd (right-no-key c e r q p)
+graded-one (NoKey r) SameValue c e p q = refused-gives (sym p ∙ q .3)
+graded-one (NoKey r) OtherValue c e p q = refused-gives (sym p ∙ q .3)
+graded-one (NoKey r) (Damaged x) c e p q = refused-gives (sym p ∙ q .1)
+graded-one (NoKey r) (NoKey x) c e p q = ap NoKey (refused-inj r x (sym p ∙ q))
