@@ -83,7 +83,7 @@ fn are_sound(s: &[u8], n: usize, start: usize, allowance: u32) -> bool
 }
 
 // The same for a record: where it is readable and nests at most `allowance` levels deep, whether it is sound.
-fn is_sound_nested(s: &[u8], allowance: u32) -> bool
+pub fn is_sound_nested(s: &[u8], allowance: u32) -> bool
     ensures { λ r. ⌜ r ≡ soundAt allowance (now (s .entry)) ⌝ }
 {
     if allowance == 0 {

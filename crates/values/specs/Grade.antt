@@ -5,6 +5,7 @@ use Rattle.layout.specs.Answer.{gives, refused}
 use Rattle.layout.specs.Tree.{Tree}
 use Rattle.layout.specs.Read.{read}
 use Rattle.layout.specs.Value.{Same}
+use Rattle.values.specs.Value.{EqualValues}
 use Rattle.values.specs.declared.grade.Grade.{Grade}
 use Rattle.values.specs.declared.grade.Grade.the-variants.{Right, SameValue, OtherValue, Damaged, NoKey}
 
@@ -12,7 +13,7 @@ use Rattle.values.specs.declared.grade.Grade.the-variants.{Right, SameVa
 -- true: `graded-one` of proofs/Grades.antt, and that there is one is the promise of `grade_record`.
 abbrev pub Graded : Grade → Bytes → Bytes → Type 0
 Graded Right c e = (t : Tree) × (read c ≡ gives t) × (c ≡ e)
-Graded SameValue c e = (t u : Tree) × (read c ≡ gives t) × (read e ≡ gives u) × (c ≡ e → ⊥) × Same t u
+Graded SameValue c e = (c ≡ e → ⊥) × EqualValues c e
 Graded OtherValue c e = (t u : Tree) × (read c ≡ gives t) × (read e ≡ gives u) × (Same t u → ⊥)
 Graded (Damaged r) c e = (u : Tree) × (read e ≡ gives u) × (read c ≡ refused r)
 Graded (NoKey r) c e = read e ≡ refused r

@@ -1,9 +1,11 @@
 // The grade of a record against the one that was expected.
 use crate::value::is_same_bytes;
-use crate::value::is_same_value;
+use crate::value::is_same_nested;
 use layout::check::Check;
 use layout::check::check_record;
+use layout::constants::DEPTH_LIMIT;
 use layout::refusal::Refusal;
+use layout::sound::is_sound_nested;
 ghost use Rattle.values.specs.Grade.{Graded};
 
 pub enum Grade {
@@ -32,7 +34,11 @@ pub fn grade_record(candidate: &[u8], expected: &[u8]) -> Grade
     if is_same_bytes(candidate, expected) {
         return Grade::Right;
     }
-    if is_same_value(candidate, expected) {
+    // Sound records of other bytes have other values, and no members need be searched for.
+    if is_sound_nested(candidate, DEPTH_LIMIT) & is_sound_nested(expected, DEPTH_LIMIT) {
+        return Grade::OtherValue;
+    }
+    if is_same_nested(candidate, expected, DEPTH_LIMIT) {
         return Grade::SameValue;
     }
     Grade::OtherValue

@@ -1,5 +1,7 @@
 // Equal values: document 01, "The value of a number or extension is its kind and payload; that of an object, its names with
 // their values, in no order; of an array, its items' values in order".
+use layout::check::Check;
+use layout::check::check_record;
 use layout::constants::CONTAINER_CODE;
 use layout::constants::DEPTH_LIMIT;
 use layout::constants::HEADER_SIZE;
@@ -18,9 +20,12 @@ use layout::util::read_header;
 use layout::util::read_u32;
 use layout::util::slice;
 ghost use mathlib.Core.Path.{_≡_};
+ghost use mathlib.Core.Logic.{_↔_};
 ghost use Prim.Native.Nat.{_+_, _-_, _*_, _^_, _<_, _≤_, min};
+ghost use lib.Dec.{T};
 ghost use Rattle.layout.specs.Entry.{code, «kind-of» as kindOf};
 ghost use Rattle.layout.specs.Place.{«part-at» as partAt, «parts-at» as partsAt};
+ghost use Rattle.values.specs.Value.{EqualValues};
 ghost use Rattle.values.specs.Alike.{«same-bytes» as sameBytes, «same-kind» as sameKind, «payload-at» as payloadAt};
 ghost use Rattle.values.specs.Alike.{«same-part» as samePart, «same-parts» as sameParts, Near, first, next};
 ghost use Rattle.values.specs.Alike.{«member-at» as memberAt, «members-from» as membersFrom, members, like, likes};
@@ -199,7 +204,7 @@ fn are_same_members(a: &[u8], b: &[u8], n: usize, allowance: u32) -> bool
 
 // Whether two records have equal values, where the first is readable and nests at most `allowance` levels deep, and the other is
 // readable. Equal headers are of one sort and count.
-fn is_same_nested(a: &[u8], b: &[u8], allowance: u32) -> bool
+pub(crate) fn is_same_nested(a: &[u8], b: &[u8], allowance: u32) -> bool
     ensures { λ r. ⌜ r ≡ sameAt allowance (now (a .entry)) (now (b .entry)) ⌝ }
 {
     if allowance == 0 {
@@ -216,9 +221,15 @@ fn is_same_nested(a: &[u8], b: &[u8], allowance: u32) -> bool
     }
 }
 
-// Whether two readable records have equal values.
+// Whether two records have equal values; one that is not readable has none.
 pub fn is_same_value(a: &[u8], b: &[u8]) -> bool
-    ensures { λ r. ⌜ r ≡ sameAt 64 (now (a .entry)) (now (b .entry)) ⌝ }
+    ensures { λ r. ⌜ T r ↔ EqualValues (now (a .entry)) (now (b .entry)) ⌝ }
 {
+    if let Check::Refused(_) = check_record(a) {
+        return false;
+    }
+    if let Check::Refused(_) = check_record(b) {
+        return false;
+    }
     is_same_nested(a, b, DEPTH_LIMIT)
 }
