@@ -395,6 +395,7 @@ record-test t u d h s = go (eqb (code (kind t)) 5) (eqb (code (kind u)) 5) refl 
   where
     leaf-word : (t : Tree) → Leaf t → word-at (encode t) 0 ≡ 2 ^ 29
     leaf-word t l = ap (λ b. word-at b 0) (leaf-record t l) ∙ scalar-word t
+
     go : (x y : Bool) → eqb (code (kind t)) 5 ≡ x → eqb (code (kind u)) 5 ≡ y → T (same-at 64 (encode t) (encode u)) ↔ Same t u
     go true true p q = containers-test 64 t u (eqb-true (code (kind t)) 5 p) (eqb-true (code (kind u)) 5 q) d h s
     go false false p q =

@@ -61,8 +61,7 @@ module _ (a b : Bytes) (k : Check) (hk : k ≡ checked (read a)) where
     pub both-read : d ≡ Readable → Octets a → Octets b → (g : Bool) → g ≡ same-at 64 a b → T g ↔ EqualValues a b
     both-read q oa ob g hg =
         let t = readable-gives (read a) k hk good in
-        let u = readable-gives (read b) d hd q in
-        (
+        let u = readable-gives (read b) d hd q in (
           λ h. (t .0, u .0, t .1, u .1, same-value a b (t .0) (u .0) oa ob (t .1) (u .1) .0 (subst T hg h)),
           λ h. subst T (sym hg) (same-value a b (h .0) (h .1) oa ob (h .2) (h .3) .1 (h .4)),
         )

@@ -186,20 +186,19 @@ module _ (f : Bytes → Bytes → Bool) where
   matched (member n t ms) ns k s r w l =
       let self : like f (one n t) (one n t) ≡ true = holds _ (like-test n n t t (k .0) (s .0) .1 (refl, same-refl t)) in
       let found = find-like n t ns (k .0) r (omega (arith, rw self at (w n t (k .0)))) in
-      let small = small-taken n (found .0) ns (found .1) (found .2) r in
-      (
+      let small = small-taken n (found .0) ns (found .1) (found .2) r in (
         found .0,
         found .1,
         found .2,
         found .3,
         matched ms (found .1) (k .1) (s .1) (small .1)
-        (λ m v j. omega (
-          arith,
-          w m v j,
-          likes-taken (one m v) n (found .0) ns (found .1) (found .2),
-          rw (like-right m n v t (found .0) j (s .0) (small .0) (found .3)) at (w m v j),
-        ))
-        (omega (arith, length-taken n (found .0) ns (found .1) (found .2))),
+            (λ m v j. omega (
+              arith,
+              w m v j,
+              likes-taken (one m v) n (found .0) ns (found .1) (found .2),
+              rw (like-right m n v t (found .0) j (s .0) (small .0) (found .3)) at (w m v j),
+            ))
+            (omega (arith, length-taken n (found .0) ns (found .1) (found .2))),
       )
 
   pub members-test : (ms ns : Members) → Told f ms → Small ms → Small ns → length (member-parts ms) ≡ length (member-parts ns) →

@@ -81,7 +81,15 @@ fn payload_at(s: &[u8], i: usize, place: usize) -> &[u8]
 
 // Whether two items, of entries i and j, have equal values: they are of one kind, and their payloads are equal bytes or, in
 // containers, equal values. Containers are gone through down to `allowance` levels.
-fn is_same_item(a: &[u8], i: usize, place: usize, b: &[u8], j: usize, other_place: usize, allowance: u32) -> bool
+fn is_same_item(
+    a: &[u8],
+    i: usize,
+    place: usize,
+    b: &[u8],
+    j: usize,
+    other_place: usize,
+    allowance: u32,
+) -> bool
     requires { ⌜ (i ≤ 2 ^ 30) × (j ≤ 2 ^ 30) ⌝ }
     ensures { λ r. ⌜ r ≡ samePart (sameAt allowance) (partAt (now (a .entry)) i place) (partAt (now (b .entry)) j «other_place») ⌝ }
 {
@@ -149,7 +157,15 @@ fn is_like(a: &[u8], member: MemberAt, b: &[u8], other: MemberAt, n: usize, allo
 {
     let name = payload_at(a, member.index, member.name);
     if is_same_bytes(name, payload_at(b, other.index, other.name)) {
-        return is_same_item(a, n + member.index, member.value, b, n + other.index, other.value, allowance);
+        return is_same_item(
+            a,
+            n + member.index,
+            member.value,
+            b,
+            n + other.index,
+            other.value,
+            allowance,
+        );
     }
     false
 }

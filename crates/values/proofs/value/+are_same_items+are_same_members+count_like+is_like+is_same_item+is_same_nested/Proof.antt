@@ -1,15 +1,17 @@
+-- `values::value::is_same_nested` and what it calls in a cycle meet their contracts. The number that falls is five times the
+-- allowance, and a place in the turn. The loops keep that the answer for all is the answer for the rest, with what was counted.
 use Prim.Native.Nat.{ℕ, _+_, _*_, _-_, _<_, _≤_, min}
-use native.Mathlib.Omega.{arith}
 use native.Mathlib.Nat.{sub-zero}
+use native.Mathlib.Omega.{arith}
 use mathlib.Core.Path.{_≡_}
 use borrow.Author.Needs.{needs}
-use Rattle.values.proofs.Turns.{same-none, same-unlike, same-refused, same-scalar, same-array, same-object}
-use Rattle.values.proofs.Turns.{bit-most, count-full, count-end, count-more, members-start, members-stop, members-more, members-end}
-use Rattle.values.proofs.Turns.{item-unlike, item-nested, item-other, items-end, items-stop, items-more, first-near, next-near, like-not, like-by}
 use Rattle.layout.specs.Place.{parts-at}
 use Rattle.layout.proofs.Fields.{length-lt}
 use Rattle.layout.proofs.Checks.{told-array, told-object}
 use Rattle.values.specs.Alike.{same-parts, Near, member-at, members-from, members, likes, same-members, same-at}
+use Rattle.values.proofs.Turns.{item-unlike, item-nested, item-other, items-end, items-stop, items-more, first-near, next-near, like-not, like-by}
+use Rattle.values.proofs.Turns.{bit-most, count-full, count-end, count-more, members-start, members-stop, members-more, members-end}
+use Rattle.values.proofs.Turns.{same-none, same-unlike, same-refused, same-scalar, same-array, same-object}
 use borrow.Fn.Kinds.{In}
 use borrow.Fn.PlainCycle.{Measures, is, falls, and}
 use Rattle.values.proofs.value.are_same_items.Reads as are-same-items
@@ -173,63 +175,15 @@ is-same-item-claims t = (read-jentry-reads.Asked, read-jentry-reads.Learnt, type
 abbrev is-same-nested-claims : ℕ → is-same-nested-lts.Claims
 is-same-nested-claims t = (read-u32-reads.Asked, read-u32-reads.Learnt, read-header-reads.Asked, read-header-reads.Learnt, are-same-items-below t, are-same-items.Post, are-same-members-below t, are-same-members.Post)
 
--- src/value.rt:102:5
 are-same-items-loop-holds : (t : ℕ) → are-same-items-lts.Need-loop-holds (are-same-items-claims t) (are-same-items-at t) are-same-items.Post are-same-items-Inv-loop are-same-items-μ-loop
 are-same-items-loop-holds t c = (omega arith, omega arith, rw sub-zero)
 
--- src/value.rt:103:12
-are-same-items-is-same-item-requires : (t : ℕ) → are-same-items-lts.Need-is-same-item-requires (are-same-items-claims t) (are-same-items-at t) are-same-items.Post are-same-items-Inv-loop are-same-items-μ-loop
-are-same-items-is-same-item-requires t c κs = search needs
-
--- src/value.rt:104:34
-are-same-items-read-jentry-requires : (t : ℕ) → are-same-items-lts.Need-read-jentry-requires (are-same-items-claims t) (are-same-items-at t) are-same-items.Post are-same-items-Inv-loop are-same-items-μ-loop
-are-same-items-read-jentry-requires t c κs = search needs
-
--- src/value.rt:104:22
-are-same-items-payload-len-requires : (t : ℕ) → are-same-items-lts.Need-payload-len-requires (are-same-items-claims t) (are-same-items-at t) are-same-items.Post are-same-items-Inv-loop are-same-items-μ-loop
-are-same-items-payload-len-requires t c κs = search needs
-
--- src/value.rt:104:22
-are-same-items-cast-place : (t : ℕ) → are-same-items-lts.Need-cast-place (are-same-items-claims t) (are-same-items-at t) are-same-items.Post are-same-items-Inv-loop are-same-items-μ-loop
-are-same-items-cast-place t c = search needs
-
--- src/value.rt:104:13
-are-same-items-add-place : (t : ℕ) → are-same-items-lts.Need-add-place (are-same-items-claims t) (are-same-items-at t) are-same-items.Post are-same-items-Inv-loop are-same-items-μ-loop
-are-same-items-add-place t c = search needs
-
--- src/value.rt:105:40
-are-same-items-read-jentry-requires-2 : (t : ℕ) → are-same-items-lts.Need-read-jentry-requires-2 (are-same-items-claims t) (are-same-items-at t) are-same-items.Post are-same-items-Inv-loop are-same-items-μ-loop
-are-same-items-read-jentry-requires-2 t c κs = search needs
-
--- src/value.rt:105:28
-are-same-items-payload-len-requires-2 : (t : ℕ) → are-same-items-lts.Need-payload-len-requires-2 (are-same-items-claims t) (are-same-items-at t) are-same-items.Post are-same-items-Inv-loop are-same-items-μ-loop
-are-same-items-payload-len-requires-2 t c κs = search needs
-
--- src/value.rt:105:28
-are-same-items-cast-other-place : (t : ℕ) → are-same-items-lts.Need-cast-other-place (are-same-items-claims t) (are-same-items-at t) are-same-items.Post are-same-items-Inv-loop are-same-items-μ-loop
-are-same-items-cast-other-place t c = search needs
-
--- src/value.rt:105:13
-are-same-items-add-other-place : (t : ℕ) → are-same-items-lts.Need-add-other-place (are-same-items-claims t) (are-same-items-at t) are-same-items.Post are-same-items-Inv-loop are-same-items-μ-loop
-are-same-items-add-other-place t c = search needs
-
--- src/value.rt:106:13
-are-same-items-add-i : (t : ℕ) → are-same-items-lts.Need-add-i (are-same-items-claims t) (are-same-items-at t) are-same-items.Post are-same-items-Inv-loop are-same-items-μ-loop
-are-same-items-add-i t c = search needs
-
--- src/value.rt:102:5
-are-same-items-loop-less : (t : ℕ) → are-same-items-lts.Need-loop-less (are-same-items-claims t) (are-same-items-at t) are-same-items.Post are-same-items-Inv-loop are-same-items-μ-loop
-are-same-items-loop-less t c = search needs
-
--- src/value.rt:102:5
 are-same-items-loop-again : (t : ℕ) → are-same-items-lts.Need-loop-again (are-same-items-claims t) (are-same-items-at t) are-same-items.Post are-same-items-Inv-loop are-same-items-μ-loop
 are-same-items-loop-again t c = (rw (c .before .before .payload-len .ensures) (omega (arith, length-lt (c .before .before .before .read-jentry .result))), rw (c .payload-len2 .ensures) (omega (arith, length-lt (c .before .read-jentry2 .result))), items-more _ _ _ _ (c .before .before .before .before .before .before .before .loop .i) (c .before .before .before .before .before .before .before .loop .place) (c .before .before .before .before .before .before .before .loop .other-place) _ (c .before .before .before .before .before .before .before .loop .inv .2) _ (c .before .before .before .before .before .before .loop-test .taken) (c .before .before .before .before .before .is-same-item .ensures) _ _ _ _ (c .before .before .before .read-jentry .ensures) (c .before .before .payload-len .ensures) (c .before .read-jentry2 .ensures) (c .payload-len2 .ensures) (c .before .before .before .before .if1 .taken))
 
--- src/value.rt:109:9
 are-same-items-returns : (t : ℕ) → are-same-items-lts.Need-returns (are-same-items-claims t) (are-same-items-at t) are-same-items.Post are-same-items-Inv-loop are-same-items-μ-loop
 are-same-items-returns t c = items-stop _ _ _ _ (c .before .before .before .loop .i) (c .before .before .before .loop .place) (c .before .before .before .loop .other-place) _ (c .before .before .before .loop .inv .2) _ (c .before .before .loop-test .taken) (c .before .is-same-item .ensures) (c .if1 .left)
 
--- src/value.rt:95:1
 are-same-items-returns-2 : (t : ℕ) → are-same-items-lts.Need-returns-2 (are-same-items-claims t) (are-same-items-at t) are-same-items.Post are-same-items-Inv-loop are-same-items-μ-loop
 are-same-items-returns-2 t c = items-end _ _ _ _ (c .before .loop .i) (c .before .loop .place) (c .before .loop .other-place) _ (c .before .loop .inv .2) (c .loop-test .left)
 
@@ -243,59 +197,24 @@ are-same-members-Inv-loop a b n allowance start at₀ at =
 abbrev are-same-members-μ-loop : are-same-members-lts.MeasureT-loop
 are-same-members-μ-loop a b n allowance start at₀ at = n - at .index
 
--- src/value.rt:185:9
-are-same-members-first-member-requires : (t : ℕ) → are-same-members-lts.Need-first-member-requires (are-same-members-claims t) (are-same-members-at t) are-same-members.Post are-same-members-Inv-loop are-same-members-μ-loop
-are-same-members-first-member-requires t c κs = search needs
-
--- src/value.rt:186:9
-are-same-members-first-member-requires-2 :
-    (t : ℕ) → are-same-members-lts.Need-first-member-requires-2 (
-      first-member-reads.Asked,
-      first-member-reads.Learnt,
-      next-member-reads.Asked,
-      next-member-reads.Learnt,
-      count-like-below t,
-      count-like.Post,
-    )
-    (are-same-members-at t)
-    are-same-members.Post
-    are-same-members-Inv-loop
-    are-same-members-μ-loop
-are-same-members-first-member-requires-2 t c κs = search needs
-
--- src/value.rt:187:5
 are-same-members-loop-holds : (t : ℕ) → are-same-members-lts.Need-loop-holds (are-same-members-claims t) (are-same-members-at t) are-same-members.Post are-same-members-Inv-loop are-same-members-μ-loop
 are-same-members-loop-holds t c = let w = first-near _ _ _ (c .first-member2 .ensures) (c .before .before .before .before .pre .1) in (w .0, w .1, members-start _ _ _ _ _ (c .first-member2 .ensures))
 
--- src/value.rt:188:13
-are-same-members-next-member-requires : (t : ℕ) → are-same-members-lts.Need-next-member-requires (are-same-members-claims t) (are-same-members-at t) are-same-members.Post are-same-members-Inv-loop are-same-members-μ-loop
-are-same-members-next-member-requires t c κs = search needs
-
--- src/value.rt:189:13
 are-same-members-count-like-requires : (t : ℕ) → are-same-members-lts.Need-count-like-requires (are-same-members-claims t) (are-same-members-at t) are-same-members.Post are-same-members-Inv-loop are-same-members-μ-loop
 are-same-members-count-like-requires t c κs = let w = next-near _ _ (c .before .before .before .loop .at) _ (c .next-member .ensures) (c .before .if1 .taken) (c .before .before .before .loop .inv .1) in (omega (arith, c .before .before .before .before .before .before .before .before .pre .0), (c .before .before .before .before .before .before .before .before .pre .1, c .before .if1 .taken, omega (arith, w .0, c .before .if1 .taken), w .1))
 
--- src/value.rt:190:52
-are-same-members-add-count-like : (t : ℕ) → are-same-members-lts.Need-add-count-like (are-same-members-claims t) (are-same-members-at t) are-same-members.Post are-same-members-Inv-loop are-same-members-μ-loop
-are-same-members-add-count-like t c = search needs
-
--- src/value.rt:190:13
 are-same-members-count-like-requires-2 : (t : ℕ) → are-same-members-lts.Need-count-like-requires-2 (are-same-members-claims t) (are-same-members-at t) are-same-members.Post are-same-members-Inv-loop are-same-members-μ-loop
 are-same-members-count-like-requires-2 t c κs = let w = first-near _ _ _ (c .before .before .before .before .before .before .first-member .ensures) (c .before .before .before .before .before .before .before .before .before .pre .1) in (omega (arith, c .before .before .before .before .before .before .before .before .before .pre .0), (c .before .before .before .before .before .before .before .before .before .pre .1, c .before .before .if1 .taken, w .0, w .1))
 
--- src/value.rt:192:13
 are-same-members-returns : (t : ℕ) → are-same-members-lts.Need-returns (are-same-members-claims t) (are-same-members-at t) are-same-members.Post are-same-members-Inv-loop are-same-members-μ-loop
 are-same-members-returns t c = members-stop _ _ _ _ (c .before .before .before .before .before .before .loop .at) _ _ _ _ (c .before .before .before .before .before .before .loop .inv .2) (c .before .before .before .before .if1 .taken) (c .before .before .before .before .before .before .before .before .first-member .ensures) (c .before .before .before .next-member .ensures) (c .before .before .count-like .ensures) (c .before .count-like2 .ensures) (c .if2 .taken)
 
--- src/value.rt:187:5
 are-same-members-loop-less : (t : ℕ) → are-same-members-lts.Need-loop-less (are-same-members-claims t) (are-same-members-at t) are-same-members.Post are-same-members-Inv-loop are-same-members-μ-loop
 are-same-members-loop-less t c = let w = next-near _ _ (c .before .before .before .before .before .before .loop .at) _ (c .before .before .before .next-member .ensures) (c .before .before .before .before .if1 .taken) (c .before .before .before .before .before .before .loop .inv .1) in omega (arith, w .0, c .before .before .before .before .if1 .taken)
 
--- src/value.rt:187:5
 are-same-members-loop-again : (t : ℕ) → are-same-members-lts.Need-loop-again (are-same-members-claims t) (are-same-members-at t) are-same-members.Post are-same-members-Inv-loop are-same-members-μ-loop
 are-same-members-loop-again t c = let w = next-near _ _ (c .before .before .before .before .before .before .loop .at) _ (c .before .before .before .next-member .ensures) (c .before .before .before .before .if1 .taken) (c .before .before .before .before .before .before .loop .inv .1) in (omega (arith, w .0, c .before .before .before .before .if1 .taken), w .1, members-more _ _ _ _ (c .before .before .before .before .before .before .loop .at) _ _ _ _ (c .before .before .before .before .before .before .loop .inv .2) (c .before .before .before .before .if1 .taken) (c .before .before .before .before .before .before .before .before .first-member .ensures) (c .before .before .before .next-member .ensures) (c .before .before .count-like .ensures) (c .before .count-like2 .ensures) (c .if2 .left))
 
--- src/value.rt:181:1
 are-same-members-returns-2 : (t : ℕ) → are-same-members-lts.Need-returns-2 (are-same-members-claims t) (are-same-members-at t) are-same-members.Post are-same-members-Inv-loop are-same-members-μ-loop
 are-same-members-returns-2 t c = members-end _ _ _ _ (c .before .before .loop .at) (c .before .before .loop .inv .2) (c .if1 .left)
 
@@ -310,223 +229,63 @@ count-like-Inv-loop a member b n limit allowance at₀ count₀ at count =
 abbrev count-like-μ-loop : count-like-lts.MeasureT-loop
 count-like-μ-loop a member b n limit allowance at₀ count₀ at count = n - at .index
 
--- src/value.rt:168:5
-count-like-loop-holds : (t : ℕ) → count-like-lts.Need-loop-holds (count-like-claims t) (count-like-at t) count-like.Post count-like-Inv-loop count-like-μ-loop
-count-like-loop-holds t c = search needs
-
--- src/value.rt:170:13
 count-like-returns : (t : ℕ) → count-like-lts.Need-returns (count-like-claims t) (count-like-at t) count-like.Post count-like-Inv-loop count-like-μ-loop
 count-like-returns t c = count-full _ _ _ _ _ (c .before .before .before .loop .count) _ (c .before .before .before .loop .at) (c .before .before .before .loop .inv .3) (c .if2 .taken)
 
--- src/value.rt:172:18
-count-like-is-like-requires : (t : ℕ) → count-like-lts.Need-is-like-requires (count-like-claims t) (count-like-at t) count-like.Post count-like-Inv-loop count-like-μ-loop
-count-like-is-like-requires t c κs = search needs
-
--- src/value.rt:172:18
-count-like-cast-count : (t : ℕ) → count-like-lts.Need-cast-count (count-like-claims t) (count-like-at t) count-like.Post count-like-Inv-loop count-like-μ-loop
-count-like-cast-count t c = search needs
-
--- src/value.rt:172:9
 count-like-add-count : (t : ℕ) → count-like-lts.Need-add-count (count-like-claims t) (count-like-at t) count-like.Post count-like-Inv-loop count-like-μ-loop
 count-like-add-count t c = omega (arith, bit-most (c .is-like .result))
 
--- src/value.rt:173:9
-count-like-next-member-requires : (t : ℕ) → count-like-lts.Need-next-member-requires (count-like-claims t) (count-like-at t) count-like.Post count-like-Inv-loop count-like-μ-loop
-count-like-next-member-requires t c κs = search needs
-
--- src/value.rt:168:5
 count-like-loop-less : (t : ℕ) → count-like-lts.Need-loop-less (count-like-claims t) (count-like-at t) count-like.Post count-like-Inv-loop count-like-μ-loop
 count-like-loop-less t c = let w = next-near _ _ (c .before .before .before .before .before .loop .at) _ (c .next-member .ensures) (c .before .before .before .if1 .taken) (c .before .before .before .before .before .loop .inv .1) in omega (arith, w .0, c .before .before .before .if1 .taken)
 
--- src/value.rt:168:5
 count-like-loop-again : (t : ℕ) → count-like-lts.Need-loop-again (count-like-claims t) (count-like-at t) count-like.Post count-like-Inv-loop count-like-μ-loop
 count-like-loop-again t c = let w = next-near _ _ (c .before .before .before .before .before .loop .at) _ (c .next-member .ensures) (c .before .before .before .if1 .taken) (c .before .before .before .before .before .loop .inv .1) in (omega (arith, w .0, c .before .before .before .if1 .taken), w .1, omega (arith, bit-most (c .before .is-like .result), c .before .before .before .before .before .loop .inv .2, c .before .before .if2 .left), count-more _ _ _ _ _ (c .before .before .before .before .before .loop .count) _ (c .before .before .before .before .before .loop .at) (c .before .before .before .before .before .loop .inv .3) (c .before .is-like .result) _ (c .before .before .before .if1 .taken) (c .before .is-like .ensures) (c .next-member .ensures))
 
--- src/value.rt:153:1
 count-like-returns-2 : (t : ℕ) → count-like-lts.Need-returns-2 (count-like-claims t) (count-like-at t) count-like.Post count-like-Inv-loop count-like-μ-loop
 count-like-returns-2 t c = count-end _ _ _ _ _ (c .before .before .loop .count) _ (c .before .before .loop .at) (c .before .before .loop .inv .3) (c .before .before .loop .inv .2) (c .if1 .left)
 
--- src/value.rt:144:9
-is-like-payload-at-requires : (t : ℕ) → is-like-lts.Need-payload-at-requires (is-like-claims t) (is-like-at t) is-like.Post
-is-like-payload-at-requires t c κs = search needs
-
--- src/value.rt:145:28
-is-like-payload-at-requires-2 : (t : ℕ) → is-like-lts.Need-payload-at-requires-2 (is-like-claims t) (is-like-at t) is-like.Post
-is-like-payload-at-requires-2 t c κs = search needs
-
--- src/value.rt:145:8
-is-like-is-same-bytes-requires : (t : ℕ) → is-like-lts.Need-is-same-bytes-requires (is-like-claims t) (is-like-at t) is-like.Post
-is-like-is-same-bytes-requires t c κs = search needs
-
--- src/value.rt:146:32
-is-like-add-is-same-item : (t : ℕ) → is-like-lts.Need-add-is-same-item (is-like-claims t) (is-like-at t) is-like.Post
-is-like-add-is-same-item t c = search needs
-
--- src/value.rt:146:67
-is-like-add-is-same-item-2 : (t : ℕ) → is-like-lts.Need-add-is-same-item-2 (is-like-claims t) (is-like-at t) is-like.Post
-is-like-add-is-same-item-2 t c = search needs
-
--- src/value.rt:146:9
-is-like-is-same-item-requires : (t : ℕ) → is-like-lts.Need-is-same-item-requires (is-like-claims t) (is-like-at t) is-like.Post
-is-like-is-same-item-requires t c κs = search needs
-
--- src/value.rt:146:9
 is-like-returns : (t : ℕ) → is-like-lts.Need-returns (is-like-claims t) (is-like-at t) is-like.Post
 is-like-returns t c = like-by _ _ _ _ (c .before .before .before .before .before .before .before .before .before .args .member) (c .before .before .before .before .before .before .before .before .before .args .other) _ _ _ (c .before .before .before .before .before .before .payload-at .ensures) (c .before .before .before .before .before .payload-at2 .ensures) (c .before .before .before .before .is-same-bytes .ensures) _ (c .before .before .before .if1 .taken) (c .is-same-item .ensures)
 
--- src/value.rt:140:1
 is-like-returns-2 : (t : ℕ) → is-like-lts.Need-returns-2 (is-like-claims t) (is-like-at t) is-like.Post
 is-like-returns-2 t c = like-not _ _ _ _ (c .before .before .before .before .before .before .args .member) (c .before .before .before .before .before .before .args .other) _ _ _ (c .before .before .before .payload-at .ensures) (c .before .before .payload-at2 .ensures) (c .before .is-same-bytes .ensures) (c .if1 .left)
 
--- src/value.rt:82:26
-is-same-item-read-jentry-requires : (t : ℕ) → is-same-item-lts.Need-read-jentry-requires (is-same-item-claims t) (is-same-item-at t) is-same-item.Post
-is-same-item-read-jentry-requires t c κs = search needs
-
--- src/value.rt:82:9
-is-same-item-type-code-requires : (t : ℕ) → is-same-item-lts.Need-type-code-requires (is-same-item-claims t) (is-same-item-at t) is-same-item.Post
-is-same-item-type-code-requires t c κs = search needs
-
--- src/value.rt:83:38
-is-same-item-read-jentry-requires-2 : (t : ℕ) → is-same-item-lts.Need-read-jentry-requires-2 (is-same-item-claims t) (is-same-item-at t) is-same-item.Post
-is-same-item-read-jentry-requires-2 t c κs = search needs
-
--- src/value.rt:83:28
-is-same-item-type-code-requires-2 : (t : ℕ) → is-same-item-lts.Need-type-code-requires-2 (is-same-item-claims t) (is-same-item-at t) is-same-item.Post
-is-same-item-type-code-requires-2 t c κs = search needs
-
--- src/value.rt:83:9
-is-same-item-is-same-kind-requires : (t : ℕ) → is-same-item-lts.Need-is-same-kind-requires (is-same-item-claims t) (is-same-item-at t) is-same-item.Post
-is-same-item-is-same-kind-requires t c κs = search needs
-
--- src/value.rt:84:9
 is-same-item-returns : (t : ℕ) → is-same-item-lts.Need-returns (is-same-item-claims t) (is-same-item-at t) is-same-item.Post
 is-same-item-returns t c = item-unlike _ _ _ _ (c .before .before .before .before .before .before .before .before .args .place) _ (c .before .before .before .before .before .before .before .before .args .other-place) _ _ _ _ _ (c .before .before .before .before .before .read-jentry .ensures) (c .before .before .before .before .type-code .ensures) (c .before .before .before .read-jentry2 .ensures) (c .before .before .type-code2 .ensures) (c .before .is-same-kind .ensures) (c .if1 .taken)
 
--- src/value.rt:86:9
-is-same-item-payload-at-requires : (t : ℕ) → is-same-item-lts.Need-payload-at-requires (is-same-item-claims t) (is-same-item-at t) is-same-item.Post
-is-same-item-payload-at-requires t c κs = search needs
-
--- src/value.rt:87:9
-is-same-item-payload-at-requires-2 : (t : ℕ) → is-same-item-lts.Need-payload-at-requires-2 (is-same-item-claims t) (is-same-item-at t) is-same-item.Post
-is-same-item-payload-at-requires-2 t c κs = search needs
-
--- src/value.rt:89:9
-is-same-item-is-same-nested-requires : (t : ℕ) → is-same-item-lts.Need-is-same-nested-requires (is-same-item-claims t) (is-same-item-at t) is-same-item.Post
-is-same-item-is-same-nested-requires t c κs = search needs
-
--- src/value.rt:89:9
 is-same-item-returns-2 : (t : ℕ) → is-same-item-lts.Need-returns-2 (is-same-item-claims t) (is-same-item-at t) is-same-item.Post
 is-same-item-returns-2 t c = item-nested _ _ _ _ _ _ _ _ _ _ _ _ (c .before .before .before .before .before .before .before .before .before .read-jentry .ensures) (c .before .before .before .before .before .before .before .before .type-code .ensures) (c .before .before .before .before .before .before .before .read-jentry2 .ensures) (c .before .before .before .before .before .before .type-code2 .ensures) (c .before .before .before .before .before .is-same-kind .ensures) _ _ _ (c .before .before .before .before .if1 .left) (c .before .before .before .payload-at .ensures) (c .before .before .payload-at2 .ensures) (c .before .if2 .taken) (c .is-same-nested .ensures)
 
--- src/value.rt:91:5
-is-same-item-is-same-bytes-requires : (t : ℕ) → is-same-item-lts.Need-is-same-bytes-requires (is-same-item-claims t) (is-same-item-at t) is-same-item.Post
-is-same-item-is-same-bytes-requires t c κs = search needs
-
--- src/value.rt:78:1
 is-same-item-returns-3 : (t : ℕ) → is-same-item-lts.Need-returns-3 (is-same-item-claims t) (is-same-item-at t) is-same-item.Post
 is-same-item-returns-3 t c = item-other _ _ _ _ _ _ _ _ _ _ _ _ (c .before .before .before .before .before .before .before .before .before .read-jentry .ensures) (c .before .before .before .before .before .before .before .before .type-code .ensures) (c .before .before .before .before .before .before .before .read-jentry2 .ensures) (c .before .before .before .before .before .before .type-code2 .ensures) (c .before .before .before .before .before .is-same-kind .ensures) _ _ _ (c .before .before .before .before .if1 .left) (c .before .before .before .payload-at .ensures) (c .before .before .payload-at2 .ensures) (c .before .if2 .left) (c .is-same-bytes .ensures)
 
--- src/value.rt:205:9
 is-same-nested-returns : (t : ℕ) → is-same-nested-lts.Need-returns (is-same-nested-claims t) (is-same-nested-at t) is-same-nested.Post
 is-same-nested-returns t c = same-none _ _ _ (c .if1 .taken)
 
--- src/value.rt:207:8
-is-same-nested-read-u32-requires : (t : ℕ) → is-same-nested-lts.Need-read-u32-requires (is-same-nested-claims t) (is-same-nested-at t) is-same-nested.Post
-is-same-nested-read-u32-requires t c κs = search needs
-
--- src/value.rt:207:26
-is-same-nested-read-u32-requires-2 : (t : ℕ) → is-same-nested-lts.Need-read-u32-requires-2 (is-same-nested-claims t) (is-same-nested-at t) is-same-nested.Post
-is-same-nested-read-u32-requires-2 t c κs = search needs
-
--- src/value.rt:208:9
 is-same-nested-returns-2 : (t : ℕ) → is-same-nested-lts.Need-returns-2 (is-same-nested-claims t) (is-same-nested-at t) is-same-nested.Post
 is-same-nested-returns-2 t c = same-unlike _ _ _ _ _ (c .before .before .before .if1 .left) (c .before .before .read-u32 .ensures) (c .before .read-u322 .ensures) (c .if2 .taken)
 
--- src/value.rt:210:11
-is-same-nested-read-header-requires : (t : ℕ) → is-same-nested-lts.Need-read-header-requires (is-same-nested-claims t) (is-same-nested-at t) is-same-nested.Post
-is-same-nested-read-header-requires t c κs = search needs
-
--- src/value.rt:211:31
-is-same-nested-enum-told : (t : ℕ) → is-same-nested-lts.Need-enum-told (is-same-nested-claims t) (is-same-nested-at t) is-same-nested.Post
-is-same-nested-enum-told t c = search needs
-
--- src/value.rt:212:68
-is-same-nested-enum-told-2 : (t : ℕ) → is-same-nested-lts.Need-enum-told-2 (is-same-nested-claims t) (is-same-nested-at t) is-same-nested.Post
-is-same-nested-enum-told-2 t c = search needs
-
--- src/value.rt:212:68
-is-same-nested-sub-are-same-items : (t : ℕ) → is-same-nested-lts.Need-sub-are-same-items (is-same-nested-claims t) (is-same-nested-at t) is-same-nested.Post
-is-same-nested-sub-are-same-items t c = search needs
-
--- src/value.rt:212:30
-is-same-nested-are-same-items-requires : (t : ℕ) → is-same-nested-lts.Need-are-same-items-requires (is-same-nested-claims t) (is-same-nested-at t) is-same-nested.Post
-is-same-nested-are-same-items-requires t c κs = search needs
-
--- src/value.rt:213:23
-is-same-nested-enum-known-n : (t : ℕ) → is-same-nested-lts.Need-enum-known-n (is-same-nested-claims t) (is-same-nested-at t) is-same-nested.Post
-is-same-nested-enum-known-n t c = search needs
-
--- src/value.rt:213:67
 is-same-nested-mul-are-same-items : (t : ℕ) → is-same-nested-lts.Need-mul-are-same-items (is-same-nested-claims t) (is-same-nested-at t) is-same-nested.Post
 is-same-nested-mul-are-same-items t c = let h = told-array _ _ (c .before .before .before .read-header .ensures) _ (c .before .n .given .1) in omega arith
 
--- src/value.rt:213:53
 is-same-nested-add-are-same-items : (t : ℕ) → is-same-nested-lts.Need-add-are-same-items (is-same-nested-claims t) (is-same-nested-at t) is-same-nested.Post
 is-same-nested-add-are-same-items t c = let h = told-array _ _ (c .before .before .before .read-header .ensures) _ (c .before .n .given .1) in omega arith
 
--- src/value.rt:213:84
-is-same-nested-sub-are-same-items-2 : (t : ℕ) → is-same-nested-lts.Need-sub-are-same-items-2 (is-same-nested-claims t) (is-same-nested-at t) is-same-nested.Post
-is-same-nested-sub-are-same-items-2 t c = search needs
-
--- src/value.rt:213:29
-is-same-nested-are-same-items-requires-2 :
-    (t : ℕ) → is-same-nested-lts.Need-are-same-items-requires-2 (
-      read-u32-reads.Asked,
-      read-u32-reads.Learnt,
-      read-header-reads.Asked,
-      read-header-reads.Learnt,
-      are-same-items-below t,
-      are-same-items.Post,
-      are-same-members-below t,
-      are-same-members.Post,
-    ) (is-same-nested-at t) is-same-nested.Post
+is-same-nested-are-same-items-requires-2 : (t : ℕ) → is-same-nested-lts.Need-are-same-items-requires-2 (is-same-nested-claims t) (is-same-nested-at t) is-same-nested.Post
 is-same-nested-are-same-items-requires-2 t c κs = let h = told-array _ _ (c .before .before .before .read-header .ensures) _ (c .before .n .given .1) in omega arith
 
--- src/value.rt:214:24
-is-same-nested-enum-known-n-2 : (t : ℕ) → is-same-nested-lts.Need-enum-known-n-2 (is-same-nested-claims t) (is-same-nested-at t) is-same-nested.Post
-is-same-nested-enum-known-n-2 t c = search needs
-
--- src/value.rt:214:56
-is-same-nested-sub-are-same-members : (t : ℕ) → is-same-nested-lts.Need-sub-are-same-members (is-same-nested-claims t) (is-same-nested-at t) is-same-nested.Post
-is-same-nested-sub-are-same-members t c = search needs
-
--- src/value.rt:214:30
-is-same-nested-are-same-members-requires :
-    (t : ℕ) → is-same-nested-lts.Need-are-same-members-requires (
-      read-u32-reads.Asked,
-      read-u32-reads.Learnt,
-      read-header-reads.Asked,
-      read-header-reads.Learnt,
-      are-same-items-below t,
-      are-same-items.Post,
-      are-same-members-below t,
-      are-same-members.Post,
-    ) (is-same-nested-at t) is-same-nested.Post
+is-same-nested-are-same-members-requires : (t : ℕ) → is-same-nested-lts.Need-are-same-members-requires (is-same-nested-claims t) (is-same-nested-at t) is-same-nested.Post
 is-same-nested-are-same-members-requires t c κs = let h = told-object _ _ (c .before .before .before .read-header .ensures) _ (c .before .n2 .given .1) in omega arith
 
--- src/value.rt:201:1
 is-same-nested-returns-3 : (t : ℕ) → is-same-nested-lts.Need-returns-3 (is-same-nested-claims t) (is-same-nested-at t) is-same-nested.Post
 is-same-nested-returns-3 t c = same-refused _ _ _ _ _ (c .before .before .before .before .before .before .if1 .left) (c .before .before .before .before .before .read-u32 .ensures) (c .before .before .before .before .read-u322 .ensures) _ (c .before .before .before .if2 .left) (c .before .before .read-header .ensures) _ (c .enum-told .given .1)
 
--- src/value.rt:201:1
 is-same-nested-returns-4 : (t : ℕ) → is-same-nested-lts.Need-returns-4 (is-same-nested-claims t) (is-same-nested-at t) is-same-nested.Post
 is-same-nested-returns-4 t c = same-scalar _ _ _ _ _ (c .before .before .before .before .before .before .before .if1 .left) (c .before .before .before .before .before .before .read-u32 .ensures) (c .before .before .before .before .before .read-u322 .ensures) _ (c .before .before .before .before .if2 .left) (c .before .before .before .read-header .ensures) _ _ (c .before .enum-told2 .given .1) (c .are-same-items .ensures)
 
--- src/value.rt:201:1
 is-same-nested-returns-5 : (t : ℕ) → is-same-nested-lts.Need-returns-5 (is-same-nested-claims t) (is-same-nested-at t) is-same-nested.Post
 is-same-nested-returns-5 t c = same-array _ _ _ _ _ (c .before .before .before .before .before .before .before .before .if1 .left) (c .before .before .before .before .before .before .before .read-u32 .ensures) (c .before .before .before .before .before .before .read-u322 .ensures) _ (c .before .before .before .before .before .if2 .left) (c .before .before .before .before .read-header .ensures) _ _ (c .before .before .n .given .1) (c .are-same-items2 .ensures)
 
--- src/value.rt:201:1
 is-same-nested-returns-6 : (t : ℕ) → is-same-nested-lts.Need-returns-6 (is-same-nested-claims t) (is-same-nested-at t) is-same-nested.Post
 is-same-nested-returns-6 t c = same-object _ _ _ _ _ (c .before .before .before .before .before .before .before .before .if1 .left) (c .before .before .before .before .before .before .before .read-u32 .ensures) (c .before .before .before .before .before .before .read-u322 .ensures) _ (c .before .before .before .before .before .if2 .left) (c .before .before .before .before .read-header .ensures) _ _ (c .before .before .n2 .given .1) (c .are-same-members .ensures)
 
@@ -546,17 +305,17 @@ pub +are-same-items+are-same-members+count-like+is-like+is-same-item+is-same-nes
     are-same-items-Inv-loop
     are-same-items-μ-loop
     (are-same-items-loop-holds t)
-    (are-same-items-is-same-item-requires t)
-    (are-same-items-read-jentry-requires t)
-    (are-same-items-payload-len-requires t)
-    (are-same-items-cast-place t)
-    (are-same-items-add-place t)
-    (are-same-items-read-jentry-requires-2 t)
-    (are-same-items-payload-len-requires-2 t)
-    (are-same-items-cast-other-place t)
-    (are-same-items-add-other-place t)
-    (are-same-items-add-i t)
-    (are-same-items-loop-less t)
+    (λ c κs. search needs)
+    (λ c κs. search needs)
+    (λ c κs. search needs)
+    (λ c. search needs)
+    (λ c. search needs)
+    (λ c κs. search needs)
+    (λ c κs. search needs)
+    (λ c. search needs)
+    (λ c. search needs)
+    (λ c. search needs)
+    (λ c. search needs)
     (are-same-items-loop-again t)
     (are-same-items-returns t)
     (are-same-items-returns-2 t))
@@ -565,12 +324,12 @@ pub +are-same-items+are-same-members+count-like+is-like+is-same-item+is-same-nes
     are-same-members.Post
     are-same-members-Inv-loop
     are-same-members-μ-loop
-    (are-same-members-first-member-requires t)
-    (are-same-members-first-member-requires-2 t)
+    (λ c κs. search needs)
+    (λ c κs. search needs)
     (are-same-members-loop-holds t)
-    (are-same-members-next-member-requires t)
+    (λ c κs. search needs)
     (are-same-members-count-like-requires t)
-    (are-same-members-add-count-like t)
+    (λ c. search needs)
     (are-same-members-count-like-requires-2 t)
     (are-same-members-returns t)
     (are-same-members-loop-less t)
@@ -581,60 +340,60 @@ pub +are-same-items+are-same-members+count-like+is-like+is-same-item+is-same-nes
     count-like.Post
     count-like-Inv-loop
     count-like-μ-loop
-    (count-like-loop-holds t)
+    (λ c. search needs)
     (count-like-returns t)
-    (count-like-is-like-requires t)
-    (count-like-cast-count t)
+    (λ c κs. search needs)
+    (λ c. search needs)
     (count-like-add-count t)
-    (count-like-next-member-requires t)
+    (λ c κs. search needs)
     (count-like-loop-less t)
     (count-like-loop-again t)
     (count-like-returns-2 t))
     (λ t. is-like-lts.spec (is-like-claims t)
     (is-like-at t)
     is-like.Post
-    (is-like-payload-at-requires t)
-    (is-like-payload-at-requires-2 t)
-    (is-like-is-same-bytes-requires t)
-    (is-like-add-is-same-item t)
-    (is-like-add-is-same-item-2 t)
-    (is-like-is-same-item-requires t)
+    (λ c κs. search needs)
+    (λ c κs. search needs)
+    (λ c κs. search needs)
+    (λ c. search needs)
+    (λ c. search needs)
+    (λ c κs. search needs)
     (is-like-returns t)
     (is-like-returns-2 t))
     (λ t. is-same-item-lts.spec (is-same-item-claims t)
     (is-same-item-at t)
     is-same-item.Post
-    (is-same-item-read-jentry-requires t)
-    (is-same-item-type-code-requires t)
-    (is-same-item-read-jentry-requires-2 t)
-    (is-same-item-type-code-requires-2 t)
-    (is-same-item-is-same-kind-requires t)
+    (λ c κs. search needs)
+    (λ c κs. search needs)
+    (λ c κs. search needs)
+    (λ c κs. search needs)
+    (λ c κs. search needs)
     (is-same-item-returns t)
-    (is-same-item-payload-at-requires t)
-    (is-same-item-payload-at-requires-2 t)
-    (is-same-item-is-same-nested-requires t)
+    (λ c κs. search needs)
+    (λ c κs. search needs)
+    (λ c κs. search needs)
     (is-same-item-returns-2 t)
-    (is-same-item-is-same-bytes-requires t)
+    (λ c κs. search needs)
     (is-same-item-returns-3 t))
     λ t. is-same-nested-lts.spec (is-same-nested-claims t)
     (is-same-nested-at t)
     is-same-nested.Post
     (is-same-nested-returns t)
-    (is-same-nested-read-u32-requires t)
-    (is-same-nested-read-u32-requires-2 t)
+    (λ c κs. search needs)
+    (λ c κs. search needs)
     (is-same-nested-returns-2 t)
-    (is-same-nested-read-header-requires t)
-    (is-same-nested-enum-told t)
-    (is-same-nested-enum-told-2 t)
-    (is-same-nested-sub-are-same-items t)
-    (is-same-nested-are-same-items-requires t)
-    (is-same-nested-enum-known-n t)
+    (λ c κs. search needs)
+    (λ c. search needs)
+    (λ c. search needs)
+    (λ c. search needs)
+    (λ c κs. search needs)
+    (λ c. search needs)
     (is-same-nested-mul-are-same-items t)
     (is-same-nested-add-are-same-items t)
-    (is-same-nested-sub-are-same-items-2 t)
+    (λ c. search needs)
     (is-same-nested-are-same-items-requires-2 t)
-    (is-same-nested-enum-known-n-2 t)
-    (is-same-nested-sub-are-same-members t)
+    (λ c. search needs)
+    (λ c. search needs)
     (is-same-nested-are-same-members-requires t)
     (is-same-nested-returns-3 t)
     (is-same-nested-returns-4 t)
