@@ -210,7 +210,7 @@ members-of (object ms) = ms
 array-same : (ts us : Items) → SameItems ts us ↔ Same (array ts) (array us)
 array-same ts us = (λ h. (us, refl, h), λ h. let e : us ≡ h .0 = ap items-of (h .1) in rw e (h .2))
 
-object-same : (ms ns : Members) → SameMembers ms ns ↔ Same (object ms) (object ns)
+pub object-same : (ms ns : Members) → SameMembers ms ns ↔ Same (object ms) (object ns)
 object-same ms ns = (λ h. (ns, refl, h), λ h. let e : ns ≡ h .0 = ap members-of (h .1) in rw e (h .2))
 
 abbrev first-of : Items → Tree
