@@ -7,7 +7,7 @@ use mathlib.Core.Bool.{true}
 use mathlib.Core.List.{[], _∷_}
 use lib.ListN.{getD}
 use Rattle.layout.specs.Bytes.{Bytes}
-use Rattle.layout.specs.Tree.{Tree, null, boolean, number, object, empty, member}
+use Rattle.layout.specs.Tree.{Tree, null, boolean, number, object, Members, empty, member}
 use Rattle.layout.specs.Read.{read}
 use Rattle.layout.specs.declared.refusal.Refusal.the-variants.{Short, Layout}
 use Rattle.values.specs.Grade.{Graded}
@@ -32,6 +32,9 @@ record-A = 0x40 ∷ 0 ∷ 0 ∷ 1 ∷ 0x10 ∷ 0 ∷ 0 ∷ 1 ∷ 0x20 ∷ 0 ∷ 
 -- "D is 40000002 10000001 10000001 00000000 40000000 61 61": {"a":null,"a":true}.
 abbrev record-D : Bytes
 record-D = 0x40 ∷ 0 ∷ 0 ∷ 2 ∷ 0x10 ∷ 0 ∷ 0 ∷ 1 ∷ 0x10 ∷ 0 ∷ 0 ∷ 1 ∷ 0 ∷ 0 ∷ 0 ∷ 0 ∷ 0x40 ∷ 0 ∷ 0 ∷ 0 ∷ 0x61 ∷ 0x61 ∷ []
+
+abbrev members-D : Members
+members-D = member a null (member a (boolean true) empty)
 
 -- {"a":1,"b":true}, and with its members the other way round.
 abbrev sorted : Bytes
@@ -64,7 +67,7 @@ repeated-name = (
   λ h. let z : _≡_ {A = ℕ} 0x40 0 = ap (λ s. getD s 12 0) h in omega arith,
   (
     object (member a (boolean true) (member a null empty)),
-    object (member a null (member a (boolean true) empty)),
+    object members-D,
     refl,
     refl,
     (_, refl, (boolean true, member a null empty, inr (empty, refl, inl (refl, refl, refl)), refl, (null, empty, inl (refl, refl, refl), refl, refl))),
@@ -75,12 +78,13 @@ repeated-name = (
 another-value : Graded OtherValue record-D (0x40 ∷ 0 ∷ 0 ∷ 1 ∷ 0x10 ∷ 0 ∷ 0 ∷ 1 ∷ 0x40 ∷ 0 ∷ 0 ∷ 0 ∷ 0x61 ∷ [])
 unfolding read
 another-value = (
-  object (member a null (member a (boolean true) empty)),
+  object members-D,
   object (member a (boolean true) empty),
   refl,
   refl,
   λ h.
-      let z : _≡_ {A = ℕ} 2 1 = same-length (member a null (member a (boolean true) empty)) (member a (boolean true) empty) (object-same _ _ .1 h) in
+      let same = object-same members-D (member a (boolean true) empty) .1 h in
+      let z : _≡_ {A = ℕ} 2 1 = same-length members-D (member a (boolean true) empty) same in
       omega arith,
 )
 
