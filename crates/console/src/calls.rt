@@ -1,4 +1,5 @@
 // The calls of the console.
+use crate::grade::answer_grade;
 use crate::hex::RECORD_ROOM;
 use crate::hex::decode;
 use crate::run::answer_run;
@@ -102,11 +103,14 @@ fn answer_other(word: &[u8], rest: &[u8]) {
     if is_same(word, b"show") {
         return answer_one(Call::Show, rest);
     }
+    if is_same(word, b"grade") {
+        return answer_grade(rest);
+    }
     if is_same(word, b"run") {
         return answer_run(rest);
     }
     say(
-        b"? there is no such call; there are check, sound, show, get, delete, concat, strip, append, build and run\n",
+        b"? there is no such call; there are check, sound, show, get, delete, concat, strip, append, build, grade and run\n",
     );
 }
 

@@ -9,6 +9,9 @@
 //   strip R            result HEX, or refused N WORDS: the record R without the members whose value is null, at every level
 //   append A ; R       result HEX, or refused N WORDS: the record R, as one item, at the end of the array A
 //   build N ; V        result HEX, or refused N WORDS: an object of the names in the array N with the values in the array V
+//   grade CANDIDATE ; EXPECTED
+//                      right, other bytes, same value, other value, or damaged N WORDS: whether two records are the same, or have
+//                      one value
 //   run R ; R : CALL : CALL
 //                      ENDING : ENDING : shelf R ; R ; R: the calls one after the other, with places for records; run.rt says more
 //
@@ -18,6 +21,7 @@
 // these gets `? WHY`, and the next one is answered as ever.
 mod calls;
 mod decimal;
+mod grade;
 mod hex;
 mod run;
 mod say;

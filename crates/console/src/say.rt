@@ -19,19 +19,24 @@ pub(crate) fn say(text: &[u8]) {
 }
 
 // A number of document 01 with its words.
-pub(crate) fn say_number(number: u64) {
+pub(crate) fn say_words(number: u64) {
     match number {
-        1 => say(b"refused 1 short"),
-        2 => say(b"refused 2 layout"),
-        3 => say(b"refused 3 text"),
-        4 => say(b"refused 4 number"),
-        5 => say(b"refused 5 too long or deep"),
-        6 => say(b"refused 6 path"),
-        7 => say(b"refused 7 kind"),
-        8 => say(b"refused 8 repeated name"),
-        9 => say(b"refused 9 result too long or deep"),
-        _ => say(b"refused 10 buffer too short"),
+        1 => say(b"1 short"),
+        2 => say(b"2 layout"),
+        3 => say(b"3 text"),
+        4 => say(b"4 number"),
+        5 => say(b"5 too long or deep"),
+        6 => say(b"6 path"),
+        7 => say(b"7 kind"),
+        8 => say(b"8 repeated name"),
+        9 => say(b"9 result too long or deep"),
+        _ => say(b"10 buffer too short"),
     }
+}
+
+pub(crate) fn say_number(number: u64) {
+    say(b"refused ");
+    say_words(number);
 }
 
 pub(crate) fn say_refused(refusal: Refusal) {
