@@ -4,9 +4,15 @@ use layout::check::Check;
 use layout::check::check_record;
 use layout::constants::CONTAINER_CODE;
 use layout::constants::DEPTH_LIMIT;
+use layout::constants::EXTENSION_CODE;
+use layout::constants::FALSE_CODE;
 use layout::constants::HEADER_SIZE;
 use layout::constants::JENTRY_SIZE;
+use layout::constants::NULL_CODE;
+use layout::constants::NUMBER_CODE;
 use layout::constants::SCALAR_START;
+use layout::constants::STRING_CODE;
+use layout::constants::TRUE_CODE;
 use layout::item::Kind;
 use layout::iterator::key_length;
 use layout::jentry::kind_of;
@@ -43,13 +49,13 @@ fn code_of(kind: Kind) -> u32
     ensures { λ r. ⌜ r ≡ code kind ⌝ }
 {
     match kind {
-        Kind::Null => 0,
-        Kind::String => 1,
-        Kind::Number => 2,
-        Kind::False => 3,
-        Kind::True => 4,
-        Kind::Container => 5,
-        Kind::Extension => 6,
+        Kind::Null => NULL_CODE,
+        Kind::String => STRING_CODE,
+        Kind::Number => NUMBER_CODE,
+        Kind::False => FALSE_CODE,
+        Kind::True => TRUE_CODE,
+        Kind::Container => CONTAINER_CODE,
+        Kind::Extension => EXTENSION_CODE,
     }
 }
 
@@ -157,15 +163,9 @@ fn is_like(a: &[u8], member: MemberAt, b: &[u8], other: MemberAt, n: usize, allo
 {
     let name = payload_at(a, member.index, member.name);
     if is_same_bytes(name, payload_at(b, other.index, other.name)) {
-        return is_same_item(
-            a,
-            n + member.index,
-            member.value,
-            b,
-            n + other.index,
-            other.value,
-            allowance,
-        );
+        let i = n + member.index;
+        let j = n + other.index;
+        return is_same_item(a, i, member.value, b, j, other.value, allowance);
     }
     false
 }
