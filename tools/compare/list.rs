@@ -38,7 +38,7 @@ fn checked(record: &[u8]) -> String {
 }
 
 impl List {
-    /// Both answers to the call of a row, in words, and the kind of difference where there is one.
+    /// Both answers to the call of a row, in words.
     fn ask(&mut self, call: &str, buffer: &mut Vec<u8>) -> Option<(String, String)> {
         let bytes = |text: &str| from_hex(text.trim());
         if let Some(payload) = call.strip_prefix("number ") {
@@ -54,6 +54,7 @@ impl List {
         Some(self.take(&request, ours, theirs, verdict))
     }
 
+    /// Notes the kind of difference, where there is one; gives both answers in words.
     fn take(&mut self, request: &Request, ours: Ours, theirs: Answer, verdict: Verdict) -> (String, String) {
         if let Verdict::Wrong(why) = verdict {
             self.wrong += 1;
@@ -69,6 +70,10 @@ impl List {
     pub fn take_long(&mut self, request: &Request, buffer: &mut Vec<u8>) {
         let (ours, theirs, verdict) = compare(request, buffer);
         self.rows += 1;
+        if !matches!(verdict, Verdict::Listed(_)) {
+            self.wrong += 1;
+            println!("{} of {} bytes is no difference", request.edit.word(), request.size());
+        }
         self.take(request, ours, theirs, verdict);
     }
 

@@ -37,7 +37,7 @@ pub enum Verdict {
 
 // ---- the port
 
-/// What a buffer is filled with, so that a byte that is written is seen; another byte where the result may hold this one.
+/// What a buffer is filled with, so that a byte that is written is seen.
 const FILL: u8 = 0xa5;
 
 /// Answers, and makes sure that no byte was written that should not be.
