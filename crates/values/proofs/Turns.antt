@@ -1,4 +1,4 @@
--- How the comparison goes, in the terms of the code.
+-- How the comparison of two records goes, in the terms of the code: each law answers one step, or the start or end of a loop.
 use Prim.Native.Nat.{ℕ, zero, suc, _+_, _*_, _-_, _^_, _<_, _≤_, min}
 use native.Mathlib.Omega.{arith}
 use native.Mathlib.Nat.{sub-zero}
@@ -7,8 +7,8 @@ use mathlib.Core.Bool.{Bool, true, false, not, cond, _&&_}
 use mathlib.Core.List.{List, [], _∷_}
 use lib.Dec.{ltb, eqb}
 use lib.ListN.{length, take, drop}
-use borrow.Author.Tests.{lt-ltb, le-ltb, eq-eqb, ne-eqb}
 use mir.Val.{boolByte}
+use borrow.Author.Tests.{lt-ltb, le-ltb, eq-eqb, ne-eqb}
 use Rattle.layout.specs.Bytes.{Bytes, word-at}
 use Rattle.layout.specs.Entry.{code, code-of, length-of, kind-of, entry-at, lengths}
 use Rattle.layout.specs.Order.{order}
@@ -55,6 +55,7 @@ payload-nested : (f : Bytes → Bytes → Bool) (c : ℕ) (a b : Bytes) → c �
 unfolding same-payload kind-of
 payload-nested f c a b h = rw h
 
+-- A test that the code negates.
 not-true : (g : Bool) → not g ≡ true → g ≡ false
 not-true true h = sym h
 not-true false h = refl

@@ -18,6 +18,7 @@ use Rattle.layout.specs.declared.util.Header.{Header}
 use Rattle.layout.specs.declared.util.Header.the-variants.{Array, Object, Scalar, Refused}
 use Rattle.values.specs.declared.value.MemberAt.{MemberAt}
 
+-- Equal bytes, by the layout's comparison.
 abbrev pub is-equal : Ordering → Bool
 is-equal Less = false
 is-equal Equal = true
@@ -30,7 +31,7 @@ same-bytes a b = is-equal (order a b)
 unfoldable pub payload-at : Bytes → ℕ → ℕ → Bytes
 payload-at s i p = take (length-of (entry-at s i)) (drop p s)
 
--- Items: of one kind, with equal payloads; `f` tells whether those of containers have equal values.
+-- Items: of one kind, with equal payloads; `f` tells whether containers have equal values.
 unfoldable pub same-kind : Kind → Kind → Bool
 same-kind k l = eqb (code k) (code l)
 
@@ -71,7 +72,7 @@ next s n m =
       value = m .value + length-of (entry-at s (n + m .index));
     }
 
--- `k` members, from `m` on; the first; and all of them.
+-- `k` members, from `m` on; where the first one stands; and all of them.
 unfoldable pub members-from : Bytes → ℕ → MemberAt → ℕ → List Member
 members-from s n m zero = []
 members-from s n m (suc k) = member-at s n m ∷ members-from s n (next s n m) k
@@ -82,19 +83,20 @@ first s n = record { index = 0; name = 4 + 4 * (n + n); value = 4 + 4 * (n + n) 
 abbrev pub members : Bytes → ℕ → List Member
 members s n = members-from s n (first s n) n
 
--- Places that a sum of lengths can have reached, so that the next sum fits the machine's word.
+-- Places that sums of lengths can have reached by member `m`, so that the next sum fits the machine's word.
 abbrev pub Near : MemberAt → Type 0
 Near m = (m .name ≤ 2 ^ 58 + 2 ^ 28 * m .index) × (m .value ≤ 2 ^ 58 + 2 ^ 28 * m .index)
 
+-- Members are alike: equal names, and equal values.
 unfoldable pub like : (Bytes → Bytes → Bool) → Member → Member → Bool
 like f m n = same-bytes (m .name) (n .name) && same-part f (m .value) (n .value)
 
--- How many are like `m`.
+-- How many of them are like `m`.
 unfoldable pub likes : (Bytes → Bytes → Bool) → Member → List Member → ℕ
 likes f m [] = 0
 likes f m (n ∷ ns) = cond (like f m n) 1 0 + likes f m ns
 
--- Of as many members: each has fewer like it behind it than there are in the other object.
+-- Objects of as many members: each member of the one has fewer like it behind it than there are in the other.
 unfoldable pub same-members : (Bytes → Bytes → Bool) → List Member → List Member → Bool
 same-members f [] ns = true
 same-members f (m ∷ ms) ns = ltb (likes f m ms) (likes f m ns) && same-members f ms ns

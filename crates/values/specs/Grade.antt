@@ -9,8 +9,8 @@ use Rattle.values.specs.Value.{EqualValues}
 use Rattle.values.specs.declared.grade.Grade.{Grade}
 use Rattle.values.specs.declared.grade.Grade.the-variants.{Right, SameValue, OtherValue, Damaged, NoKey}
 
--- `Graded g c e` is what the grade `g` says of the candidate's bytes `c` and the expected bytes `e`. Of any two just one grade is
--- true: `graded-one` of proofs/Grades.antt, and that there is one is the promise of `grade_record`.
+-- What the grade `g` says of the candidate's bytes `c` and the expected bytes `e`. Of any two records just one grade is true: that
+-- there is one is the promise of `grade_record`, and that there is no second is `graded-one` of proofs/Grades.antt.
 abbrev pub Graded : Grade → Bytes → Bytes → Type 0
 Graded Right c e = (t : Tree) × (read c ≡ gives t) × (c ≡ e)
 Graded SameValue c e = (c ≡ e → ⊥) × EqualValues c e

@@ -1,4 +1,5 @@
--- Records of equal values: document 01, "The value of a number or extension is ..", which is the layout's `Same` of trees.
+-- Records of equal values. What a value is, document 01 says from "The value of a number or extension" on; of trees the layout's
+-- `Same` says it.
 use mathlib.Core.Path.{_≡_}
 use Rattle.layout.specs.Bytes.{Bytes}
 use Rattle.layout.specs.Answer.{gives}
