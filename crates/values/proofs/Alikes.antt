@@ -10,10 +10,10 @@ use lib.Dec.{T, eqb, eqb→eq}
 use lib.ListN.{length, drop, length-append}
 use lib.Seq.{drop-at}
 use borrow.Author.Tests.{eq-eqb, ne-eqb, eqb-true, eqb-false}
-use Rattle.layout.specs.Bytes.{Bytes, be32, word, word-at}
+use Rattle.layout.specs.Bytes.{Bytes, word-at}
 use Rattle.layout.specs.Entry.{code, kind-of, lengths}
 use Rattle.layout.specs.Tree.{Tree, null, boolean, number, string, extension, array, object, Items, none, item, Members, empty, member, names, kind}
-use Rattle.layout.specs.Encode.{Part, entries, payloads, name-parts, payload, item-parts, member-parts, part, scalar, record-of, encode}
+use Rattle.layout.specs.Encode.{Part, entries, payloads, name-parts, payload, item-parts, member-parts, part, scalar, encode}
 use Rattle.layout.specs.Limits.{depth, depth-items, depth-members}
 use Rattle.layout.specs.Place.{parts-at}
 use Rattle.layout.specs.Value.{Same, SameItems, SameMembers}
@@ -25,7 +25,7 @@ use Rattle.layout.proofs.Encoding.{array-header, object-header, scalar-header, 
 use Rattle.layout.proofs.Readables.{record-of-length}
 use Rattle.layout.proofs.Places.{parts-at-record, drop-parts}
 use Rattle.layout.proofs.Sounds.{both, names-at}
-use Rattle.values.specs.Alike.{same-bytes, payload-at, same-kind, same-payload, same-part, same-parts, Member, member-at, next, members-from, first, members, same-members, same-at}
+use Rattle.values.specs.Alike.{same-bytes, payload-at, same-kind, same-payload, same-part, same-parts, Member, member-at, next, members-from, first, members, same-at}
 use Rattle.values.specs.declared.value.MemberAt.{MemberAt}
 use Rattle.values.proofs.Likes.{bytes-test, listed, Tells, Told, Small, same-length, members-test}
 
@@ -72,7 +72,7 @@ by-sort G a o l (extension b) = l (extension b) refl
 by-sort G a o l (array us) = a us
 by-sort G a o l (object ns) = o ns
 
--- Leaves: equal kinds and payloads.
+-- Leaves: equal kinds and payloads. A leaf is told by both.
 
 abbrev leaf-of : Kind → Bytes → Tree
 leaf-of Null b = null
