@@ -1,7 +1,7 @@
 /*
  * JSONB records for the flight computer: the check and the edits.
  *
- * The functions are those of the static library that `rt staticlib edits` makes, target/staticlib/libedits.a, for x86-64 Linux.
+ * The functions are those of the static library that tools/library makes, target/staticlib/libedits.a, for x86-64 Linux.
  * Each is proved to end, and to answer what Keypath.antt, Concat.antt and Strip.antt of crates/edits/specs and
  * crates/builders/specs/Build.antt define (the check: crates/layout/specs/Read.antt) as a number by crates/edits/specs/C.antt, on
  * every record, path and buffer. They keep nothing between calls, take no memory but the stack, and may be called from several
@@ -94,8 +94,8 @@ uint64_t jsonb_get_by_keypath(const uint8_t *target, size_t target_length, const
 
 /*
  * Deletes what a path finds in a record, of a repeated name the first member. An empty path, and one that finds nothing, give the
- * record as it is, and so does every path in a root extension. Every container above what is deleted is written anew, its objects in byte order of the names; of names that
- * are still repeated there the first is kept.
+ * record as it is, and so does every path in a root extension. Every container above what is deleted is written anew, its objects
+ * in byte order of the names; of names that are still repeated there the first is kept.
  */
 uint64_t jsonb_delete_by_keypath(const uint8_t *target, size_t target_length, const uint8_t *path, size_t path_length,
                                  uint8_t *out, size_t out_length);
@@ -124,7 +124,7 @@ uint64_t jsonb_build_object(const uint8_t *names, size_t names_length, const uin
                             uint8_t *out, size_t out_length);
 
 /*
- * For example, the heater's limit of a table {"heater":40}:
+ * For example, the heater's limit of a table {"heater":40} (examples/c/overlay.c has more):
  *
  *     static const uint8_t path[] = {0x80, 0, 0, 1, 0x10, 0, 0, 6, 'h', 'e', 'a', 't', 'e', 'r'};
  *     uint8_t found[JSONB_ROOM];

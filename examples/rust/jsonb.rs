@@ -1,7 +1,8 @@
 //! A safe wrapper over the functions of include/jsonb.h: slices in, slices out.
 //!
-//! What the header asks of a C caller is kept by the types: a slice's pointer is never null and has as many bytes as its length says,
-//! and a buffer that is lent `&mut` overlaps no record and no path. So nothing here can be called wrongly; any bytes at all will do.
+//! What the header asks of a C caller is kept by the types: a slice's pointer is never null and has as many bytes as its length
+//! says, and a buffer that is lent `&mut` overlaps no record and no path. So nothing here can be called wrongly; any bytes at all
+//! will do.
 //!
 //! A result is the front part of the buffer that was lent. A refusal and an absence leave the buffer as it was.
 
@@ -125,7 +126,8 @@ pub fn check(record: &[u8]) -> Result<(), Refusal> {
     ending(unsafe { c::jsonb_check(record.as_ptr(), record.len()) }).map(|_| ())
 }
 
-/// What a path finds in a record, as a record of its own; `None` where it finds nothing. A path is an array record of names and indexes.
+/// What a path finds in a record, as a record of its own; `None` where it finds nothing. A path is an array record of names and
+/// indexes.
 pub fn get_by_keypath<'a>(target: &[u8], path: &[u8], out: &'a mut [u8]) -> Result<Option<&'a [u8]>, Refusal> {
     edit(c::jsonb_get_by_keypath, target, path, out)
 }

@@ -1,5 +1,5 @@
-//! A ground tool that turns one switch of a table on. An overlay takes a member's place whole: `{"switch":{"camera":true}}` over the
-//! table would drop every other switch. So the switches are looked up, overlaid by themselves, and put back.
+//! A ground tool that turns one switch of a table on. An overlay takes a member's place whole: `{"switch":{"camera":true}}` over
+//! the table would drop every other switch. So the switches are looked up, overlaid by themselves, and put back.
 
 use jsonb::Refusal;
 

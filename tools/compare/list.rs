@@ -1,6 +1,6 @@
-// The list of differences: docs/DIFFERENCES.md. In a table whose first column is `call`, a row that starts with a call in backquotes is
-// put to both sides: the third cell has the Rust's answer and the fourth ours. A row that starts with words is for the reader. What kind
-// of difference it is, is worked out from the answers, so that the list of kinds is the document itself.
+// The list of differences: docs/DIFFERENCES.md. In a table whose first column is `call`, a row that starts with a call in
+// backquotes is put to both sides: the third cell has the Rust's answer and the fourth ours. A row that starts with words is for
+// the reader. What kind of difference it is, is worked out from the answers, so that the list of kinds is the document itself.
 use std::collections::BTreeSet;
 
 use jsonb::{from_hex, number, read, Answer, Request};

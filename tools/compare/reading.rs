@@ -1,6 +1,6 @@
-// Document 01's reading of a record, "Readable and sound", rules 1 to 6 in their order, with the cause of each number. It is written
-// from the document's sentences and from neither side that is compared. The first fault gives the number; the reading goes on behind
-// it, since the Rust may pass a fault over and meet another.
+// Document 01's reading of a record, "Readable and sound", rules 1 to 6 in their order, with the cause of each number. It is
+// written from the document's sentences and from neither side that is compared. The first fault gives the number; the reading goes
+// on behind it, since the Rust may pass a fault over and meet another.
 
 pub const RECORD_LIMIT: usize = 65_536;
 pub const DEPTH_LIMIT: usize = 64;

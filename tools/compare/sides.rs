@@ -25,8 +25,8 @@ impl fmt::Display for Ours {
     }
 }
 
-/// How two answers stand to each other. `Alike`: they say the same. `Listed`: a difference of a kind that docs/DIFFERENCES.md must have.
-/// `NoCall`: the Rust has no such call. `Wrong`: what should never be.
+/// How two answers stand to each other. `Alike`: they say the same. `Listed`: a difference of a kind that docs/DIFFERENCES.md must
+/// have. `NoCall`: the Rust has no such call. `Wrong`: what should never be.
 #[derive(Clone, PartialEq, Eq, PartialOrd, Ord, Debug)]
 pub enum Verdict {
     Alike(&'static str),

@@ -7,8 +7,9 @@ use std::panic::{catch_unwind, AssertUnwindSafe};
 use crate::core::{ArrayBuilder, ArrayIterator, JsonbItem, ObjectBuilder};
 use crate::{to_hex, Edit, Error, KeyPath, Memory, Number, RawJsonb, Request};
 
-/// `NoCall`: the Rust has no such call, since what is given is no path, no array or no list of names. `Memory`: it asked for more than
-/// 1 GiB at once, which ends the process where it is refused. `StandIn`: a stand-in was reached, so this is no answer of the Rust's.
+/// `NoCall`: the Rust has no such call, since what is given is no path, no array or no list of names. `Memory`: it asked for more
+/// than 1 GiB at once, which ends the process where it is refused. `StandIn`: a stand-in was reached, so this is no answer of the
+/// Rust's.
 #[derive(Clone, PartialEq, Debug)]
 pub enum Answer {
     Result(Vec<u8>),
@@ -146,8 +147,8 @@ pub fn number(payload: &[u8]) -> Answer {
 
 // ---- paths
 
-/// The steps of a path record: its strings are names, its integers of any listed width within 32 bits are indexes. Written apart from
-/// the Rust, which has no path records.
+/// The steps of a path record: its strings are names, its integers of any listed width within 32 bits are indexes. Written apart
+/// from the Rust, which has no path records.
 pub fn steps(record: &[u8], quoted: bool) -> Option<Vec<KeyPath<'_>>> {
     let word = |at: usize| Some(u32::from_be_bytes(record.get(at..at + 4)?.try_into().unwrap()));
     let header = word(0)?;

@@ -1,8 +1,8 @@
-// The crate root: stands where lib.rs, the mod.rs files and the other missing files of databendlabs/jsonb would stand. Every `mod x;`
-// below is a file of the Rust, copied unmodified from the sources given to ./build, but for `calls`, `memory` and `request`.
+// The crate root: stands where lib.rs, the mod.rs files and the other missing files of databendlabs/jsonb would stand. Every `mod
+// x;` below is a file of the Rust, copied unmodified from the sources given to ./build, but for `calls`, `memory` and `request`.
 //
-// What stands in for a missing function panics with a text of its own, so that no answer of a stand-in is taken for the Rust's. Only
-// the error type does real work.
+// What stands in for a missing function panics with a text of its own, so that no answer of a stand-in is taken for the Rust's.
+// Only the error type does real work.
 #![allow(dead_code, unused_imports, unused_variables, private_interfaces, private_bounds, clippy::all)]
 
 mod core {

@@ -1,6 +1,6 @@
 // The client's Rust answers lines, a line for a line: the calls of `Request`, and beside them `quoted CALL`, the same with
-// `QuotedName` for `Name`, `read R`, its deep reader, and `number PAYLOAD`, its number reader and then its writer. An empty line and
-// one that starts with # are copied.
+// `QuotedName` for `Name`, `read R`, its deep reader, and `number PAYLOAD`, its number reader and then its writer. An empty line
+// and one that starts with # are copied.
 use std::io::{BufRead, BufWriter, Write};
 
 use jsonb::{answer, from_hex, number, read, Answer, Memory, Request};
