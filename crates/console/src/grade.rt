@@ -21,7 +21,7 @@ fn say_damaged(refusal: Refusal) {
 }
 
 // Against a record that is not readable nothing can be graded: then the line is at fault, and not the candidate.
-fn say_no_key(refusal: Refusal) {
+fn say_ungraded(refusal: Refusal) {
     say(b"? the expected record is ");
     say_refused(refusal);
 }
@@ -32,7 +32,7 @@ fn say_grade(grade: Grade) {
         Grade::SameValue => say(b"other bytes, same value\n"),
         Grade::OtherValue => say(b"other value\n"),
         Grade::Damaged(refusal) => say_damaged(refusal),
-        Grade::NoKey(refusal) => say_no_key(refusal),
+        Grade::Ungraded(refusal) => say_ungraded(refusal),
     }
 }
 

@@ -11,7 +11,7 @@ use Rattle.layout.specs.Tree.{Tree, null, boolean, number, object, Members, emp
 use Rattle.layout.specs.Read.{read}
 use Rattle.layout.specs.declared.refusal.Refusal.the-variants.{Short, Layout}
 use Rattle.values.specs.Grade.{Graded}
-use Rattle.values.specs.declared.grade.Grade.the-variants.{Right, SameValue, OtherValue, Damaged, NoKey}
+use Rattle.values.specs.declared.grade.Grade.the-variants.{Right, SameValue, OtherValue, Damaged, Ungraded}
 use Rattle.values.proofs.Likes.{same-length}
 use Rattle.values.proofs.Alikes.{object-same}
 
@@ -93,6 +93,6 @@ no-record : Graded (Damaged Short) (0x40 ∷ 0 ∷ 0 ∷ []) record-A
 unfolding read
 no-record = (object (member a one empty), refl, refl)
 
-nothing-expected : Graded (NoKey Layout) record-A (0x80 ∷ 0 ∷ 0 ∷ 0 ∷ 0 ∷ [])
+nothing-expected : Graded (Ungraded Layout) record-A (0x80 ∷ 0 ∷ 0 ∷ 0 ∷ 0 ∷ [])
 unfolding read
 nothing-expected = refl

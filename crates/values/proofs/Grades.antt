@@ -29,7 +29,7 @@ use Rattle.values.specs.Alike.{same-bytes, same-at}
 use Rattle.values.specs.Value.{EqualValues}
 use Rattle.values.specs.Grade.{Graded}
 use Rattle.values.specs.declared.grade.Grade.{Grade}
-use Rattle.values.specs.declared.grade.Grade.the-variants.{Right, SameValue, OtherValue, Damaged, NoKey}
+use Rattle.values.specs.declared.grade.Grade.the-variants.{Right, SameValue, OtherValue, Damaged, Ungraded}
 use Rattle.values.proofs.Likes.{bytes-test}
 use Rattle.values.proofs.Alikes.{record-test}
 
@@ -68,13 +68,13 @@ module _ (a b : Bytes) (k : Check) (hk : k ≡ checked (read a)) where
 
 -- The answers of `grade_record`.
 module _ (c e : Bytes) (k : Check) (hk : k ≡ checked (read e)) where
-  pub graded-no-key : (r : Refusal) → k ≡ Refused r → Graded (NoKey r) c e
-  graded-no-key r q = refused-as (read e) k r hk q
+  pub graded-ungraded : (r : Refusal) → k ≡ Refused r → Graded (Ungraded r) c e
+  graded-ungraded r q = refused-as (read e) k r hk q
 
-  module _ (key : k ≡ Readable) (d : Check) (hd : d ≡ checked (read c)) where
+  module _ (expected : k ≡ Readable) (d : Check) (hd : d ≡ checked (read c)) where
     pub graded-damaged : (r : Refusal) → d ≡ Refused r → Graded (Damaged r) c e
     graded-damaged r q =
-        let u = readable-gives (read e) k hk key in
+        let u = readable-gives (read e) k hk expected in
         (u .0, u .1, refused-as (read c) d r hd q)
 
     module _ (good : d ≡ Readable) (s : Bool) (hs : s ≡ same-bytes c e) where
@@ -90,7 +90,7 @@ module _ (c e : Bytes) (k : Check) (hk : k ≡ checked (read e)) where
         pub graded-sound : (x y : Bool) → x ≡ sound-at 64 c → y ≡ sound-at 64 e → (x && y) ≡ true → Graded OtherValue c e
         graded-sound x y hx hy q =
             let t = readable-gives (read c) d hd good in
-            let u = readable-gives (read e) k hk key in
+            let u = readable-gives (read e) k hk expected in
             let w = and-both x y q in
             let sc = sound-value c (t .0) oc (t .1) (sym hx ∙ w .0) in
             let se = sound-value e (u .0) oe (u .1) (sym hy ∙ w .1) in
@@ -100,13 +100,13 @@ module _ (c e : Bytes) (k : Check) (hk : k ≡ checked (read e)) where
           pub graded-same : g ≡ true → Graded SameValue c e
           graded-same q =
               let t = readable-gives (read c) d hd good in
-              let u = readable-gives (read e) k hk key in
+              let u = readable-gives (read e) k hk expected in
               (differ, (t .0, u .0, t .1, u .1, same-value c e (t .0) (u .0) oc oe (t .1) (u .1) .0 (subst T (sym q ∙ hg) tt)))
 
           pub graded-other : g ≡ false → Graded OtherValue c e
           graded-other q =
               let t = readable-gives (read c) d hd good in
-              let u = readable-gives (read e) k hk key in
+              let u = readable-gives (read e) k hk expected in
               (t .0, u .0, t .1, u .1, λ h. subst T (sym hg ∙ q) (same-value c e (t .0) (u .0) oc oe (t .1) (u .1) .1 h))
 
 -- No two grades are both true.
@@ -122,8 +122,8 @@ module _ (c e : Bytes) where
       let u : q .1 ≡ p .1 .1 = gives-inj (sym (q .3) ∙ p .1 .3) in
       q .4 (rw (t, u) (p .1 .4))
 
-  right-no-key : (r : Refusal) → Graded Right c e → Graded (NoKey r) c e → ⊥
-  right-no-key r p q = refused-gives (sym q ∙ ap read (sym (p .2)) ∙ p .1)
+  right-ungraded : (r : Refusal) → Graded Right c e → Graded (Ungraded r) c e → ⊥
+  right-ungraded r p q = refused-gives (sym q ∙ ap read (sym (p .2)) ∙ p .1)
 
 refused-inj : (r x : Refusal) → _≡_ {A = Answer Tree} (refused r) (refused x) → r ≡ x
 refused-inj r x h = cc
@@ -134,24 +134,24 @@ graded-one Right Right c e p q = refl
 graded-one Right SameValue c e p q = absurd (q .0 (p .2))
 graded-one Right OtherValue c e p q = absurd (right-other c e p q)
 graded-one Right (Damaged r) c e p q = refused-gives (sym (q .2) ∙ p .1)
-graded-one Right (NoKey r) c e p q = absurd (right-no-key c e r p q)
+graded-one Right (Ungraded r) c e p q = absurd (right-ungraded c e r p q)
 graded-one SameValue Right c e p q = absurd (p .0 (q .2))
 graded-one SameValue SameValue c e p q = refl
 graded-one SameValue OtherValue c e p q = absurd (same-other c e p q)
 graded-one SameValue (Damaged r) c e p q = refused-gives (sym (q .2) ∙ p .1 .2)
-graded-one SameValue (NoKey r) c e p q = refused-gives (sym q ∙ p .1 .3)
+graded-one SameValue (Ungraded r) c e p q = refused-gives (sym q ∙ p .1 .3)
 graded-one OtherValue Right c e p q = absurd (right-other c e q p)
 graded-one OtherValue SameValue c e p q = absurd (same-other c e q p)
 graded-one OtherValue OtherValue c e p q = refl
 graded-one OtherValue (Damaged r) c e p q = refused-gives (sym (q .2) ∙ p .2)
-graded-one OtherValue (NoKey r) c e p q = refused-gives (sym q ∙ p .3)
+graded-one OtherValue (Ungraded r) c e p q = refused-gives (sym q ∙ p .3)
 graded-one (Damaged r) Right c e p q = refused-gives (sym (p .2) ∙ q .1)
 graded-one (Damaged r) SameValue c e p q = refused-gives (sym (p .2) ∙ q .1 .2)
 graded-one (Damaged r) OtherValue c e p q = refused-gives (sym (p .2) ∙ q .2)
 graded-one (Damaged r) (Damaged x) c e p q = ap Damaged (refused-inj r x (sym (p .2) ∙ q .2))
-graded-one (Damaged r) (NoKey x) c e p q = refused-gives (sym q ∙ p .1)
-graded-one (NoKey r) Right c e p q = absurd (right-no-key c e r q p)
-graded-one (NoKey r) SameValue c e p q = refused-gives (sym p ∙ q .1 .3)
-graded-one (NoKey r) OtherValue c e p q = refused-gives (sym p ∙ q .3)
-graded-one (NoKey r) (Damaged x) c e p q = refused-gives (sym p ∙ q .1)
-graded-one (NoKey r) (NoKey x) c e p q = ap NoKey (refused-inj r x (sym p ∙ q))
+graded-one (Damaged r) (Ungraded x) c e p q = refused-gives (sym q ∙ p .1)
+graded-one (Ungraded r) Right c e p q = absurd (right-ungraded c e r q p)
+graded-one (Ungraded r) SameValue c e p q = refused-gives (sym p ∙ q .1 .3)
+graded-one (Ungraded r) OtherValue c e p q = refused-gives (sym p ∙ q .3)
+graded-one (Ungraded r) (Damaged x) c e p q = refused-gives (sym p ∙ q .1)
+graded-one (Ungraded r) (Ungraded x) c e p q = ap Ungraded (refused-inj r x (sym p ∙ q))

@@ -18,7 +18,7 @@ pub enum Grade {
     // No readable record.
     Damaged(Refusal),
     // The expected record is not readable, so nothing can be graded against it.
-    NoKey(Refusal),
+    Ungraded(Refusal),
 }
 
 // The grade of a candidate. The expected record is checked first, then the candidate.
@@ -26,7 +26,7 @@ pub fn grade_record(candidate: &[u8], expected: &[u8]) -> Grade
     ensures { λ r. ⌜ Graded r (now (candidate .entry)) (now (expected .entry)) ⌝ }
 {
     if let Check::Refused(refusal) = check_record(expected) {
-        return Grade::NoKey(refusal);
+        return Grade::Ungraded(refusal);
     }
     if let Check::Refused(refusal) = check_record(candidate) {
         return Grade::Damaged(refusal);

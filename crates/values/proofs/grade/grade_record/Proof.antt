@@ -2,12 +2,12 @@
 use native.Mathlib.Omega.{arith}
 use borrow.Author.Needs.{needs}
 use Rattle.layout.proofs.Words.{octets-of}
-use Rattle.values.proofs.Grades.{graded-no-key, graded-damaged, graded-right, graded-sound, graded-same, graded-other}
+use Rattle.values.proofs.Grades.{graded-ungraded, graded-damaged, graded-right, graded-sound, graded-same, graded-other}
 use Rattle.values.proofs.grade.grade_record.Statement.{statement}
 use Rattle.values.proofs.grade.grade_record.Tie as tie
 
 returns : tie.Need-returns
-returns c = graded-no-key (c .before .before .before .before .before .before .args .candidate .now) (c .before .before .before .before .before .before .args .expected .now) _ (c .before .before .before .check-record .ensures) _ (c .before .refusal .given .1)
+returns c = graded-ungraded (c .before .before .before .before .before .before .args .candidate .now) (c .before .before .before .before .before .before .args .expected .now) _ (c .before .before .before .check-record .ensures) _ (c .before .refusal .given .1)
 
 returns-2 : tie.Need-returns-2
 returns-2 c = graded-damaged (c .before .before .before .before .before .before .before .before .before .args .candidate .now) (c .before .before .before .before .before .before .before .before .before .args .expected .now) _ (c .before .before .before .before .before .before .check-record .ensures) (c .before .before .before .before .enum-told .given .1) _ (c .before .before .before .check-record2 .ensures) _ (c .before .refusal2 .given .1)
