@@ -1,5 +1,6 @@
-// The crate root: stands where lib.rs, the mod.rs files and the other missing files of databendlabs/jsonb would stand. Every `mod
-// x;` below is a file of the Rust, copied unmodified from the sources given to ./build, but for `calls`, `memory` and `request`.
+// The crate root: stands where lib.rs, the mod.rs files and the other missing files of databendlabs/jsonb would stand. Every module
+// below that has no body is a file of the Rust, copied unmodified from the sources given to ./build, but for `calls`, `memory` and
+// `request`.
 //
 // What stands in for a missing function panics with a text of its own, so that no answer of a stand-in is taken for the Rust's.
 // Only the error type does real work.
