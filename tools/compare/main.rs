@@ -61,7 +61,7 @@ fn read_list(path: &str, buffer: &mut Vec<u8>) -> List {
     for request in long_requests() {
         list.take_long(&request, buffer);
     }
-    println!("{} differences of {path} were put to both sides, {} were otherwise", list.rows, list.wrong);
+    println!("{} rows of {path} were put to both sides, {} were otherwise", list.rows, list.wrong);
     list
 }
 

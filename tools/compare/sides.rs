@@ -121,7 +121,11 @@ fn judge_refused(request: &Request, refusal: Refusal, faults: &[Fault], theirs: 
         (Refusal::Path | Refusal::Kind, Answer::NoCall(why)) => Verdict::NoCall(why),
         (Refusal::Result, Answer::Result(result)) if result.len() > RECORD_LIMIT => listed("result over 65,536 bytes"),
         (Refusal::Result, Answer::Result(result)) if depth(result) > DEPTH_LIMIT => listed("result deeper than 64"),
-        (Refusal::Buffer, Answer::Result(result)) if result.len() > request.room.unwrap_or(RECORD_LIMIT) => {
+        // 9 stands before 10: of a result that no buffer serves, 10 would be wrong.
+        (Refusal::Buffer, Answer::Result(result)) if result.len() > RECORD_LIMIT || depth(result) > DEPTH_LIMIT => {
+            Verdict::Wrong("10 in the place of 9")
+        }
+        (Refusal::Buffer, Answer::Result(result)) if result.len() > request.room.unwrap_or(port::ROOM) => {
             listed("buffer too short")
         }
         _ => Verdict::Wrong("the port refuses and the Rust does not"),

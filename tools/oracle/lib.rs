@@ -2,8 +2,8 @@
 // below that has no body is a file of the Rust, copied unmodified from the sources given to ./build, but for `calls`, `memory` and
 // `request`.
 //
-// What stands in for a missing function panics with a text of its own, so that no answer of a stand-in is taken for the Rust's.
-// Only the error type does real work.
+// What stands in for a missing function panics with a text of its own, so that no answer of a stand-in is taken for the Rust's. The
+// error type does real work; the constants below have made-up values, and no call that is made here reads them.
 #![allow(dead_code, unused_imports, unused_variables, private_interfaces, private_bounds, clippy::all)]
 
 mod core {
