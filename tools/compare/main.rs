@@ -13,6 +13,7 @@ mod random;
 mod reading;
 mod recording;
 mod sides;
+mod tree;
 
 use std::collections::BTreeMap;
 use std::io::IsTerminal;
@@ -20,10 +21,11 @@ use std::process::exit;
 
 use jsonb::{Edit, Memory, Request};
 use list::List;
-use random::{nested, request, some_request, Random, Tree};
+use random::{some_request, Random};
 use reading::{DEPTH_LIMIT, RECORD_LIMIT};
 use recording::record_calls;
 use sides::{compare, Verdict};
+use tree::{nested, request, Tree};
 
 #[global_allocator]
 static MEMORY: Memory = Memory;

@@ -5,8 +5,9 @@ use std::io::{BufWriter, Result, Write};
 
 use jsonb::{answer, Answer, Edit, Error, Request};
 
-use crate::random::{nested, request, some_request, Random, Tree};
+use crate::random::{some_request, Random};
 use crate::reading::{depth, faults, DEPTH_LIMIT, RECORD_LIMIT};
+use crate::tree::{nested, request, Tree};
 
 // A random call of more bytes is left out, so that the list stays short; the longest records are among the limits.
 const SIZE: usize = 1_000;
