@@ -1,11 +1,12 @@
 -- The tests of names: strings, equal, among others, distinct.
-use Prim.Native.Nat.{ℕ, _+_, _-_, _<_, _≤_}
+use Prim.Native.Nat.{ℕ, suc, _+_, _-_, _<_, _≤_}
 use native.Mathlib.Omega.{arith}
-use native.Mathlib.Nat.{sub-zero}
+use native.Mathlib.Nat.{sub-zero, le-refl}
 use mathlib.Core.Path.{_≡_, refl, ap, sym, _∙_}
 use mathlib.Core.Bool.{Bool, true, false, _&&_}
 use mathlib.Core.List.{List, [], _∷_}
-use lib.ListN.{length, take, drop}
+use lib.ListN.{length, take, drop, getD, drop-of-length-le}
+use lib.Seq.{drop-cons}
 use borrow.Author.Tests.{eq-eqb, ne-eqb}
 use Rattle.layout.specs.Bytes.{Bytes}
 use Rattle.layout.specs.Entry.{code-of, length-of, entry-at}
@@ -14,6 +15,7 @@ use Rattle.layout.specs.Place.{parts-at, rising-from, rising-parts}
 use Rattle.layout.specs.Order.{order, before, rising}
 use Rattle.layout.specs.declared.order.Ordering.{Ordering}
 use Rattle.layout.specs.declared.order.Ordering.the-variants.{Less, Equal, Greater}
+use Rattle.layout.proofs.Values.{≺-irrefl}
 use Rattle.layout.proofs.Orders.{Says, says}
 use Rattle.layout.proofs.Checks.{one-less, parts-step}
 use Rattle.layout.proofs.Sounds.{rising-test}
@@ -37,18 +39,39 @@ module _ (s : Bytes) (n i : ℕ) (inv : strings-at s 0 n ≡ strings-at s i (n -
   strings-end h = let z : n - i ≡ 0 = omega arith in rw (inv, z)
 
 -- Equal names.
-pub same-lengths : (a b : Bytes) → (length a ≡ length b → ⊥) → false ≡ same a b
+pub same-unlike : (a b : Bytes) → (a ≡ b → ⊥) → false ≡ same a b
 unfolding same
-same-lengths a b h = go (order a b) (says a b)
+same-unlike a b h = go (order a b) (says a b)
   where
     go : (o : Ordering) → Says a b o → false ≡ by o false true false
     go Less q = refl
-    go Equal q = absurd (h (ap length q))
+    go Equal q = absurd (h q)
     go Greater q = refl
 
-pub same-by : (a b : Bytes) (o p : Ordering) → o ≡ order a b → o ≡ p → by p false true false ≡ same a b
+pub same-alike : (a b : Bytes) → a ≡ b → true ≡ same a b
 unfolding same
-same-by a b o p e q = rw (← e, q)
+same-alike a b h = go (order a b) (says a b)
+  where
+    go : (o : Ordering) → Says a b o → true ≡ by o false true false
+    go Less q = absurd (≺-irrefl b (rw h at q))
+    go Equal q = refl
+    go Greater q = absurd (≺-irrefl b (rw h at q))
+
+-- Names of equal lengths, from their ends on.
+module _ (a b : Bytes) (e : length a ≡ length b) where
+  pub ends-alike : drop (length a) a ≡ drop (length a) b
+  ends-alike =
+      let l : length b ≤ length a = omega (arith, e) in
+      drop-of-length-le a (le-refl _) ∙ sym (drop-of-length-le b l)
+
+  pub rests-alike : (i : ℕ) → 0 < i → i ≤ length a → drop i a ≡ drop i b → getD a (i - 1) 0 ≡ getD b (i - 1) 0
+      → drop (i - 1) a ≡ drop (i - 1) b
+  rests-alike i p l h q =
+      let k : suc (i - 1) ≡ i = omega arith in
+      rw (drop-cons a (i - 1) 0 (omega arith), drop-cons b (i - 1) 0 (omega (arith, e)), q, k, h)
+
+pub whole : (a b : Bytes) (i : ℕ) → drop i a ≡ drop i b → i ≡ 0 → a ≡ b
+whole a b i h e = rw e at h
 
 -- Among others.
 module _ (name s : Bytes) (from start n i p : ℕ)

@@ -32,36 +32,37 @@ module _ (g : Bool) (l n : Bytes) where
   unfolding over
   over-later r e h = rw (h, e)
 
+-- Whether a member takes the place of the best so far.
 module _ (key : MemberAt → Bytes) (best : Found) (m : MemberAt) where
-  pub better-first : best ≡ Nothing → At m ≡ better key best m
+  pub better-first : best ≡ Nothing → better key best m ≡ cond true (At m) best
   unfolding better
   better-first e = rw e
 
-  module _ (b : MemberAt) (e : best ≡ At b) (n k : Bytes) (hn : n ≡ key m) (hk : k ≡ key b) (g : Bool) (hg : g ≡ before n k) where
-    pub better-new : g ≡ true → At m ≡ better key best m
-    unfolding better
-    better-new t = rw (e, ← hn, ← hk, ← hg, t)
+  pub better-than : (b : MemberAt) → best ≡ At b → (n k : Bytes) → n ≡ key m → k ≡ key b → (g : Bool) → g ≡ before n k
+      → better key best m ≡ cond g (At m) best
+  unfolding better
+  better-than b e n k hn hk g hg = rw (e, hg, hn, hk)
 
-    pub better-old : g ≡ false → At b ≡ better key best m
-    unfolding better
-    better-old t = rw (e, ← hn, ← hk, ← hg, t)
+  module _ (last : Bound) (g : Bool) where
+    pub turn-left-out : g ≡ false → turn key last g best m ≡ cond false (At m) best
+    unfolding turn
+    turn-left-out e = rw e
 
-  module _ (last : Bound) (n : Bytes) (hn : n ≡ key m) (g : Bool) (hg : g ≡ over last n) where
-    pub step-over : (r : Found) → g ≡ true → r ≡ better key best m → r ≡ step key last best m
-    unfolding step
-    step-over r t h = rw (← hn, ← hg, t) h
+    module _ (e : g ≡ true) (n : Bytes) (hn : n ≡ key m) (o : Bool) (ho : o ≡ over last n) where
+      pub turn-over : o ≡ true → (r : Bool) → better key best m ≡ cond r (At m) best → turn key last g best m ≡ cond r (At m) best
+      unfolding turn step
+      turn-over t r h = rw (e, ← hn, ← ho, t) h
 
-    pub step-under : g ≡ false → best ≡ step key last best m
-    unfolding step
-    step-under t = rw (← hn, ← hg, t)
+      pub turn-under : o ≡ false → turn key last g best m ≡ cond false (At m) best
+      unfolding turn step
+      turn-under t = rw (e, ← hn, ← ho, t)
 
-  pub turn-searched : (last : Bound) (g : Bool) (r : Found) → g ≡ true → r ≡ step key last best m → r ≡ turn key last g best m
-  unfolding turn
-  turn-searched last g r t h = rw t h
+    module _ (next : Found) (r : Bool) (h : turn key last g best m ≡ cond r (At m) best) where
+      pub taken-on : r ≡ true → next ≡ At m → next ≡ turn key last g best m
+      taken-on t k = rw (k, h, t)
 
-  pub turn-left-out : (last : Bound) (g : Bool) → g ≡ false → best ≡ turn key last g best m
-  unfolding turn
-  turn-left-out last g t = rw t
+      pub passed-on : r ≡ false → next ≡ best → next ≡ turn key last g best m
+      passed-on t k = rw (k, h, t)
 
 module _ (k : Kept) (i : ℕ) (m : MemberAt) where
   pub kept-always : k ≡ All → true ≡ is-kept k i m

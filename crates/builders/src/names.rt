@@ -3,8 +3,6 @@ use layout::constants::STRING_CODE;
 use layout::jentry::payload_len;
 use layout::jentry::read_jentry;
 use layout::jentry::type_code;
-use layout::order::Ordering;
-use layout::order::compare;
 use layout::sound::is_rising;
 use layout::util::slice;
 ghost use mathlib.Core.Path.{_≡_};
@@ -28,18 +26,22 @@ pub(crate) fn are_strings(s: &[u8], n: usize) -> bool
     true
 }
 
-// Whether two names are equal; unequal lengths tell it without a look at the bytes.
+// Whether two names are equal. Unequal lengths tell it without a look at the bytes, and names of one table differ at their ends
+// more often than at their fronts.
 pub fn is_same(a: &[u8], b: &[u8]) -> bool
     ensures { λ r. ⌜ r ≡ same (now (a .entry)) (now (b .entry)) ⌝ }
 {
     if a.len() != b.len() {
         return false;
     }
-    match compare(a, b) {
-        Ordering::Less => false,
-        Ordering::Equal => true,
-        Ordering::Greater => false,
+    let mut i = a.len();
+    while 0 < i {
+        i -= 1;
+        if a[i] != b[i] {
+            return false;
+        }
     }
+    true
 }
 
 // Whether a name is among those from entry `from` on, the first of which stands at `start`.

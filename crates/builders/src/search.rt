@@ -10,9 +10,10 @@ use layout::util::slice;
 use layout::writer::copy;
 use layout::writer::put_u32;
 ghost use mathlib.Core.Path.{_≡_};
+ghost use mathlib.Core.Bool.{cond};
 ghost use Prim.Native.Nat.{_+_, _^_, _<_};
 ghost use Rattle.builders.specs.Search.{«bytes-at» as bytesAt, «member-at» as memberAt, «members-at» as membersAt};
-ghost use Rattle.builders.specs.Search.{bound, over, better, step, turn, least, sorted};
+ghost use Rattle.builders.specs.Search.{bound, over, better, turn, least, sorted};
 ghost use Rattle.builders.specs.Search.{«is-kept» as isKept, «kept-of» as keptOf};
 ghost use Rattle.builders.specs.Search.{«name-in» as nameIn, «value-in» as valueIn};
 ghost use Rattle.builders.specs.Weave.{behind, «own-entry» as ownEntry, stored, woven};
@@ -84,19 +85,14 @@ fn is_over(is_first: bool, last: &[u8], name: &[u8]) -> bool
     is_before(last, name)
 }
 
-// The one with the lesser name; of equal names the earlier stays.
-fn better_of(keys: &[u8], best: Found, member: MemberAt) -> Found
-    ensures { λ r. ⌜ r ≡ better (nameIn (now (keys .entry))) best member ⌝ }
+// Whether a member has a lesser name than the best so far; of equal names the earlier stays.
+fn is_better(keys: &[u8], best: Found, member: MemberAt) -> bool
+    ensures { λ r. ⌜ better (nameIn (now (keys .entry))) best member ≡ cond r (Found.At member) best ⌝ }
 {
-    match best {
-        Found::Nothing => Found::At(member),
-        Found::At(other) => {
-            if is_before(payload_at(keys, member.key), payload_at(keys, other.key)) {
-                return Found::At(member);
-            }
-            best
-        }
-    }
+    let Found::At(other) = best else {
+        return true;
+    };
+    is_before(payload_at(keys, member.key), payload_at(keys, other.key))
 }
 
 // Whether the member behind `i` others is searched.
@@ -110,31 +106,25 @@ pub fn is_kept(kept: Kept, i: usize, member: MemberAt) -> bool
     }
 }
 
-// The better of the best so far and a member, where the member's name comes behind the last.
-fn step_of(keys: &[u8], is_first: bool, last: &[u8], best: Found, member: MemberAt) -> Found
-    ensures { λ r. ⌜ r ≡ step (nameIn (now (keys .entry))) (bound «is_first» (now (last .entry))) best member ⌝ }
-{
-    if is_over(is_first, last, payload_at(keys, member.key)) {
-        return better_of(keys, best, member);
-    }
-    best
-}
-
-// The step that the search takes at a member: none where it is left out.
-fn turn_of(
+// Whether a member is taken for the best so far: where it is searched, and its name comes behind the last and before the best's.
+fn is_taken(
     keys: &[u8],
     is_searched: bool,
     is_first: bool,
     last: &[u8],
     best: Found,
     member: MemberAt,
-) -> Found
-    ensures { λ r. ⌜ r ≡ turn (nameIn (now (keys .entry))) (bound «is_first» (now (last .entry))) «is_searched» best member ⌝ }
+) -> bool
+    ensures { λ r. ⌜ turn (nameIn (now (keys .entry))) (bound «is_first» (now (last .entry))) «is_searched» best member
+        ≡ cond r (Found.At member) best ⌝ }
 {
-    if is_searched {
-        return step_of(keys, is_first, last, best, member);
+    if !is_searched {
+        return false;
     }
-    best
+    if is_over(is_first, last, payload_at(keys, member.key)) {
+        return is_better(keys, best, member);
+    }
+    false
 }
 
 // Of `count` members, those left out aside, the first with the least name behind the last one taken.
@@ -157,7 +147,9 @@ pub fn next_member(
     let mut i = 0;
     while i < count {
         let member = read_member(keys, vals, at);
-        best = turn_of(keys, is_kept(kept, i, member), is_first, last, best, member);
+        if is_taken(keys, is_kept(kept, i, member), is_first, last, best, member) {
+            best = Found::At(member);
+        }
         at = Places {
             key_jentry: at.key_jentry + JENTRY_SIZE,
             val_jentry: at.val_jentry + JENTRY_SIZE,

@@ -2,11 +2,12 @@
 use Prim.Native.Nat.{_+_, _-_, _*_, _^_, _≤_}
 use native.Mathlib.Omega.{arith}
 use mathlib.Core.Path.{_≡_, sym, _∙_}
+use mathlib.Core.Logic.{⊎-elim}
 use borrow.Author.Needs.{needs}
 use Rattle.layout.proofs.Fields.{length-lt}
 use Rattle.builders.specs.Search.{name-in, bound, least, members-at, kept-of}
 use Rattle.builders.specs.declared.search.Found.the-variants.{Nothing}
-use Rattle.builders.proofs.Steps.{search-starts, search-turns, search-ends}
+use Rattle.builders.proofs.Steps.{taken-on, passed-on, search-starts, search-turns, search-ends}
 use Rattle.builders.proofs.search.next_member.Statement.{statement}
 use Rattle.builders.proofs.search.next_member.Tie as tie
 
@@ -28,13 +29,16 @@ loop-holds c = (omega arith, omega arith, omega arith, omega arith, omega arith,
 
 loop-again : tie.Need-loop-again Inv-loop μ-loop
 loop-again c =
-    let l = c .before .before .before .before .before .before .before .before .before .before in (
+    let l = c .before .before .before .before .before .before .before .before .before .before .before in
+    let m = c .before .before .before .before .before .before .before .before .before in
+    let k = c .before .before .before .before .before .before .before in (
       omega arith,
       omega arith,
       omega arith,
-      omega (arith, c .before .before .before .payload-len .ensures, length-lt (c .before .before .before .before .before .before .before .before .read-member .result .key .jentry)),
-      omega (arith, c .before .payload-len2 .ensures, length-lt (c .before .before .before .before .before .before .before .before .read-member .result .val .jentry)),
-      l .loop .inv .5 ∙ search-turns _ _ _ _ _ _ _ _ _ _ _ _ _ (c .before .before .before .before .before .before .before .before .before .loop-test .taken) (c .before .before .before .before .before .before .before .before .read-member .ensures) (c .before .before .before .before .before .before .before .is-kept .ensures) (c .before .before .before .before .before .before .turn-of .ensures)
+      omega (arith, c .before .before .before .payload-len .ensures, length-lt (m .read-member .result .key .jentry)),
+      omega (arith, c .before .payload-len2 .ensures, length-lt (m .read-member .result .val .jentry)),
+      l .loop .inv .5 ∙ search-turns _ _ _ _ _ _ _ _ _ _ _ _ _ (c .before .before .before .before .before .before .before .before .before .before .loop-test .taken) (m .read-member .ensures) (c .before .before .before .before .before .before .before .before .is-kept .ensures)
+          (⊎-elim (λ w. taken-on _ _ _ _ _ _ _ (k .is-taken .ensures) (w .0 .taken) (w .1)) (λ w. passed-on _ _ _ _ _ _ _ (k .is-taken .ensures) (w .0 .left) (w .1)) (c .before .before .before .before .before .before .if1 .came))
           (c .before .before .before .payload-len .ensures) (c .before .payload-len2 .ensures),
     )
 
