@@ -2,146 +2,175 @@
 //
 //   bench times      the tables of docs/PERFORMANCE.md
 //   bench answers    no times: whether both sides give the same bytes to every call that is measured
+mod calls;
 #[path = "../../examples/rust/jsonb.rs"]
 mod port;
 mod tables;
 mod timing;
+// Shared with the comparison, which uses more of it.
+#[allow(dead_code)]
 #[path = "../compare/tree.rs"]
 mod tree;
 
+use std::hint::black_box;
 use std::process::exit;
 
-use jsonb::{Answer, Edit, KeyPath};
-use tables::{fallen_tables, names_and_values, sound_tables, Table};
-use timing::{median, Pair};
-use tree::{record, Tree};
+use calls::Call;
+use tables::{
+    calls_on, calls_on_items, calls_on_members, calls_on_search, count_searched, fallen_tables, sound_tables, texts, Table,
+};
+use timing::{median, rounds, time};
+use tree::record;
 
-/// One call that is measured.
-struct Call {
-    edit: Edit,
-    first: Vec<u8>,
-    second: Vec<u8>,
+// The Rust recurses without a limit.
+const STACK: usize = 1 << 26;
+
+const MICRO: f64 = 1e3;
+
+const MILLI: f64 = 1e6;
+
+/// How many items and members the growth is measured from and to. An object of 16,000 members is over 65,536 bytes.
+const ITEMS: [usize; 2] = [4_000, 16_000];
+
+const MEMBERS: [usize; 2] = [1_000, 4_000];
+
+/// The lengths of names that the search is measured with.
+const SEARCHED: [usize; 3] = [2, 4, 8];
+
+// ---- tables
+
+fn say_check(name: &str, bytes: &[u8], out: &mut [u8]) {
+    let mut copy = || black_box(&mut out[..bytes.len()]).copy_from_slice(black_box(bytes));
+    let times = rounds([&mut || port::check(black_box(bytes)).unwrap(), &mut copy]);
+    let of = |i: usize| median(times.iter().map(|round| round[i] / bytes.len() as f64));
+    println!("| {name} | {} | {:.2} | {:.3} |", bytes.len(), of(0), of(1));
 }
 
-impl Call {
-    fn new(edit: Edit, first: &Tree, second: &Tree) -> Call {
-        Call { edit, first: record(first), second: if edit == Edit::Strip { Vec::new() } else { record(second) } }
-    }
+/// The times of a call and of the check in it, and of the Rust.
+fn say_call(name: &str, call: &Call, out: &mut [u8]) {
+    let steps = call.steps();
+    let times = rounds([
+        &mut || {
+            black_box(call.ask_port(black_box(out)));
+        },
+        &mut || call.check(),
+        &mut || {
+            black_box(call.ask_rust(black_box(&steps)));
+        },
+    ]);
+    let of = |i: usize| median(times.iter().map(|round| round[i] / MICRO));
+    println!(
+        "| {name} | {} | {:.2} | {:.2} | {:.2} | {:.2} | {:.2} |",
+        call.edit.word(),
+        of(0),
+        of(1),
+        of(2),
+        median(times.iter().map(|round| round[0] / round[2])),
+        median(times.iter().map(|round| (round[0] - round[1]) / round[2])),
+    );
+}
 
-    fn ask_port<'a>(&self, out: &'a mut [u8]) -> Option<&'a [u8]> {
-        let (first, second) = (&self.first[..], &self.second[..]);
-        match self.edit {
-            Edit::Get => port::get_by_keypath(first, second, out).unwrap(),
-            Edit::Delete => Some(port::delete_by_keypath(first, second, out).unwrap()),
-            Edit::Concat => Some(port::concat(first, second, out).unwrap()),
-            Edit::Strip => Some(port::strip_nulls(first, out).unwrap()),
-            Edit::Append => Some(port::append(first, second, out).unwrap()),
-            Edit::Build => Some(port::build_object(first, second, out).unwrap()),
-        }
-    }
-
-    /// The steps are read beforehand: the Rust has no path records.
-    fn ask_rust(&self, steps: &[KeyPath]) -> Answer {
-        let (first, second) = (&self.first[..], &self.second[..]);
-        match self.edit {
-            Edit::Get => jsonb::get(first, steps),
-            Edit::Delete => jsonb::delete(first, steps),
-            Edit::Concat => jsonb::concat(first, second),
-            Edit::Strip => jsonb::strip(first),
-            Edit::Append => jsonb::append(first, second),
-            Edit::Build => jsonb::build(first, second),
-        }
-        .unwrap()
-    }
-
-    fn steps(&self) -> Vec<KeyPath<'_>> {
-        if self.edit.has_path() {
-            return jsonb::steps(&self.second, false).unwrap();
-        }
-        Vec::new()
-    }
-
-    /// The time of the check of what is given, which is part of the port's.
-    fn checks(&self) {
-        port::check(&self.first).unwrap();
-        if self.edit != Edit::Strip {
-            port::check(&self.second).unwrap();
+fn say_calls(tables: &[Table], out: &mut [u8]) {
+    println!("| record | call | ours, us | of it the check | the Rust, us | ours to the Rust's | the same without the check |");
+    println!("|---|---|---:|---:|---:|---:|---:|");
+    for table in tables {
+        for call in calls_on(table) {
+            say_call(table.name, &call, out);
         }
     }
 }
 
-fn calls_of(table: &Table) -> Vec<Call> {
-    let tree = &table.tree;
-    let mut calls = vec![
-        Call::new(Edit::Get, tree, &table.path),
-        Call::new(Edit::Delete, tree, &table.path),
-        Call::new(Edit::Concat, tree, &table.overlay),
-        Call::new(Edit::Strip, tree, &Tree::Null),
-    ];
-    match names_and_values(tree) {
-        Some((names, values)) => calls.push(Call::new(Edit::Build, &names, &values)),
-        None => calls.push(Call::new(Edit::Append, tree, &table.item)),
+fn say_factor(what: &str, word: &str, few: &mut dyn FnMut(), many: &mut dyn FnMut()) {
+    let times = rounds([few, many]);
+    let of = |i: usize| median(times.iter().map(|round| round[i] / MICRO));
+    println!("| {what} | {word} | {:.1} | {:.1} | {:.1} |", of(0), of(1), median(times.iter().map(|round| round[1] / round[0])));
+}
+
+fn say_growth(what: &str, counts: [usize; 2], make: fn(usize) -> Vec<Call>) {
+    let [few, many] = counts.map(make);
+    let check = |call: &Call| port::check(black_box(&call.first)).unwrap();
+    say_factor(what, "check", &mut || check(&few[0]), &mut || check(&many[0]));
+    for (few, many) in few.iter().zip(&many) {
+        let (mut small, mut large) = (vec![0; port::ROOM], vec![0; port::ROOM]);
+        let ask = |call: &Call, out: &mut [u8]| {
+            black_box(call.ask_port(black_box(out)));
+        };
+        say_factor(what, few.edit.word(), &mut || ask(few, &mut small), &mut || ask(many, &mut large));
     }
+}
+
+fn say_search(length: usize, out: &mut [u8]) {
+    for call in calls_on_search(length) {
+        let time = time(&mut || {
+            black_box(call.ask_port(black_box(out)));
+        });
+        println!("| {} | {length} | {} | {:.1} |", count_searched(length), call.edit.word(), time / MILLI);
+    }
+}
+
+fn say_times(out: &mut [u8]) {
+    let sound = sound_tables();
+    println!("### The check\n");
+    println!("| record | bytes | check, ns a byte | memcpy, ns a byte |");
+    println!("|---|---:|---:|---:|");
+    for table in &sound {
+        say_check(table.name, &record(&table.tree), out);
+    }
+    for (name, bytes) in texts() {
+        say_check(name, &bytes, out);
+    }
+    println!("\n### Sound records\n");
+    say_calls(&sound, out);
+    println!("\n### The same with names that fall\n");
+    say_calls(&fallen_tables(), out);
+    println!("\n### Growth\n");
+    println!("| record | call | few, us | many, us | factor |");
+    println!("|---|---|---:|---:|---:|");
+    say_growth("array of 4,000 and 16,000 nulls", ITEMS, calls_on_items);
+    say_growth("object of 1,000 and 4,000 members", MEMBERS, calls_on_members);
+    println!("\n### The search at its longest\n");
+    println!("| members | bytes of a name | call | ms |");
+    println!("|---:|---:|---|---:|");
+    for length in SEARCHED {
+        say_search(length, out);
+    }
+}
+
+// ---- answers
+
+fn all_calls() -> Vec<Call> {
+    let tables = sound_tables().into_iter().chain(fallen_tables());
+    let mut calls: Vec<Call> = tables.flat_map(|table| calls_on(&table)).collect();
+    calls.extend(ITEMS.into_iter().flat_map(calls_on_items));
+    calls.extend(MEMBERS.into_iter().flat_map(calls_on_members));
+    calls.extend(SEARCHED.into_iter().flat_map(calls_on_search));
     calls
 }
 
-fn is_same(call: &Call, out: &mut [u8]) -> bool {
-    let theirs = call.ask_rust(&call.steps());
-    match (call.ask_port(out), theirs) {
-        (Some(ours), Answer::Result(theirs)) => ours == theirs,
-        (None, Answer::Absent) => true,
-        _ => false,
+/// Whether the two sides agree on every call: a side that answers something else is not measured.
+fn agree(out: &mut [u8]) -> bool {
+    let calls = all_calls();
+    let wrong = calls.iter().filter(|call| !call.is_same(out)).count();
+    eprintln!("bench: {} calls, {wrong} answers differ", calls.len());
+    wrong == 0
+}
+
+fn run() -> i32 {
+    let mut out = vec![0; port::ROOM];
+    let command = std::env::args().nth(1);
+    match command.as_deref() {
+        Some("times") if agree(&mut out) => say_times(&mut out),
+        Some("answers") if agree(&mut out) => (),
+        Some("times" | "answers") => return 1,
+        _ => {
+            eprintln!("usage: bench times | answers");
+            return 2;
+        }
     }
-}
-
-fn word(edit: Edit) -> &'static str {
-    jsonb::EDITS.iter().find(|e| e.0 == edit).unwrap().1
-}
-
-fn row(call: &Call, out: &mut [u8]) {
-    let steps = call.steps();
-    let mut checks = || call.checks();
-    let share = timing::time(&mut checks);
-    let pair = Pair::time(
-        || {
-            std::hint::black_box(call.ask_port(std::hint::black_box(out)));
-        },
-        || {
-            std::hint::black_box(call.ask_rust(std::hint::black_box(&steps)));
-        },
-    );
-    println!(
-        "| {} | {:.2} | {:.2} | {:.2} | {:.2} | {:.2} |",
-        word(call.edit),
-        pair.ours / 1e3,
-        pair.theirs / 1e3,
-        pair.ratio,
-        share / 1e3,
-        (pair.ours - share) / pair.theirs
-    );
+    0
 }
 
 fn main() {
-    let mut out = vec![0; port::ROOM];
-    for (title, tables) in [("sound", sound_tables()), ("names that fall", fallen_tables())] {
-        println!("## {title}");
-        for table in &tables {
-            let bytes = record(&table.tree);
-            println!("\n{}, {} bytes\n", table.name, bytes.len());
-            let check = timing::time(&mut || port::check(&bytes).unwrap());
-            let copy = timing::time(&mut || out[..bytes.len()].copy_from_slice(std::hint::black_box(&bytes)));
-            println!("check {:.2} us, {:.3} ns a byte; memcpy {:.3} ns a byte", check / 1e3, check / bytes.len() as f64, copy / bytes.len() as f64);
-            println!("| call | ours us | Rust us | ratio | check us | rest/Rust |");
-            for call in calls_of(table) {
-                if !is_same(&call, &mut out) {
-                    println!("{}: the answers differ", word(call.edit));
-                    exit(1);
-                }
-                row(&call, &mut out);
-            }
-        }
-    }
-    let text = record(&Tree::String(vec![b'a'; 65_000]));
-    let check = timing::time(&mut || port::check(&text).unwrap());
-    println!("text {:.3} ns a byte", check / text.len() as f64);
+    let ended = std::thread::Builder::new().stack_size(STACK).spawn(run).unwrap().join();
+    exit(ended.unwrap_or(1));
 }

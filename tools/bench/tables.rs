@@ -1,21 +1,23 @@
 // The records that are measured: tables such as a board has, small, usual and full, sound ones and the same with names that fall.
+use jsonb::Edit;
+
+use crate::calls::Call;
 use crate::tree::{record, Tree};
 
 /// No record is longer.
 pub const RECORD_LIMIT: usize = 65_536;
 
-/// A record, what is asked of it, and what it is edited with: a path, an overlay for concat, and an item for append.
+/// A record, a path that leads to something in it, and what it is overlaid with.
 pub struct Table {
     pub name: &'static str,
     pub tree: Tree,
     pub path: Tree,
     pub overlay: Tree,
-    pub item: Tree,
 }
 
 // ---- values
 
-fn text(text: &str) -> Tree {
+pub fn text(text: &str) -> Tree {
     Tree::String(text.as_bytes().to_vec())
 }
 
@@ -30,16 +32,17 @@ fn flag(on: bool) -> Tree {
 /// An integer, in the fewest bytes that hold it.
 pub fn int(v: i64) -> Tree {
     if v == 0 {
-        return Tree::Number(vec![0]);
+        return Tree::Number(vec![0x00]);
     }
     let (first, width) = match v {
-        0..=0xff => (0x50, 1),
-        0..=0xffff => (0x50, 2),
-        0..=0xffff_ffff => (0x50, 4),
-        -0x80..=-1 => (0x40, 1),
-        -0x8000..=-1 => (0x40, 2),
-        -0x8000_0000..=-1 => (0x40, 4),
-        _ => (if v < 0 { 0x40 } else { 0x50 }, 8),
+        1..=0xff => (0x50, 1),
+        1..=0xffff => (0x50, 2),
+        1..=0xffff_ffff => (0x50, 4),
+        1.. => (0x50, 8),
+        -0x80.. => (0x40, 1),
+        -0x8000.. => (0x40, 2),
+        -0x8000_0000.. => (0x40, 4),
+        _ => (0x40, 8),
     };
     let mut payload = vec![first];
     payload.extend(&v.to_be_bytes()[8 - width..]);
@@ -59,7 +62,7 @@ fn object<N: AsRef<str>>(members: Vec<(N, Tree)>) -> Tree {
     Tree::Object(members)
 }
 
-// ---- tables
+// ---- what a board has
 
 fn switch(i: usize) -> Tree {
     object(vec![
@@ -70,21 +73,21 @@ fn switch(i: usize) -> Tree {
     ])
 }
 
+/// Switches in groups, nested.
 fn switches(groups: usize, each: usize) -> Tree {
     let group = |g: usize| object((0..each).map(|i| (format!("sw-{i:02}"), switch(g + i))).collect());
     object((0..groups).map(|g| (format!("group-{g:02}"), group(g))).collect())
 }
 
-fn heater(i: usize) -> Tree {
-    object(vec![
-        ("duty", if i % 4 == 0 { Tree::Null } else { int(5 * (i % 20) as i64) }),
-        ("max", float(40.5 + i as f64)),
-        ("min", float(-10.25 - i as f64)),
-        ("mode", text(if i % 2 == 0 { "auto" } else { "manual" })),
-    ])
-}
-
 fn heaters(count: usize) -> Tree {
+    let heater = |i: usize| {
+        object(vec![
+            ("duty", if i % 4 == 0 { Tree::Null } else { int(5 * (i % 20) as i64) }),
+            ("max", float(40.5 + i as f64)),
+            ("min", float(-10.25 - i as f64)),
+            ("mode", text(if i % 2 == 0 { "auto" } else { "manual" })),
+        ])
+    };
     object((0..count).map(|i| (format!("heater-{i:03}"), heater(i))).collect())
 }
 
@@ -96,7 +99,7 @@ fn pass(i: usize) -> Tree {
         ("rise", int(rise)),
         ("set", int(rise + 620)),
         ("station", text(["Svalbard", "Kiruna", "Troll", "Fairbanks"][i % 4])),
-        ("uplink", if i % 3 == 0 { Tree::Null } else { flag(true) }),
+        ("uplink", if i % 3 == 0 { Tree::Null } else { Tree::True }),
     ])
 }
 
@@ -104,13 +107,19 @@ fn passes(count: usize) -> Tree {
     Tree::Array((0..count).map(pass).collect())
 }
 
-/// A flat table of telemetry limits, as many members as its name says.
-fn limits(first: usize, count: usize, by: usize) -> Tree {
-    object((0..count).map(|i| first + by * i).map(|i| (format!("p{i:05}"), if i % 10 == 0 { Tree::Null } else { int(i as i64) })).collect())
+/// A flat table: a number under each name, every tenth null.
+pub fn limits(count: usize) -> Tree {
+    object((0..count).map(|i| (format!("p{i:04}"), if i % 10 == 0 { Tree::Null } else { int(i as i64) })).collect())
 }
 
-/// Every so many members of an object, or items of an array, with another value of the same length.
-fn overlay(tree: &Tree, by: usize) -> Tree {
+fn stations() -> Tree {
+    Tree::Array(vec![text("Svalbard uhf 437.125 MHz up"), text("Kiruna s-band 2.245 GHz down"), text("Troll"), int(9600)])
+}
+
+// ---- sizes and orders
+
+/// Every so many members of an object, or items of an array, so that an object overlaid with them keeps its length.
+fn some_of(tree: &Tree, by: usize) -> Tree {
     match tree {
         Tree::Object(members) => Tree::Object(members.iter().step_by(by).cloned().collect()),
         Tree::Array(items) => Tree::Array(items.iter().step_by(by).cloned().collect()),
@@ -118,13 +127,7 @@ fn overlay(tree: &Tree, by: usize) -> Tree {
     }
 }
 
-// ---- paths
-
-fn path(steps: Vec<Tree>) -> Tree {
-    Tree::Array(steps)
-}
-
-/// The most that a maker of tables makes of a record of at most 65,536 bytes.
+/// The most that fits into a record of 65,536 bytes.
 fn most(make: impl Fn(usize) -> Tree) -> usize {
     let (mut fits, mut not) = (1, RECORD_LIMIT);
     while fits + 1 < not {
@@ -138,18 +141,17 @@ fn most(make: impl Fn(usize) -> Tree) -> usize {
     fits
 }
 
-/// A text under a name that brings an object to exactly 65,536 bytes.
-fn filled(tree: Tree) -> Tree {
-    let Tree::Object(mut members) = tree else {
-        return tree;
+/// As many members as leave room for a text under the last name that brings the object to exactly 65,536 bytes.
+fn full(make: impl Fn(usize) -> Tree) -> Tree {
+    let with_text = |count: usize, length: usize| {
+        let Tree::Object(mut members) = make(count) else {
+            panic!("only an object is filled");
+        };
+        members.push((b"zz".to_vec(), Tree::String(vec![b'-'; length])));
+        Tree::Object(members)
     };
-    members.push((b"zz".to_vec(), Tree::String(Vec::new())));
-    while record(&Tree::Object(members.clone())).len() > RECORD_LIMIT {
-        members.remove(members.len() - 2);
-    }
-    let room = RECORD_LIMIT - record(&Tree::Object(members.clone())).len();
-    members.last_mut().unwrap().1 = Tree::String(vec![b'-'; room]);
-    Tree::Object(members)
+    let count = most(|count| with_text(count, 0));
+    with_text(count, RECORD_LIMIT - record(&with_text(count, 0)).len())
 }
 
 /// The same with the names of every object in falling order.
@@ -164,40 +166,98 @@ fn fallen(tree: &Tree) -> Tree {
 // ---- what is measured
 
 pub fn sound_tables() -> Vec<Table> {
-    let full = most(heaters);
-    let flat = most(|n| limits(0, n, 1));
-    let full_passes = most(|n| passes(n + 1));
     let table = |name, tree: Tree, path, by| {
-        let overlay = overlay(&tree, by);
-        Table { name, tree, path, overlay, item: pass(7) }
+        let overlay = some_of(&tree, by);
+        Table { name, tree, path: Tree::Array(path), overlay }
     };
+    // One pass more must fit, for append.
+    let many = most(|count| passes(count + 1));
     vec![
-        table("small: one switch", switch(4), path(vec![text("note")]), 2),
-        table("small: two links", Tree::Array(vec![text("Svalbard uhf 437.125 MHz up"), text("Kiruna s-band 2.245 GHz down"), int(9600)]), path(vec![int(1)]), 2),
-        table("usual: switches in groups", switches(4, 9), path(vec![text("group-02"), text("sw-06"), text("on")]), 2),
-        table("usual: heater limits", heaters(40), path(vec![text("heater-027"), text("max")]), 2),
-        table("usual: telemetry limits", limits(0, 150, 1), path(vec![text("p00100")]), 2),
-        table("usual: pass plan", passes(24), path(vec![int(16), text("station")]), 4),
-        table("full: heater limits", filled(heaters(full)), path(vec![text("heater-400"), text("max")]), 2),
-        table("full: telemetry limits", filled(limits(0, flat, 1)), path(vec![text("p02500")]), 2),
-        table("full: pass plan", passes(full_passes), path(vec![int(300), text("station")]), full_passes),
+        table("small: a switch", switch(2), vec![text("note")], 2),
+        table("small: stations", stations(), vec![int(1)], 2),
+        table("usual: switches in groups", switches(4, 9), vec![text("group-02"), text("sw-06"), text("on")], 2),
+        table("usual: heater limits", heaters(40), vec![text("heater-027"), text("max")], 2),
+        table("usual: telemetry limits", limits(150), vec![text("p0100")], 2),
+        table("usual: pass plan", passes(24), vec![int(16), text("station")], 4),
+        table("full: heater limits", full(heaters), vec![text("heater-400"), text("max")], 2),
+        table("full: telemetry limits", full(limits), vec![text("p2500")], 2),
+        table("full: pass plan", passes(many), vec![int(300), text("station")], many),
     ]
 }
 
+/// The small and the usual tables with names that fall.
 pub fn fallen_tables() -> Vec<Table> {
-    sound_tables()
-        .into_iter()
-        .filter(|table| !table.name.starts_with("full") || table.name.contains("heater"))
-        .map(|table| Table { tree: fallen(&table.tree), overlay: fallen(&table.overlay), ..table })
-        .collect()
+    let short = sound_tables().into_iter().filter(|table| !table.name.starts_with("full"));
+    short.map(|table| Table { tree: fallen(&table.tree), overlay: fallen(&table.overlay), ..table }).collect()
 }
 
-/// The array of an object's names, and that of its values.
-pub fn names_and_values(tree: &Tree) -> Option<(Tree, Tree)> {
-    let Tree::Object(members) = tree else {
-        return None;
+/// The calls that are measured: on a record with a path, and on two records as one. An object is built of its own names and values,
+/// an array takes one more item.
+fn calls(tree: &Tree, path: &Tree, left: &Tree, right: &Tree) -> Vec<Call> {
+    let last = match tree {
+        Tree::Object(members) => {
+            let names = members.iter().map(|member| Tree::String(member.0.clone())).collect();
+            let values = members.iter().map(|member| member.1.clone()).collect();
+            Call::new(Edit::Build, &Tree::Array(names), &Tree::Array(values))
+        }
+        _ => Call::new(Edit::Append, tree, &pass(7)),
     };
-    let names = members.iter().map(|m| Tree::String(m.0.clone())).collect();
-    let values = members.iter().map(|m| m.1.clone()).collect();
-    Some((Tree::Array(names), Tree::Array(values)))
+    vec![
+        Call::new(Edit::Get, tree, path),
+        Call::new(Edit::Delete, tree, path),
+        Call::new(Edit::Concat, left, right),
+        Call::new(Edit::Strip, tree, &Tree::Null),
+        last,
+    ]
+}
+
+pub fn calls_on(table: &Table) -> Vec<Call> {
+    calls(&table.tree, &table.path, &table.tree, &table.overlay)
+}
+
+/// Texts, whose every byte is read: of one byte a character, and of two.
+pub fn texts() -> Vec<(&'static str, Vec<u8>)> {
+    let room = RECORD_LIMIT - 8;
+    vec![
+        ("full: a text, ASCII", record(&Tree::String(b"All systems nominal. ".iter().copied().cycle().take(room).collect()))),
+        ("full: a text, two bytes a character", record(&Tree::String("é".repeat(room / 2).into_bytes()))),
+    ]
+}
+
+// ---- growth
+
+/// Calls on an array of so many nulls, the last of which the path finds.
+pub fn calls_on_items(count: usize) -> Vec<Call> {
+    let nulls = |count: usize| Tree::Array(vec![Tree::Null; count]);
+    calls(&nulls(count), &Tree::Array(vec![int(-1)]), &nulls(count / 2), &nulls(count / 2))
+}
+
+/// Calls on an object of so many members whose names rise, the last of which the path finds. Concat has every second on each side.
+pub fn calls_on_members(count: usize) -> Vec<Call> {
+    let tree = limits(count);
+    let Tree::Object(members) = &tree else {
+        unreachable!();
+    };
+    let half = |from: usize| Tree::Object(members.iter().skip(from).step_by(2).cloned().collect());
+    let last = Tree::String(members[count - 1].0.clone());
+    calls(&tree, &Tree::Array(vec![last]), &half(0), &half(1))
+}
+
+// ---- the search
+
+/// How many members fit into an object with names of so many bytes.
+pub fn count_searched(length: usize) -> usize {
+    (RECORD_LIMIT - 4) / (8 + length)
+}
+
+/// Calls on an object of so many members, whose names fall: what the search takes longest for.
+pub fn calls_on_search(length: usize) -> Vec<Call> {
+    let name = |i: usize| {
+        let mut name = vec![b'a'; length];
+        name[length - 2] = (i / 128) as u8;
+        name[length - 1] = (i % 128) as u8;
+        name
+    };
+    let tree = Tree::Object((0..count_searched(length)).rev().map(|i| (name(i), Tree::True)).collect());
+    calls(&tree, &Tree::Array(vec![Tree::String(name(0))]), &tree, &tree)
 }

@@ -1,57 +1,65 @@
-// Times in nanoseconds, of a call by itself and of two calls in turns.
+// Times in nanoseconds: calls in turns, many of each in a round, and the median of the rounds.
 use std::time::Instant;
 
-// A round lasts at least so long, so that the clock's own time does not count.
-const ROUND: f64 = 200_000.0;
+/// A round of one call lasts at least so long, in nanoseconds, so that the clock's own time does not count.
+const ROUND: f64 = 500_000.0;
 
-const ROUNDS: usize = 31;
+/// So many rounds, or as many as take this long, in nanoseconds; the number is odd, so that there is a middle one.
+const ROUNDS: usize = 41;
 
-pub fn median(mut times: Vec<f64>) -> f64 {
-    times.sort_by(f64::total_cmp);
-    times[times.len() / 2]
+const LONG: f64 = 2e9;
+
+const FEWEST: usize = 3;
+
+pub fn median(values: impl Iterator<Item = f64>) -> f64 {
+    let mut values: Vec<f64> = values.collect();
+    values.sort_by(f64::total_cmp);
+    values[values.len() / 2]
 }
 
 /// The time of one of so many calls.
-fn round(call: &mut impl FnMut(), calls: usize) -> f64 {
+fn time_of(call: &mut dyn FnMut(), count: usize) -> f64 {
     let start = Instant::now();
-    for _ in 0..calls {
+    for _ in 0..count {
         call();
     }
-    start.elapsed().as_nanos() as f64 / calls as f64
+    start.elapsed().as_nanos() as f64 / count as f64
 }
 
-/// How many calls make a round.
-fn calls_of(call: &mut impl FnMut()) -> usize {
-    let mut calls = 1;
+/// How many calls make a round, and how long it takes.
+fn round_of(call: &mut dyn FnMut()) -> (usize, f64) {
+    let mut count = 1;
     loop {
-        let time = round(call, calls) * calls as f64;
+        let time = time_of(call, count) * count as f64;
         if time >= ROUND {
-            return calls;
+            return (count, time);
         }
-        calls *= 2;
+        count *= 2;
     }
 }
 
-pub fn time(call: &mut impl FnMut()) -> f64 {
-    let calls = calls_of(call);
-    median((0..ROUNDS).map(|_| round(call, calls)).collect())
-}
-
-pub struct Pair {
-    pub ours: f64,
-    pub theirs: f64,
-    pub ratio: f64,
-}
-
-impl Pair {
-    /// Both calls in turns, round by round; the ratio is the median of the rounds' ratios.
-    pub fn time(mut ours: impl FnMut(), mut theirs: impl FnMut()) -> Pair {
-        let (our_calls, their_calls) = (calls_of(&mut ours), calls_of(&mut theirs));
-        let rounds: Vec<_> = (0..ROUNDS).map(|_| (round(&mut ours, our_calls), round(&mut theirs, their_calls))).collect();
-        Pair {
-            ours: median(rounds.iter().map(|r| r.0).collect()),
-            theirs: median(rounds.iter().map(|r| r.1).collect()),
-            ratio: median(rounds.iter().map(|r| r.0 / r.1).collect()),
-        }
+/// The times of some calls, round by round. The machine may be slower in one round than in another, but not for one call alone: what
+/// is told of the calls by each other is told round by round.
+pub fn rounds<const N: usize>(mut calls: [&mut dyn FnMut(); N]) -> Vec<[f64; N]> {
+    let mut counts = [0; N];
+    let mut whole = 0.0;
+    for (count, call) in counts.iter_mut().zip(&mut calls) {
+        let (calls, time) = round_of(*call);
+        *count = calls;
+        whole += time;
     }
+    let mut round = || {
+        let mut times = [0.0; N];
+        for i in 0..N {
+            times[i] = time_of(calls[i], counts[i]);
+        }
+        times
+    };
+    let number = (LONG / whole) as usize | 1;
+    (0..number.clamp(FEWEST, ROUNDS)).map(|_| round()).collect()
+}
+
+/// The median time of one call.
+pub fn time(call: &mut dyn FnMut()) -> f64 {
+    median(rounds([call]).iter().map(|round| round[0]))
 }
