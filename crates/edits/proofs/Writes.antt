@@ -6,10 +6,11 @@ use mathlib.Core.Path.{_≡_, ap, _∙_}
 use mathlib.Core.List.{[], _++_}
 use mathlib.Core.Option.{some}
 use lib.ListN.{length}
-use Rattle.layout.specs.Bytes.{Bytes}
+use Rattle.layout.specs.Bytes.{Bytes, Octets}
 use Rattle.layout.specs.Tree.{Tree}
 use Rattle.layout.specs.Read.{nested}
 use Rattle.layout.specs.Check.{checked}
+use Rattle.layout.specs.Patch.{patch}
 use Rattle.layout.specs.Ended.{Ended, into}
 use Rattle.layout.specs.Place.{parts-at}
 use Rattle.layout.specs.declared.check.Check.the-variants.{Readable}
@@ -20,6 +21,7 @@ use Rattle.edits.specs.Steps.{part-steps}
 use Rattle.edits.specs.Held.{finding}
 use Rattle.edits.specs.Cut.{Left, Cuts, left-of, steps-from}
 use Rattle.edits.specs.declared.delete.Way.{Way}
+use Rattle.edits.proofs.Onwards.{cuts-shorter}
 
 -- The way at its start.
 abbrev pub whole-way : ℕ → Way
@@ -40,6 +42,17 @@ whole-cuts s path n c l few more f =
       near = omega arith;
       finds = (f .0, ap (finding s) (steps-whole path n) ∙ f .1);
     }
+
+-- A buffer that is as long as the record has room.
+pub room-enough : (s path : Bytes) (n : ℕ) (o o′ : Bytes) (len : ℕ) → Octets s → Cuts s path (whole-way n) 64 → length s ≤ length o
+    → Left len o o′ 0 (left-of s (steps-from path (whole-way n)))
+    → Ended (Done len) o o′ (into (length o) (left-of s (part-steps (parts-at path 0 (4 + 4 * n) n))))
+room-enough s path n o o′ len b c h l =
+    let e = ap (left-of s) (steps-whole path n) in
+    let q : len ≡ length (left-of s (part-steps (parts-at path 0 (4 + 4 * n) n))) = l .length-is ∙ ap length e in
+    let k : length (left-of s (part-steps (parts-at path 0 (4 + 4 * n) n))) ≤ length o =
+    omega (arith, q, l .length-is, cuts-shorter s path (whole-way n) 64 b c, h) in
+    ended-full _ o o′ len k q (l .stored ∙ ap (patch o 0) e)
 
 -- What was measured on no bytes.
 module _ (s path : Bytes) (n : ℕ) (o e : Bytes) (len : ℕ) (d : Left len [] e 0 (left-of s (steps-from path (whole-way n)))) where

@@ -374,7 +374,8 @@ fn put_deleted(s: &[u8], path: &[u8], way: Way, out: &mut [u8], at: usize, allow
     }
 }
 
-// Stores a container without the item that a path of n steps finds in it, where there is room for it.
+// Stores a container without the item that a path of n steps finds in it, where there is room for it. It is never longer than before,
+// so only a buffer that is shorter than that has it measured first, on no bytes.
 pub(crate) fn write_deleted(s: &[u8], path: &[u8], n: usize, out: &mut [u8]) -> Ending
     requires { ⌜ (checked (nested 64 (now s)) ≡ Readable) × (length (now s) ≤ 65536) × (n < 2 ^ 29) × (0 < n)
         × ((t : Tree) × (finding (now s) (partSteps (partsAt (now path) 0 (4 + 4 * n) n)) ≡ some t)) ⌝ }
@@ -388,6 +389,10 @@ pub(crate) fn write_deleted(s: &[u8], path: &[u8], n: usize, out: &mut [u8]) -> 
         },
         count: n,
     };
+    if s.len() <= out.len() {
+        let len = put_deleted(s, path, way, out, 0, DEPTH_LIMIT);
+        return Ending::Done(len);
+    }
     let len = put_deleted(s, path, way, &mut out[0..0], 0, DEPTH_LIMIT);
     if out.len() < len {
         return Ending::Refused(Refusal::Buffer);
