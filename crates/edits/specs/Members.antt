@@ -6,7 +6,7 @@ use mathlib.Core.Bool.{true, false}
 use mathlib.Core.List.{List, [], _∷_}
 use lib.ListN.{length}
 use Rattle.layout.specs.Bytes.{Bytes}
-use Rattle.layout.specs.Entry.{lengths}
+use Rattle.layout.specs.Entry.{length-of, lengths}
 use Rattle.layout.specs.Place.{parts-at, rising-parts}
 use Rattle.builders.specs.Search.{name-in, value-in, members-at, kept-of, Bound, least, sorted}
 use Rattle.builders.specs.Weave.{column}
@@ -35,6 +35,16 @@ members-of s n =
       «val_jentry» = 4 + 4 * n;
       key = 4 + 4 * (n + n);
       val = 4 + 4 * (n + n) + lengths s 0 n;
+    }
+
+-- The places of the member behind one.
+abbrev pub behind-member : Places → MemberAt → Places
+behind-member at m =
+    record {
+      «key_jentry» = at .«key_jentry» + 4;
+      «val_jentry» = at .«val_jentry» + 4;
+      key = at .key + length-of (m .key .jentry);
+      val = at .val + length-of (m .val .jentry);
     }
 
 abbrev pub places-for : Sizes → ℕ → Places

@@ -20,7 +20,7 @@ ghost use Prim.Native.Nat.{_+_, _^_, _≤_, _<_};
 ghost use Rattle.builders.specs.Search.{bound};
 ghost use Rattle.edits.specs.Members.{«members-of» as membersOf, «places-for» as placesFor};
 ghost use Rattle.edits.specs.Members.{«in-turn» as inTurn, «sizes-of» as sizesOf, «all-ahead» as allAhead};
-ghost use Rattle.edits.specs.Members.{«kept-ahead» as keptAhead};
+ghost use Rattle.edits.specs.Members.{«kept-ahead» as keptAhead, «behind-member» as behindMember};
 ghost use Rattle.edits.specs.Members.{Near, Standing, Next};
 
 // How many members are written anew, and how long their names and values are.
@@ -59,6 +59,19 @@ pub(crate) fn members_of(s: &[u8], n: usize) -> Places
         val_jentry: HEADER_SIZE + JENTRY_SIZE * n,
         key: first.place,
         val: place_after(s, first, n),
+    }
+}
+
+// The places of the member behind one that stands at `at`.
+pub(crate) fn places_behind(at: Places, member: MemberAt) -> Places
+    requires { ⌜ (at .«key_jentry» < 2 ^ 60) × (at .«val_jentry» < 2 ^ 60) × (at .key < 2 ^ 60) × (at .val < 2 ^ 60) ⌝ }
+    ensures { λ r. ⌜ r ≡ behindMember at member ⌝ }
+{
+    Places {
+        key_jentry: at.key_jentry + JENTRY_SIZE,
+        val_jentry: at.val_jentry + JENTRY_SIZE,
+        key: at.key + payload_len(member.key.jentry) as usize,
+        val: at.val + payload_len(member.val.jentry) as usize,
     }
 }
 
