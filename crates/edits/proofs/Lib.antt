@@ -42,6 +42,7 @@ pub mod Choices
 pub mod Moves
 pub mod Turns
 pub mod Merges
+pub mod Walks
 pub mod Overlays
 pub mod ConcatWrites
 pub mod PathResults

@@ -62,16 +62,23 @@ module _ (l : Bytes) (m : ℕ) (r : Bytes) (n : ℕ) where
           right = record { from = c; ahead = rw er (ahead-starts r n All hr); next = hy };
         }
 
-    -- The places are near enough for a member to be stored there.
-    pub merging-near : (out : Bytes) (x y : Taken) (at : Places) (i : ℕ) → Merging out x y at i → i ≤ m + n → m + n ≤ 16384
+    -- The places are near, and so near enough for a member to be stored there.
+    pub merging-within : (out : Bytes) (x y : Taken) (at : Places) (i : ℕ) → Merging out x y at i → i ≤ m + n → m + n ≤ 16384
         → (to .«key_jentry» < 2 ^ 32) × (to .«val_jentry» < 2 ^ 32) × (to .key < 2 ^ 32) × (to .val < 2 ^ 32)
-        → (at .«key_jentry» < 2 ^ 60) × (at .«val_jentry» < 2 ^ 60) × (at .key < 2 ^ 60) × (at .val < 2 ^ 60)
-    merging-near out x y at i h k f w = (
+        → (at .«key_jentry» < 2 ^ 48) × (at .«val_jentry» < 2 ^ 48) × (at .key < 2 ^ 48) × (at .val < 2 ^ 48)
+    merging-within out x y at i h k f w = (
       omega (arith, h .kept .key-jentry),
       omega (arith, h .kept .val-jentry),
       omega (arith, h .kept .near-key),
       omega (arith, h .kept .near-val),
     )
+
+    pub merging-near : (out : Bytes) (x y : Taken) (at : Places) (i : ℕ) → Merging out x y at i → i ≤ m + n → m + n ≤ 16384
+        → (to .«key_jentry» < 2 ^ 32) × (to .«val_jentry» < 2 ^ 32) × (to .key < 2 ^ 32) × (to .val < 2 ^ 32)
+        → (at .«key_jentry» < 2 ^ 60) × (at .«val_jentry» < 2 ^ 60) × (at .key < 2 ^ 60) × (at .val < 2 ^ 60)
+    merging-near out x y at i h k f w =
+        let b = merging-within out x y at i h k f w in
+        (omega (arith, b .0), omega (arith, b .1), omega (arith, b .2), omega (arith, b .3))
 
     module _ (out : Bytes) (x y : Taken) (at : Places) (i : ℕ) (h : Merging out x y at i) where
       -- What put_merged promises: the members of both are stored, and the places are those behind them.

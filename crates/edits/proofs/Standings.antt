@@ -75,7 +75,7 @@ pub record Sized (s : Bytes) (kept : Kept) (all : Ahead) (sizes : Sizes) (here :
   pub few : length (kept-ahead s kept all) < 2 ^ 29
 
 -- As many members, names and values of at most so many bytes.
-column-short : (f : MemberAt → Bytes) (ms : List MemberAt) → ((m : MemberAt) → length (f m) < 2 ^ 28) → length (column f ms) ≤ 2 ^ 28 * length ms
+pub column-short : (f : MemberAt → Bytes) (ms : List MemberAt) → ((m : MemberAt) → length (f m) < 2 ^ 28) → length (column f ms) ≤ 2 ^ 28 * length ms
 column-short f [] h = omega (arith, column-none f)
 column-short f (m ∷ ms) h = omega (arith, column-cons f m ms, h m, column-short f ms h)
 

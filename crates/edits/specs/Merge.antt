@@ -1,11 +1,13 @@
 -- Two objects' members taken in turn, as the code of concat goes. proofs/Overlays.antt ties it to `concat`.
 use Prim.Native.Nat.{ℕ, _+_, _*_, _≤_}
 use mathlib.Core.Path.{_≡_}
+use mathlib.Core.Bool.{Bool}
 use mathlib.Core.List.{List, [], _∷_, _++_}
 use lib.ListN.{length}
 use Rattle.layout.specs.Bytes.{Bytes}
 use Rattle.layout.specs.Read.{header, nested}
 use Rattle.layout.specs.Check.{checked}
+use Rattle.layout.specs.Place.{parts-at, rising-parts}
 use Rattle.layout.specs.Order.{order}
 use Rattle.layout.specs.declared.check.Check.the-variants.{Readable}
 use Rattle.layout.specs.declared.util.Header.the-variants.{Object}
@@ -56,12 +58,19 @@ in-a-row l m r n = members-at r r (members-of r n) n ++ moved-all (length r) (me
 abbrev pub merged : Bytes → ℕ → Bytes → ℕ → List MemberAt
 merged l m r n = sorted (name-in (r ++ l)) (in-a-row l m r n)
 
--- The places behind all of them.
-abbrev pub behind-all : Bytes → ℕ → Bytes → ℕ → Places → Places
-behind-all l m r n to =
+-- The places behind members that are stored from some places on, and behind all of both objects.
+abbrev pub behind-members : Bytes → List MemberAt → Places → Places
+behind-members s ms to =
     record {
-      «key_jentry» = to .«key_jentry» + 4 * length (merged l m r n);
-      «val_jentry» = to .«val_jentry» + 4 * length (merged l m r n);
-      key = to .key + length (column (name-in (r ++ l)) (merged l m r n));
-      val = to .val + length (column (value-in (r ++ l)) (merged l m r n));
+      «key_jentry» = to .«key_jentry» + 4 * length ms;
+      «val_jentry» = to .«val_jentry» + 4 * length ms;
+      key = to .key + length (column (name-in s) ms);
+      val = to .val + length (column (value-in s) ms);
     }
+
+abbrev pub behind-all : Bytes → ℕ → Bytes → ℕ → Places → Places
+behind-all l m r n to = behind-members (r ++ l) (merged l m r n) to
+
+-- Whether the names of an object rise.
+abbrev pub rises : Bytes → ℕ → Bool
+rises s n = rising-parts (parts-at s 0 (4 + 4 * (n + n)) n)
