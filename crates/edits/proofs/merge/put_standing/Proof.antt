@@ -22,13 +22,13 @@ places-behind-requires : tie.Need-places-behind-requires Inv-loop μ-loop
 places-behind-requires c κs = reached-near _ _ _ (c .before .before .before .before .before .before .loop .inv .read) (omega (arith, c .before .before .before .before .before .loop-test .taken, c .before .before .before .before .before .before .before .before .before .pre .0)) (c .before .before .before .before .before .before .before .before .before .pre .1, c .before .before .before .before .before .before .before .before .before .pre .2, c .before .before .before .before .before .before .before .before .before .pre .3, c .before .before .before .before .before .before .before .before .before .pre .4)
 
 loop-again : tie.Need-loop-again Inv-loop μ-loop
-loop-again c = putting-goes (c .before .before .before .before .before .before .before .before .before .before .args .s .now) _ _ _ _ _ _ _ _ (c .before .before .before .before .before .before .before .loop .inv) (c .before .before .before .before .before .before .loop-test .taken) _ _ _ _ (c .before .before .before .before .before .read-member .ensures) (c .before .before .before .put-member .ensures) (c .places-behind .ensures)
+loop-again c = putting-goes (c .before .before .before .before .before .before .before .before .before .before .args .s .now) _ _ _ _ _ _ _ _ (c .before .before .before .before .before .before .before .loop .inv) (omega (arith, c .before .before .before .before .before .before .loop-test .taken, c .before .before .before .before .before .before .before .loop .inv .inside)) _ _ _ _ (c .before .before .before .before .before .read-member .ensures) (c .before .before .before .put-member .ensures) (c .places-behind .ensures)
 
 same-length : tie.Need-same-length Inv-loop μ-loop
 same-length c = c .before .loop .inv .as-long
 
 returns : tie.Need-returns Inv-loop μ-loop
-returns c = putting-ends (c .before .before .before .before .args .s .now) _ _ _ _ _ _ _ _ (c .before .loop .inv) (c .loop-test .left)
+returns c = putting-ends (c .before .before .before .before .args .s .now) _ _ _ _ _ _ _ _ (c .before .loop .inv) (omega (arith, c .loop-test .left))
 
 pub put-standing-spec : {M : Type 1} → statement M
 put-standing-spec =
