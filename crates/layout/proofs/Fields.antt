@@ -7,10 +7,10 @@ use mathlib.Core.Bool.{Bool, true, false}
 use mathlib.Core.List.{[]}
 use lib.Dec.{leb}
 use lib.ListN.{length, take, drop, getD, length-drop, drop-of-length-le}
-use lib.Seq.{take-all, take-nil, getD-take, getD-drop}
+use lib.Seq.{take-all, take-nil, getD-drop}
 use lib.Bits.{bitAnd, bitOr, and-mask, or-shifted}
 use borrow.Author.Tests.{leb-true, leb-false, lt-leb, le-leb, lt-ltb, le-ltb, ne-eqb}
-use Rattle.layout.specs.Bytes.{Bytes, word, inside, word-at}
+use Rattle.layout.specs.Bytes.{Bytes, word, inside, word-at, part-word}
 use Rattle.layout.specs.Entry.{top-of, code-of, length-of, entry-of, sort-of, count-of, kind-of}
 use Rattle.layout.specs.Read.{header}
 use Rattle.layout.specs.declared.item.Kind.the-variants.{Null}
@@ -48,6 +48,9 @@ part-rest at n s h =
 pub part-none : (at n : ℕ) (s : Bytes) → length s < at → [] ≡ take n (drop at s)
 part-none at n s h = let k : length s ≤ at = omega arith in sym (ap (take n) (drop-of-length-le s k) ∙ take-nil n)
 
+pub part-all : (s : Bytes) → take (length s - 0) (drop 0 s) ≡ s
+part-all s = take-all (length s - 0) s (omega arith)
+
 -- A field by its bytes.
 pub word-at-bytes : (s : Bytes) (at : ℕ) →
     ((getD s at 0 * 256 + getD s (at + 1) 0) * 256 + getD s (at + 2) 0) * 256 + getD s (at + 3) 0 ≡ word-at s at
@@ -55,21 +58,9 @@ unfolding word-at word
 word-at-bytes s at =
     rw (word-at, word, getD-drop at s 0 0, getD-drop at s 1 0, getD-drop at s 2 0, getD-drop at s 3 0, add-zero at)
 
-pub word-at-part : (s r : Bytes) (at : ℕ) → r ≡ take 4 (drop at s) →
-    ((getD r 0 0 * 256 + getD r 1 0) * 256 + getD r 2 0) * 256 + getD r 3 0 ≡ word-at s at
-unfolding word-at word
-word-at-part s r at e =
-    let l₀ : 0 < 4 = omega arith in
-    let l₁ : 1 < 4 = omega arith in
-    let l₂ : 2 < 4 = omega arith in
-    let l₃ : 3 < 4 = omega arith in
-    rw (
-      e,
-      getD-take 4 (drop at s) 0 0 l₀,
-      getD-take 4 (drop at s) 1 0 l₁,
-      getD-take 4 (drop at s) 2 0 l₂,
-      getD-take 4 (drop at s) 3 0 l₃,
-    )
+pub word-at-part : (s : Bytes) (at : ℕ) → part-word (take (length s - 0) (drop 0 s)) at 4 ≡ word-at s at
+unfolding part-word
+word-at-part s at = let e : at + 0 ≡ at = omega arith in rw (part-all s, e, ← word-at-bytes s at) (omega arith)
 
 -- A code that is no other kind's counts as null.
 pub kind-null : (c : ℕ) → (c ≡ 1 → ⊥) → (c ≡ 2 → ⊥) → (c ≡ 3 → ⊥) → (c ≡ 4 → ⊥) → (c ≡ 5 → ⊥) → (c ≡ 6 → ⊥) → Null ≡ kind-of c

@@ -11,14 +11,14 @@ use borrow.Author.Tests.{ltb-true, lt-ltb, le-ltb, ne-eqb}
 use lib.Arith.{mod-mul, digits-mod}
 use lib.Dec.{T, ltb, eqb→eq, lit<}
 use lib.IntN.{ℤ, pos, negsuc, natAbs, _-ℤ_}
-use lib.ListN.{length, take, getD, set, length-append}
+use lib.ListN.{length, take, getD, set, length-append, List·getD-eq-default}
 use lib.Pow.{pow-add}
 use lib.Seq.{take-suc, take-all}
 use lib.Signed.{mag, ltZ, nonNeg}
 use mir.Syntax.{w64}
 use mir.Val.{Fits, SFits, toZ, ofZ}
 use mir.ValLaws.{toZ-ofZ, toZ-pos}
-use Rattle.layout.specs.Bytes.{Bytes}
+use Rattle.layout.specs.Bytes.{Bytes, part-word}
 use Rattle.layout.specs.Patch.{patch}
 use Rattle.layout.specs.Number.{is-width, be-value, be-bytes, signed, pattern, uint-width, int-width}
 
@@ -73,9 +73,33 @@ read-turn s i v h e = rw (e, add-one i, take-suc s i 0 h, be-value-snoc)
 pub read-bound : (i v x : ℕ) → v < 256 ^ i → x < 256 → v * 256 + x < 256 ^ (i + 1)
 read-bound i v x h k = rw (add-one i, pow-suc 256 i) (omega arith)
 
--- Seven bytes leave room for one more.
-pub read-room : (i v n : ℕ) → v < 256 ^ i → i < n → n ≤ 8 → v < 2 ^ 56
-read-room i v n h k l = lt-of-lt-of-le h (pow-le-pow-right {n = 256} (lit< tt) {i = i} {j = 7} (omega arith))
+-- Where at most `k + 1` bytes are read, there is room for one more behind each.
+pub read-room : (k i v n : ℕ) → v < 256 ^ i → i < n → n ≤ k + 1 → v < 256 ^ k
+read-room k i v n h l m = lt-of-lt-of-le h (pow-le-pow-right {n = 256} (lit< tt) {i = i} {j = k} (omega arith))
+
+-- The bytes from a place on: none, none of them there, or one more.
+pub part-word-none : (s : Bytes) (at n : ℕ) → n ≡ 0 → (0 ≡ part-word s at n) × (0 < 256 ^ n)
+unfolding part-word
+part-word-none s at n z = rw z (refl, omega arith)
+
+pub part-word-out : (s : Bytes) (at n : ℕ) → length s ≤ at → (0 ≡ part-word s at n) × (0 < 256 ^ n)
+unfolding part-word
+part-word-out s at zero h = (refl, omega arith)
+part-word-out s at (suc n) h =
+    let r = part-word-out s at n h in
+    let out : length s ≤ at + n = omega arith in
+    (rw (← r .0, List·getD-eq-default s 0 out), rw (pow-suc 256 n) (omega (arith, r .1)))
+
+pub part-word-more : (s : Bytes) (at n v x w : ℕ) → (n ≡ 0 → ⊥) → (v ≡ part-word s at (n - 1)) × (v < 256 ^ (n - 1))
+    → x ≡ getD s (at + (n - 1)) 0 → (w ≡ x) × (w < 256) → (v * 256 + w ≡ part-word s at n) × (v * 256 + w < 256 ^ n)
+unfolding part-word
+part-word-more s at zero v x w z hv hx hw = absurd (z refl)
+part-word-more s at (suc n) v x w z hv hx hw =
+    let e : suc n - 1 ≡ n = omega arith in
+    let q : v ≡ part-word s at n = rw e at (hv .0) in
+    let b : v < 256 ^ n = rw e at (hv .1) in
+    let k : w ≡ getD s (at + n) 0 = hw .0 ∙ rw e at hx in
+    (rw (q, k), rw (← add-one n) (read-bound n v w b (hw .1)))
 
 pub read-ends : (s : Bytes) (i v : ℕ) → v ≡ be-value (take i s) → v < 256 ^ i → i ≤ length s → length s ≤ i
     → (v ≡ be-value s) × (v < 256 ^ length s)

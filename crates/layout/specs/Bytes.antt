@@ -1,5 +1,5 @@
 -- Bytes and their 32-bit fields: document 01, "All multi-byte fields have their high byte first".
-use Prim.Native.Nat.{ℕ, _+_, _*_, _/_, _%_, _^_, _<_}
+use Prim.Native.Nat.{ℕ, zero, suc, _+_, _*_, _/_, _%_, _^_, _<_}
 use mathlib.Core.List.{List, [], _∷_}
 use mathlib.Core.Bool.{Bool}
 use lib.Dec.{leb}
@@ -24,6 +24,11 @@ word b = ((getD b 0 0 * 256 + getD b 1 0) * 256 + getD b 2 0) * 256 + getD b 3 0
 -- The field at a place, and whether `n` bytes from a place on lie in `s`.
 unfoldable pub word-at : Bytes → ℕ → ℕ
 word-at s at = word (drop at s)
+
+-- The number in the `n` bytes from a place on, by the same rule.
+unfoldable pub part-word : Bytes → ℕ → ℕ → ℕ
+part-word s at zero = 0
+part-word s at (suc n) = part-word s at n * 256 + getD s (at + n) 0
 
 unfoldable pub inside : Bytes → ℕ → ℕ → Bool
 inside s at n = leb (at + n) (length s)

@@ -8,10 +8,10 @@ use crate::constants::OBJECT_CONTAINER_TAG;
 use crate::constants::SCALAR_CONTAINER_TAG;
 use crate::refusal::Refusal;
 ghost use mathlib.Core.Path.{_≡_};
-ghost use Prim.Native.Nat.{_+_, _*_, _<_, _≤_};
+ghost use Prim.Native.Nat.{_+_, _*_, _^_, _<_, _≤_};
 ghost use lib.ListN.{length, take, drop, getD};
 ghost use Rattle.layout.specs.Entry.{«sort-of» as sortOf, «count-of» as countOf};
-ghost use Rattle.layout.specs.Bytes.{inside, «word-at» as wordAt};
+ghost use Rattle.layout.specs.Bytes.{inside, «word-at» as wordAt, «part-word» as partWord};
 ghost use Rattle.layout.specs.Read.{header};
 
 // What the first four bytes of a record say: its sort with its count, or why it is none.
@@ -81,6 +81,21 @@ fn read_whole(s: &[u8], at: usize) -> u32
     word_of(s[at], s[at + 1], s[at + 2], s[at + 3])
 }
 
+// The number that the n bytes from a place on write, the high byte first; a byte that is missing counts as 0. It calls itself, so
+// that it stays apart from the reading of a whole field, which is then one read.
+fn read_part(s: &[u8], at: usize, n: usize) -> u32
+    requires { ⌜ n ≤ 4 ⌝ }
+    ensures { λ r. ⌜ (r ≡ partWord (now (s .entry)) at n) × (r < 256 ^ n) ⌝ }
+{
+    if n == 0 {
+        return 0;
+    }
+    if s.len() <= at {
+        return 0;
+    }
+    read_part(s, at, n - 1) * 256 + wide(byte(s, at + (n - 1)))
+}
+
 // The field at a place, the high byte first.
 pub fn read_u32(s: &[u8], at: usize) -> u32
     ensures { λ r. ⌜ r ≡ wordAt (now (s .entry)) at ⌝ }
@@ -88,8 +103,7 @@ pub fn read_u32(s: &[u8], at: usize) -> u32
     if is_inside(s, at, 4) {
         return read_whole(s, at);
     }
-    let rest = slice(s, at, 4);
-    word_of(byte(rest, 0), byte(rest, 1), byte(rest, 2), byte(rest, 3))
+    read_part(&s[0..], at, 4)
 }
 
 // The top three bits.

@@ -19,13 +19,13 @@ loop-holds : tie.Need-loop-holds Inv-loop μ-loop
 loop-holds c = (omega arith, read-begins (c .args .s .now), omega arith)
 
 mul-value : tie.Need-mul-value Inv-loop μ-loop
-mul-value c = omega (arith, read-room _ _ _ (c .before .loop .inv .2) (c .loop-test .taken) (c .before .before .pre))
+mul-value c = omega (arith, read-room 7 _ _ _ (c .before .loop .inv .2) (c .loop-test .taken) (c .before .before .pre))
 
 cast-value : tie.Need-cast-value Inv-loop μ-loop
 cast-value c = omega (arith, c .shared-slice-known .given (c .before .before .loop .i))
 
 add-value : tie.Need-add-value Inv-loop μ-loop
-add-value c = omega (arith, c .shared-slice-known .given (c .before .before .loop .i), read-room _ _ _ (c .before .before .loop .inv .2) (c .before .loop-test .taken) (c .before .before .before .pre))
+add-value c = omega (arith, c .shared-slice-known .given (c .before .before .loop .i), read-room 7 _ _ _ (c .before .before .loop .inv .2) (c .before .loop-test .taken) (c .before .before .before .pre))
 
 loop-again : tie.Need-loop-again Inv-loop μ-loop
 loop-again c =

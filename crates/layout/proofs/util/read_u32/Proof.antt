@@ -12,7 +12,7 @@ returns : tie.Need-returns
 returns c = c .read-whole .ensures
 
 returns-2 : tie.Need-returns-2
-returns-2 c = c .word-of .ensures ∙ rw (c .before .before .before .before .byte .ensures, c .before .before .before .byte2 .ensures, c .before .before .byte3 .ensures, c .before .byte4 .ensures) (word-at-part _ _ _ (c .before .before .before .before .before .slice .ensures))
+returns-2 c = c .read-part .ensures .0 ∙ word-at-part _ _
 
 pub read-u32-spec : {M : Type 1} → statement M
 read-u32-spec =
@@ -21,10 +21,8 @@ read-u32-spec =
     (λ c κs. search needs)
     read-whole-requires
     returns
-    (λ c κs. search needs)
-    (λ c κs. search needs)
-    (λ c κs. search needs)
-    (λ c κs. search needs)
-    (λ c κs. search needs)
+    (λ c. search needs)
+    (λ c. search needs)
+    (λ c. search needs)
     (λ c κs. search needs)
     returns-2)
