@@ -1,15 +1,16 @@
 -- The laws of `patch`, and of the promise of a function that writes. None of `patch` but `patch-eq` and `patch-zero` asks that the
 -- bytes fit: what falls outside is dropped on both sides.
 use mathlib.Core.Path.{_≡_, refl, sym, ap, _∙_}
-use Prim.Native.Nat.{ℕ, suc, _+_, _-_, _≤_, _<_, min}
+use Prim.Native.Nat.{ℕ, suc, _+_, _-_, _/_, _%_, _^_, _≤_, _<_, min}
 use native.Mathlib.Decide.{decLe}
 use native.Mathlib.Nat.{add-zero, zero-add, add-suc, suc-add}
+use native.Mathlib.Numerals.{add-one, add-two, add-three}
 use native.Mathlib.Omega.{arith}
 use mathlib.Core.List.{List, [], _∷_, _++_, append-assoc}
 use lib.ListN.{length, take, drop, set, length-set, take-append-drop}
 use lib.Seq.{sets, sets-eq, set-comm, set-out, take-all, length-take-le}
 use borrow.Author.Tests.{lt-ltb, le-ltb}
-use Rattle.layout.specs.Bytes.{Bytes}
+use Rattle.layout.specs.Bytes.{Bytes, be32}
 use Rattle.layout.specs.Patch.{patch}
 use Rattle.layout.specs.Ended.{Ended, into}
 use Rattle.layout.specs.declared.ending.Ending.{Ending}
@@ -32,6 +33,12 @@ pub patch-snoc : (o : List ℕ) (at : ℕ) (a : List ℕ) (x : ℕ)
     → set (patch o at a) (at + length a) x ≡ patch o at (a ++ (x ∷ []))
 unfolding patch
 patch-snoc o at a x = patch-append o at a (x ∷ [])
+
+-- Four stores are the patch by a field.
+pub patch-four : (o o₁ o₂ o₃ o₄ : Bytes) (at v : ℕ) → o₁ ≡ set o at (v / 2 ^ 24 % 256) → o₂ ≡ set o₁ (at + 1) (v / 2 ^ 16 % 256)
+    → o₃ ≡ set o₂ (at + 2) (v / 2 ^ 8 % 256) → o₄ ≡ set o₃ (at + 3) (v % 256) → o₄ ≡ patch o at (be32 v)
+unfolding patch be32
+patch-four o o₁ o₂ o₃ o₄ at v e₁ e₂ e₃ e₄ = cc (add-one at, add-two at, add-three at)
 
 -- A buffer with no room stays as it is.
 pub patch-empty : (at : ℕ) (bs : List ℕ) → patch [] at bs ≡ []

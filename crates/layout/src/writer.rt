@@ -1,8 +1,9 @@
 // Writers into a lent buffer. Each is total: a byte whose place lies outside the buffer is not stored, so no caller owes that
 // there is room.
+use crate::util::is_inside;
 ghost use mathlib.Core.Path.{_≡_};
-ghost use Prim.Native.Nat.{_≤_, min};
-ghost use lib.ListN.{set};
+ghost use Prim.Native.Nat.{_+_, _≤_, min};
+ghost use lib.ListN.{length, set};
 ghost use Rattle.layout.specs.Bytes.{be32};
 ghost use Rattle.layout.specs.Number.{«be-bytes» as beBytes};
 ghost use Rattle.layout.specs.Patch.{patch};
@@ -16,10 +17,25 @@ pub fn put(out: &mut [u8], at: usize, b: u8)
     }
 }
 
+// Stores the four bytes of v, the high byte first, where there is room for all of them.
+fn put_whole(out: &mut [u8], at: usize, v: u32)
+    requires { ⌜ at + 4 ≤ length (now out) ⌝ }
+    ensures { λ _. ⌜ now (out .exit) ≡ patch (now (out .entry)) at (be32 v) ⌝ }
+{
+    out[at] = (v / 0x100_0000 % 256) as u8;
+    out[at + 1] = (v / 0x1_0000 % 256) as u8;
+    out[at + 2] = (v / 0x100 % 256) as u8;
+    out[at + 3] = (v % 256) as u8;
+}
+
 // Stores the four bytes of v, the high byte first.
 pub fn put_u32(out: &mut [u8], at: usize, v: u32)
     ensures { λ _. ⌜ now (out .exit) ≡ patch (now (out .entry)) at (be32 v) ⌝ }
 {
+    if is_inside(out, at, 4) {
+        put_whole(out, at, v);
+        return;
+    }
     if at < out.len() {
         put(out, at, (v / 0x100_0000 % 256) as u8);
         put(out, at + 1, (v / 0x1_0000 % 256) as u8);
