@@ -1,6 +1,5 @@
 -- The laws of the layout, from the leaf up.
 pub mod Fields
-pub mod Texts
 pub mod Patches
 pub mod Patterns
 pub mod Numbers
@@ -14,6 +13,7 @@ pub mod ReadCases
 pub mod Values
 pub mod Sames
 pub mod Places
+pub mod Texts
 pub mod Checks
 pub mod Nestings
 pub mod Orders

@@ -8,7 +8,7 @@
 use Prim.Native.Nat.{ℕ, zero, suc}
 use mathlib.Core.Bool.{Bool, true, false, _&&_, cond}
 use mathlib.Core.List.{[], _∷_}
-use lib.Dec.{leb}
+use lib.Dec.{leb, ltb}
 use Rattle.layout.specs.Bytes.{Bytes}
 use Rattle.layout.specs.declared.utf8.Lead.{Lead}
 use Rattle.layout.specs.declared.utf8.Lead.the-variants.{Tails, Bad}
@@ -42,3 +42,8 @@ text-rest (x ∷ b) (Tails (suc n) low high) = between low high x && text-rest b
 unfoldable pub utf8 : Bytes → Bool
 unfolding lead
 utf8 b = text-rest b (Tails 0 0x80 0xBF)
+
+-- Every byte is below 128: text of UTF8-1 alone.
+unfoldable pub ascii : Bytes → Bool
+ascii [] = true
+ascii (x ∷ b) = ltb x 0x80 && ascii b

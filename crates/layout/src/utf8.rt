@@ -1,6 +1,6 @@
 // Text by RFC 3629. The Rust leaves it to its standard library.
 ghost use mathlib.Core.Path.{_≡_};
-ghost use Rattle.layout.specs.Text.{between, lead, utf8};
+ghost use Rattle.layout.specs.Text.{between, lead, utf8, ascii};
 
 // What a first byte asks for: how many tail bytes, and the range of the first of them; or no character starts so.
 pub enum Lead {
@@ -47,8 +47,25 @@ fn lead_of(x: u8) -> Lead
     Lead::Bad
 }
 
-// Whether the bytes are UTF-8: `due` tail bytes are still to come, the next of them from `low` to `high`.
-pub fn is_utf8(s: &[u8]) -> bool
+// Whether every byte is below 128. The greatest of them tells it, by a loop that has no way out, so that many bytes are taken at
+// once.
+pub(crate) fn is_ascii(s: &[u8]) -> bool
+    ensures { λ r. ⌜ r ≡ ascii (now (s .entry)) ⌝ }
+{
+    let mut greatest: u8 = 0;
+    let mut i = 0;
+    while i < s.len() {
+        let x = s[i];
+        if greatest < x {
+            greatest = x;
+        }
+        i += 1;
+    }
+    greatest < 0x80
+}
+
+// Whether the bytes are UTF-8, character by character: `due` tail bytes are still to come, the next of them from `low` to `high`.
+fn are_characters(s: &[u8]) -> bool
     ensures { λ r. ⌜ r ≡ utf8 (now (s .entry)) ⌝ }
 {
     let mut due: u8 = 0;
@@ -76,4 +93,14 @@ pub fn is_utf8(s: &[u8]) -> bool
         return false;
     }
     due == 0
+}
+
+// Whether the bytes are UTF-8. Most texts are ASCII, which is told at once.
+pub fn is_utf8(s: &[u8]) -> bool
+    ensures { λ r. ⌜ r ≡ utf8 (now (s .entry)) ⌝ }
+{
+    if is_ascii(s) {
+        return true;
+    }
+    are_characters(s)
 }
