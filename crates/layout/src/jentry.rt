@@ -15,6 +15,7 @@ use crate::constants::TRUE_CODE;
 use crate::constants::UNUSED_CODE;
 use crate::item::Kind;
 use crate::util::read_u32;
+use crate::util::read_whole;
 ghost use mathlib.Core.Path.{_≡_};
 ghost use Prim.Native.Nat.{_+_, _*_, _%_, _^_, _≤_};
 ghost use Rattle.layout.specs.Entry.{«code-of» as codeOf, «length-of» as lengthOf, «entry-of» as entryOf};
@@ -57,12 +58,16 @@ pub fn kind_of(code: u32) -> Kind
     }
 }
 
-// Entry i of the table behind a header.
+// Entry i of the table behind a header. Its place is no sum beyond the machine's word, so that one test tells whether it is whole.
 pub fn read_jentry(s: &[u8], i: usize) -> u32
     requires { ⌜ i ≤ 2 ^ 30 ⌝ }
     ensures { λ r. ⌜ r ≡ entryAt (now (s .entry)) i ⌝ }
 {
-    read_u32(s, HEADER_SIZE + JENTRY_SIZE * i)
+    let at = HEADER_SIZE + JENTRY_SIZE * i;
+    if at + JENTRY_SIZE <= s.len() {
+        return read_whole(s, at);
+    }
+    read_u32(s, at)
 }
 
 // Rule 5 of document 01's check, for one entry.

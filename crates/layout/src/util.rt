@@ -74,7 +74,7 @@ fn word_of(a: u8, b: u8, c: u8, d: u8) -> u32
 }
 
 // The field at a place where the slice has it whole.
-fn read_whole(s: &[u8], at: usize) -> u32
+pub(crate) fn read_whole(s: &[u8], at: usize) -> u32
     requires { ⌜ at + 4 ≤ length (now s) ⌝ }
     ensures { λ r. ⌜ r ≡ wordAt (now (s .entry)) at ⌝ }
 {

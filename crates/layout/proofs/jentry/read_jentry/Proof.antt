@@ -1,12 +1,26 @@
 -- `layout::jentry::read_jentry` meets its contract.
 use Rattle.layout.specs.Entry.{entry-at}
+use native.Mathlib.Omega.{arith}
 use borrow.Author.Needs.{needs}
 use Rattle.layout.proofs.jentry.read_jentry.Statement.{statement}
 use Rattle.layout.proofs.jentry.read_jentry.Tie as tie
 
 returns : tie.Need-returns
 unfolding entry-at
-returns c = c .read-u32 .ensures
+returns c = c .read-whole .ensures
+
+returns-2 : tie.Need-returns-2
+unfolding entry-at
+returns-2 c = c .read-u32 .ensures
 
 pub read-jentry-spec : {M : Type 1} → statement M
-read-jentry-spec = tie.close (tie.spec (λ c. search needs) (λ c. search needs) (λ c κs. search needs) returns)
+read-jentry-spec =
+    tie.close
+    (tie.spec
+    (λ c. search needs)
+    (λ c. search needs)
+    (λ c. search needs)
+    (λ c κs. omega arith)
+    returns
+    (λ c κs. search needs)
+    returns-2)
