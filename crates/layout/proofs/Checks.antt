@@ -1,17 +1,17 @@
 -- Laws of the check, in the terms of its code: each says what one way through a function comes to.
-use Prim.Native.Nat.{ℕ, zero, suc, _+_, _*_, _-_, _%_, _^_, _<_, _≤_}
+use Prim.Native.Nat.{ℕ, zero, suc, _+_, _*_, _-_, _/_, _%_, _^_, _<_, _≤_}
 use native.Mathlib.Omega.{arith}
 use native.Mathlib.Nat.{add-zero}
 use mathlib.Core.Path.{_≡_, refl, sym, ap, _∙_}
-use mathlib.Core.Bool.{Bool, true, false, not, cond, _&&_}
+use mathlib.Core.Bool.{Bool, true, false, not, cond, _&&_, _||_}
 use mathlib.Core.List.{List, [], _∷_}
 use lib.Dec.{T, leb, ltb, eqb, nltb→le}
 use lib.ListN.{length, take, drop, length-drop}
 use lib.Seq.{take-all, drop-drop}
-use borrow.Author.Tests.{eqb-true, lt-ltb, le-ltb, le-leb, lt-leb, eq-eqb, ne-eqb}
+use borrow.Author.Tests.{lt-ltb, le-ltb, le-leb, lt-leb, eq-eqb, ne-eqb}
 use Rattle.layout.specs.Bytes.{Bytes, word, word-at}
 use Rattle.layout.specs.Answer.{Answer, gives, refused, _>>=_, require}
-use Rattle.layout.specs.Entry.{code-of, length-of, sort-of, count-of, entry-at, kind-of, lengths}
+use Rattle.layout.specs.Entry.{top-of, code-of, length-of, sort-of, count-of, entry-at, kind-of, lengths}
 use Rattle.layout.specs.Text.{utf8}
 use Rattle.layout.specs.Number.{listed}
 use Rattle.layout.specs.Tree.{Tree, array, object, Items, pair}
@@ -19,8 +19,7 @@ use Rattle.layout.specs.Encode.{Part}
 use Rattle.layout.specs.Read.{header, text, number-in, payload-in, items-in, names-in, parts, array-in, object-in, scalar-in, container-in, nested, root-in, read}
 use Rattle.layout.specs.Place.{entry-ok, table-ok, part-at, parts-at, body}
 use Rattle.layout.specs.Check.{checked}
-use Rattle.layout.specs.declared.item.Kind.{Kind}
-use Rattle.layout.specs.declared.item.Kind.the-variants.{String, Number}
+use Rattle.layout.specs.Pass.{and-then, item-checked, items-checked}
 use Rattle.layout.specs.declared.refusal.Refusal.{Refusal}
 use Rattle.layout.specs.declared.refusal.Refusal.the-variants.{Short, Layout, Limit, Text, Number as NotListed}
 use Rattle.layout.specs.declared.util.Header.{Header}
@@ -28,8 +27,9 @@ use Rattle.layout.specs.declared.util.Header.the-variants.{Array, Object
 use Rattle.layout.specs.declared.check.Check.{Check}
 use Rattle.layout.specs.declared.check.Check.the-variants.{Readable, Refused}
 use Rattle.layout.proofs.Level.{kinds, Named, string-kind, parts-named}
+use Rattle.layout.proofs.Fields.{code-lt}
 use Rattle.layout.proofs.Decoding.{read-is}
-use Rattle.layout.proofs.Places.{entry-of-word, entry-is, parts-is, and-both}
+use Rattle.layout.proofs.Places.{entry-of-word, entry-is, parts-is}
 
 pub one-less : (n i : ℕ) → i < n → n - i ≡ suc (n - (i + 1))
 one-less n i h = omega arith
@@ -72,10 +72,6 @@ table-end s m i n sum x le inv hl =
 
 -- Answers without their values.
 
-abbrev and-then : Check → Check → Check
-and-then Readable c = c
-and-then (Refused r) c = Refused r
-
 pub checked-bind : {A B : Type 0} (m : Answer A) (f : A → Answer B) (c : Check) → ((a : A) → checked (f a) ≡ c) →
     checked (m >>= f) ≡ and-then (checked m) c
 unfolding _>>=_
@@ -87,33 +83,78 @@ unfolding _>>=_
 checked-last (gives a) f = refl
 checked-last (refused r) f = refl
 
--- One payload.
+-- One item.
 
-module _ (f : Bytes → Answer Tree) (b : Bytes) (g : Bool) where
-  pub item-text : g ≡ utf8 b → g ≡ true → Readable ≡ checked (payload-in f String b)
-  unfolding text _>>=_ require
-  item-text h q = rw (← h, q)
+-- What is asked of an entry whose top bit is clear, by its code.
+abbrev code-test : ℕ → ℕ → Bool
+code-test c n = not (eqb c 7) && (not (eqb c 0 || (eqb c 3 || eqb c 4)) || eqb n 0)
 
-  pub item-no-text : g ≡ utf8 b → g ≡ false → Refused Text ≡ checked (payload-in f String b)
-  unfolding text _>>=_ require
-  item-no-text h q = rw (← h, q)
+-- The kinds that have no payload.
+no-payload : (f : Bytes → Answer Tree) (b : Bytes) (n c : ℕ) → c < 8 →
+    (c ≡ 1 → ⊥) → (c ≡ 2 → ⊥) → (c ≡ 5 → ⊥) → (c ≡ 6 → ⊥) → (c ≡ 7 → ⊥) →
+    cond (code-test c n) (checked (payload-in f (kind-of c) b)) (Refused Layout) ≡ cond (eqb n 0) Readable (Refused Layout)
+unfolding kind-of
+no-payload f b n zero l p q r s t = refl
+no-payload f b n (suc zero) l p q r s t = absurd (p refl)
+no-payload f b n (suc (suc zero)) l p q r s t = absurd (q refl)
+no-payload f b n (suc (suc (suc zero))) l p q r s t = refl
+no-payload f b n (suc (suc (suc (suc zero)))) l p q r s t = refl
+no-payload f b n (suc (suc (suc (suc (suc zero))))) l p q r s t = absurd (r refl)
+no-payload f b n (suc (suc (suc (suc (suc (suc zero)))))) l p q r s t = absurd (s refl)
+no-payload f b n (suc (suc (suc (suc (suc (suc (suc zero))))))) l p q r s t = absurd (t refl)
+no-payload f b n (suc (suc (suc (suc (suc (suc (suc (suc c)))))))) l p q r s t = let z : ⊥ = omega arith in absurd z
 
-  pub item-number : g ≡ listed b → g ≡ true → Readable ≡ checked (payload-in f Number b)
-  unfolding number-in _>>=_ require
-  item-number h q = rw (← h, q)
+module _ (f : Bytes → Answer Tree) (e : ℕ) (b : Bytes) where
+  pub item-top : (e / 2 ^ 31 ≡ 0 → ⊥) → Refused Layout ≡ item-checked f e b
+  unfolding item-checked entry-ok top-of
+  item-top h = rw (ne-eqb (e / 2 ^ 31) 0 h)
 
-  pub item-no-number : g ≡ listed b → g ≡ false → Refused NotListed ≡ checked (payload-in f Number b)
-  unfolding number-in _>>=_ require
-  item-no-number h q = rw (← h, q)
+  module _ (z : e / 2 ^ 31 ≡ 0) (c : ℕ) (hc : c ≡ code-of e) where
+    by-code : item-checked f e b ≡ cond (code-test c (length-of e)) (checked (payload-in f (kind-of c) b)) (Refused Layout)
+    unfolding item-checked entry-ok top-of
+    by-code = rw (z, ← hc)
 
--- The answer for a kind that is known, as the code's `match` tells it.
-pub item-as : (f : Bytes → Answer Tree) (k l : Kind) (b : Bytes) (c : Check) → k ≡ l → c ≡ checked (payload-in f l b) →
-    c ≡ checked (payload-in f k b)
-item-as f k l b c e h = rw e h
+    module _ (g : Bool) where
+      pub item-text : c ≡ 1 → g ≡ utf8 b → g ≡ true → Readable ≡ item-checked f e b
+      unfolding kind-of text _>>=_ require
+      item-text k h q = rw (by-code, k, ← h, q)
+
+      pub item-no-text : c ≡ 1 → g ≡ utf8 b → g ≡ false → Refused Text ≡ item-checked f e b
+      unfolding kind-of text _>>=_ require
+      item-no-text k h q = rw (by-code, k, ← h, q)
+
+      pub item-number : c ≡ 2 → g ≡ listed b → g ≡ true → Readable ≡ item-checked f e b
+      unfolding kind-of number-in _>>=_ require
+      item-number k h q = rw (by-code, k, ← h, q)
+
+      pub item-no-number : c ≡ 2 → g ≡ listed b → g ≡ false → Refused NotListed ≡ item-checked f e b
+      unfolding kind-of number-in _>>=_ require
+      item-no-number k h q = rw (by-code, k, ← h, q)
+
+    pub item-container : c ≡ 5 → (res : Check) → res ≡ checked (f b) → res ≡ item-checked f e b
+    unfolding kind-of
+    item-container k res h = rw (by-code, k) h
+
+    pub item-extension : c ≡ 6 → Readable ≡ item-checked f e b
+    unfolding kind-of
+    item-extension k = rw (by-code, k)
+
+    pub item-unused : c ≡ 7 → Refused Layout ≡ item-checked f e b
+    item-unused k = rw (by-code, k)
+
+    module _ (p : c ≡ 1 → ⊥) (q : c ≡ 2 → ⊥) (r : c ≡ 5 → ⊥) (s : c ≡ 6 → ⊥) (t : c ≡ 7 → ⊥) (l : ℕ) (hl : l ≡ length-of e) where
+      empty : item-checked f e b ≡ cond (eqb l 0) Readable (Refused Layout)
+      empty = let small : c < 8 = rw hc (code-lt e) in by-code ∙ rw (no-payload f b (length-of e) c small p q r s t, hl)
+
+      pub item-empty : l ≡ 0 → Readable ≡ item-checked f e b
+      item-empty k = rw (empty, k)
+
+      pub item-not-empty : (l ≡ 0 → ⊥) → Refused Layout ≡ item-checked f e b
+      item-not-empty k = rw (empty, ne-eqb l 0 k)
 
 -- The payloads in turn.
 
-items-cons : (f : Bytes → Answer Tree) (p : Part) (ps : List Part) →
+pub items-cons : (f : Bytes → Answer Tree) (p : Part) (ps : List Part) →
     checked (items-in f (p ∷ ps)) ≡ and-then (checked (payload-in f (p .kind) (p .bytes))) (checked (items-in f ps))
 items-cons f p ps = checked-bind (payload-in f (p .kind) (p .bytes)) _ (checked (items-in f ps)) (λ t. checked-last (items-in f ps) _)
 
@@ -121,39 +162,6 @@ pub parts-step : (s : Bytes) (i p n : ℕ) → i < n →
     parts-at s i p (n - i) ≡ part-at s i p ∷ parts-at s (i + 1) (p + length-of (entry-at s i)) (n - (i + 1))
 unfolding parts-at
 parts-step s i p n h = rw (one-less n i h)
-
--- After the payload s[p .. p + l] was checked with the answer `res`.
-module _ (f : Bytes → Answer Tree) (s : Bytes) (start i p n e c l : ℕ) (k : Kind) (res : Check) (lt : i < n)
-    (inv : checked (items-in f (parts-at s 0 start n)) ≡ checked (items-in f (parts-at s i p (n - i))))
-    (he : e ≡ entry-at s i) (hl : l ≡ length-of e) (hc : c ≡ code-of e) (hk : k ≡ kind-of c)
-    (hr : res ≡ checked (payload-in f k (take (p + l - p) (drop p s)))) where
-  items-turn : checked (items-in f (parts-at s 0 start n))
-      ≡ and-then res (checked (items-in f (parts-at s (i + 1) (p + l) (n - (i + 1)))))
-  items-turn =
-      let w : p + l - p ≡ l = omega arith in
-      let le : length-of (entry-at s i) ≡ l = cc in
-      let ke : kind-of (code-of (entry-at s i)) ≡ k = cc in
-      inv ∙ rw (parts-step s i p n lt, items-cons f (part-at s i p) (parts-at s (i + 1) (p + length-of (entry-at s i)) (n - (i + 1))), le, ke, hr, w)
-
-  pub items-stop : (r : Refusal) → res ≡ Refused r → Refused r ≡ checked (items-in f (parts-at s 0 start n))
-  items-stop r q = rw (items-turn, q)
-
-  pub items-more : res ≡ Readable →
-      checked (items-in f (parts-at s 0 start n)) ≡ checked (items-in f (parts-at s (i + 1) (p + l) (n - (i + 1))))
-  items-more q = rw (items-turn, q)
-
-pub items-end : (f : Bytes → Answer Tree) (s : Bytes) (start i p n : ℕ) → n ≤ i →
-    checked (items-in f (parts-at s 0 start n)) ≡ checked (items-in f (parts-at s i p (n - i))) →
-    Readable ≡ checked (items-in f (parts-at s 0 start n))
-unfolding parts-at
-items-end f s start i p n le inv = let z : n - i ≡ 0 = omega arith in rw (inv, z)
-
--- The payload of item i lies within the bytes.
-pub payload-within : (s : Bytes) (i p n e l : ℕ) → i < n → p + lengths s i (n - i) ≤ length s → e ≡ entry-at s i → l ≡ length-of e →
-    p + l + lengths s (i + 1) (n - (i + 1)) ≤ length s
-payload-within s i p n e l lt inv he hl =
-    let le : l ≡ length-of (entry-at s i) = cc in
-    omega (arith, lengths-step s i n lt)
 
 -- A container behind its header.
 
@@ -182,13 +190,6 @@ module _ (f : Bytes → Answer Tree) (s : Bytes) (n names : ℕ) (four : 4 ≤ l
 
     pub body-items : g ≡ true → (res : Check) → res ≡ checked (items-in f (parts-at s 0 (4 + 4 * n) n)) → res ≡ checked (body f n names (drop 4 s))
     body-items q res hr = rw (body-is, le-ltb (length s) (4 + 4 * n) h, ← hg, q) hr
-
--- The payloads end where the bytes do.
-pub body-within : (s : Bytes) (n names : ℕ) (g : Bool) → 4 + 4 * n ≤ length s →
-    g ≡ (table-ok s names 0 n && eqb (lengths s 0 n) (length s - (4 + 4 * n))) → g ≡ true → 4 + 4 * n + lengths s 0 n ≤ length s
-body-within s n names g h hg q =
-    let e : eqb (lengths s 0 n) (length s - (4 + 4 * n)) ≡ true = and-both (table-ok s names 0 n) _ (sym hg ∙ q) .1 in
-    omega (arith, eqb-true (lengths s 0 n) (length s - (4 + 4 * n)) e)
 
 array-checked : (f : Bytes → Answer Tree) (n : ℕ) (b : Bytes) → checked (array-in f n b) ≡ checked (body f n 0 b)
 unfolding body _>>=_
@@ -286,12 +287,12 @@ unfolding nested
 nested-some zero s h hh z = absurd (z refl)
 nested-some (suc a) s h hh z = let e : suc a - 1 ≡ a = omega arith in rw (e, hh)
 
-module _ (a : ℕ) (s : Bytes) (h : Header) (hh : h ≡ header s) (n : ℕ) (z : a ≡ 0 → ⊥) (res : Check) where
-  pub nested-array : h ≡ Array n → res ≡ checked (body (nested (a - 1)) n 0 (drop 4 s)) → res ≡ checked (nested a s)
-  nested-array q hr = rw (nested-some a s h hh z, q, array-checked (nested (a - 1)) n (drop 4 s)) hr
+module _ (a : ℕ) (s : Bytes) (h : Header) (hh : h ≡ header s) (n : ℕ) (z : a ≡ 0 → ⊥) (res : Check) (b : Bytes) (hb : b ≡ s) where
+  pub nested-array : h ≡ Array n → res ≡ checked (body (nested (a - 1)) n 0 (drop 4 b)) → res ≡ checked (nested a s)
+  nested-array q hr = rw (nested-some a s h hh z, q, array-checked (nested (a - 1)) n (drop 4 s)) (rw hb at hr)
 
-  pub nested-object : h ≡ Object n → res ≡ checked (body (nested (a - 1)) (n + n) n (drop 4 s)) → res ≡ checked (nested a s)
-  nested-object q hr = rw (nested-some a s h hh z, q, object-checked (nested (a - 1)) n (drop 4 s)) hr
+  pub nested-object : h ≡ Object n → res ≡ checked (body (nested (a - 1)) (n + n) n (drop 4 b)) → res ≡ checked (nested a s)
+  nested-object q hr = rw (nested-some a s h hh z, q, object-checked (nested (a - 1)) n (drop 4 s)) (rw hb at hr)
 
 -- A scalar record.
 
@@ -351,43 +352,47 @@ module _ (n : ℕ) (s : Bytes) where
         let l : leb 4 (length s - 4) ≡ false = lt-leb 4 (length s - 4) (omega arith) in
         rw (scalar-is n s, z, l)
 
-    module _ (le : 8 ≤ length s) (e c l : ℕ) (g : Bool) (he : e ≡ entry-at s 0) (hc : c ≡ code-of e) (hl : l ≡ length-of e) (hg : g ≡ entry-ok false e) where
+    module _ (le : 8 ≤ length s) (e c l : ℕ) (he : e ≡ entry-at s 0) (hc : c ≡ code-of e) (hl : l ≡ length-of e) where
       inner : checked (scalar-in n (drop 4 s))
-          ≡ cond g (cond (eqb l (length s - 8)) (checked (payload-in no-container (kind-of c) (drop 8 s))) (Refused Layout)) (Refused Layout)
+          ≡ cond (entry-ok false e) (cond (eqb l (length s - 8)) (checked (payload-in no-container (kind-of c) (drop 8 s))) (Refused Layout)) (Refused Layout)
       inner =
           let q : leb 4 (length s - 4) ≡ true = le-leb 4 (length s - 4) (omega arith) in
           let hl₁ : length-of (entry-at s 0) ≡ l = cc in
           let hc₁ : code-of (entry-at s 0) ≡ c = cc in
-          let hg₁ : entry-ok false (entry-at s 0) ≡ g = cc in
+          let hg₁ : entry-ok false (entry-at s 0) ≡ entry-ok false e = cc in
           rw (scalar-is n s, z, q, hl₁, hc₁, hg₁)
 
-      pub scalar-item : (g && (not (eqb c 5) && eqb l (length s - 8))) ≡ true → (k : Kind) (res : Check) → k ≡ kind-of c →
-          res ≡ checked (payload-in (nested 0) k (take (length s - 8) (drop 8 s))) → res ≡ checked (scalar-in n (drop 4 s))
-      scalar-item q k res hk hr =
-          let whole : take (length s - 8) (drop 8 s) ≡ drop 8 s = take-all (length s - 8) (drop 8 s) (rw length-drop (omega arith)) in
-          let b : res ≡ checked (payload-in (nested 0) (kind-of c) (drop 8 s)) = rw (whole, hk) at hr in
-          rw inner (go g (eqb l (length s - 8)) (eqb c 5) refl q b)
+      pub scalar-container : c ≡ 5 → Refused Layout ≡ checked (scalar-in n (drop 4 s))
+      scalar-container k = rw (inner, container c (drop 8 s) k) (sym (both (entry-ok false e) (eqb l (length s - 8))))
         where
-          go : (g x y : Bool) → eqb c 5 ≡ y → (g && (not y && x)) ≡ true → res ≡ checked (payload-in (nested 0) (kind-of c) (drop 8 s)) →
-              res ≡ cond g (cond x (checked (payload-in no-container (kind-of c) (drop 8 s))) (Refused Layout)) (Refused Layout)
-          go true true false e q b = b ∙ ap checked (bare-item (nested 0) no-container c (drop 8 s) (λ h. differs (sym (eq-eqb c 5 h) ∙ e)))
-            where
-              differs : true ≡ false → ⊥
-              differs h = let z : _≡_ {A = ℕ} 0 1 = cc in omega arith
-          go true true true e q b = cc
-          go true false true e q b = cc
-          go true false false e q b = cc
-          go false x y e q b = cc
+          both : (x y : Bool) → cond x (cond y (Refused Layout) (Refused Layout)) (Refused Layout) ≡ Refused Layout
+          both true true = refl
+          both true false = refl
+          both false y = refl
 
-      pub scalar-bad : (g && (not (eqb c 5) && eqb l (length s - 8))) ≡ false → Refused Layout ≡ checked (scalar-in n (drop 4 s))
-      scalar-bad q = rw inner (go g (eqb l (length s - 8)) (eqb c 5) refl q)
+      pub scalar-length : (l ≡ length s - 8 → ⊥) → Refused Layout ≡ checked (scalar-in n (drop 4 s))
+      scalar-length k = rw (inner, ne-eqb l (length s - 8) k) (sym (same (entry-ok false e)))
         where
-          go : (g x y : Bool) → eqb c 5 ≡ y → (g && (not y && x)) ≡ false →
-              Refused Layout ≡ cond g (cond x (checked (payload-in no-container (kind-of c) (drop 8 s))) (Refused Layout)) (Refused Layout)
-          go true true true e q = sym (container c (drop 8 s) (eqb-true c 5 e))
-          go true true false e q = cc
-          go true false y e q = refl
-          go false x y e q = refl
+          same : (x : Bool) → cond x (Refused Layout) (Refused Layout) ≡ Refused Layout
+          same true = refl
+          same false = refl
+
+      -- The one item, whose payload is the rest.
+      pub scalar-item : (c ≡ 5 → ⊥) → l ≡ length s - 8 → (res : Check) → res ≡ items-checked (nested 0) s 0 8 (1 - 0) →
+          res ≡ checked (scalar-in n (drop 4 s))
+      unfolding items-checked item-checked
+      scalar-item k ke res hr =
+          let whole : take l (drop 8 s) ≡ drop 8 s = take-all l (drop 8 s) (rw length-drop (omega arith)) in
+          let fits : ltb (length s) (8 + l) ≡ false = le-ltb (length s) (8 + l) (omega arith) in
+          let ends : eqb (8 + l) (length s) ≡ true = eq-eqb (8 + l) (length s) (omega arith) in
+          let bare : payload-in (nested 0) (kind-of c) (drop 8 s) ≡ payload-in no-container (kind-of c) (drop 8 s) =
+          bare-item (nested 0) no-container c (drop 8 s) k in
+          hr ∙ rw (← he, ← hl, ← hc, fits, ends, whole, inner, eq-eqb l (length s - 8) ke, bare)
+          (last (cond (entry-ok false e) (checked (payload-in no-container (kind-of c) (drop 8 s))) (Refused Layout)))
+        where
+          last : (a : Check) → and-then a Readable ≡ a
+          last Readable = refl
+          last (Refused r) = refl
 
 -- A whole record.
 
@@ -400,15 +405,16 @@ unfolding _>>=_ require
 root-is s h = rw (read-is s, le-leb (length s) 65536 h)
 
 module _ (s : Bytes) (le : length s ≤ 65536) (h : Header) (hh : h ≡ header s) where
-  pub root-refused : (r : Refusal) → h ≡ NoHeader r → Refused r ≡ checked (read s)
-  root-refused r q = rw (root-is s le, sym hh ∙ q)
+  pub root-scalar : (n : ℕ) (res : Check) → h ≡ Scalar n → res ≡ checked (scalar-in n (drop 4 s)) → res ≡ checked (read s)
+  root-scalar n res q hr = rw (root-is s le, sym hh ∙ q) hr
 
-  module _ (n : ℕ) (res : Check) where
-    pub root-scalar : h ≡ Scalar n → res ≡ checked (scalar-in n (drop 4 s)) → res ≡ checked (read s)
-    root-scalar q hr = rw (root-is s le, sym hh ∙ q) hr
-
-    pub root-array : h ≡ Array n → res ≡ checked (body (nested 63) n 0 (drop 4 s)) → res ≡ checked (read s)
-    root-array q hr = rw (root-is s le, sym hh ∙ q, array-checked (nested 63) n (drop 4 s)) hr
-
-    pub root-object : h ≡ Object n → res ≡ checked (body (nested 63) (n + n) n (drop 4 s)) → res ≡ checked (read s)
-    root-object q hr = rw (root-is s le, sym hh ∙ q, object-checked (nested 63) n (drop 4 s)) hr
+  -- Any other is a nested container that may have all levels.
+  pub root-nested : ((n : ℕ) → h ≡ Scalar n → ⊥) → (res : Check) → res ≡ checked (nested 64 s) → res ≡ checked (read s)
+  unfolding nested
+  root-nested q res hr = hr ∙ ap checked (go (header s) (λ n e. q n (hh ∙ e)) (drop 4 s) ∙ sym (root-is s le))
+    where
+      go : (h : Header) → ((n : ℕ) → h ≡ Scalar n → ⊥) → (b : Bytes) → container-in (nested 63) h b ≡ root-in h b
+      go (NoHeader r) q b = refl
+      go (Array n) q b = refl
+      go (Object n) q b = refl
+      go (Scalar n) q b = absurd (q n refl)

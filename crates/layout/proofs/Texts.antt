@@ -71,7 +71,8 @@ module _ (s : Bytes) (i g : ℕ) (inv : ascii s ≡ (ltb g 0x80 && ascii (drop i
     pub ascii-greater : g < getD s i 0 → (m : ℕ) → m ≡ getD s i 0 → ascii s ≡ (ltb m 0x80 && ascii (drop (i + 1) s))
     ascii-greater h m e = rw e (turn ∙ go (ltb g 0x80) (ltb (getD s i 0) 0x80) refl refl)
       where
-        go : (a b : Bool) → ltb g 0x80 ≡ a → ltb (getD s i 0) 0x80 ≡ b → (a && (b && ascii (drop (i + 1) s))) ≡ (b && ascii (drop (i + 1) s))
+        go : (a b : Bool) → ltb g 0x80 ≡ a → ltb (getD s i 0) 0x80 ≡ b →
+            (a && (b && ascii (drop (i + 1) s))) ≡ (b && ascii (drop (i + 1) s))
         go true b p q = refl
         go false false p q = refl
         go false true p q = let z : ⊥ = omega (arith, ltb-false g 0x80 p, ltb-true (getD s i 0) 0x80 q) in absurd z
@@ -79,7 +80,8 @@ module _ (s : Bytes) (i g : ℕ) (inv : ascii s ≡ (ltb g 0x80 && ascii (drop i
     pub ascii-smaller : getD s i 0 ≤ g → (m : ℕ) → m ≡ g → ascii s ≡ (ltb m 0x80 && ascii (drop (i + 1) s))
     ascii-smaller h m e = rw e (turn ∙ go (ltb g 0x80) (ltb (getD s i 0) 0x80) refl refl)
       where
-        go : (a b : Bool) → ltb g 0x80 ≡ a → ltb (getD s i 0) 0x80 ≡ b → (a && (b && ascii (drop (i + 1) s))) ≡ (a && ascii (drop (i + 1) s))
+        go : (a b : Bool) → ltb g 0x80 ≡ a → ltb (getD s i 0) 0x80 ≡ b →
+            (a && (b && ascii (drop (i + 1) s))) ≡ (a && ascii (drop (i + 1) s))
         go false b p q = refl
         go true true p q = refl
         go true false p q = let z : ⊥ = omega (arith, ltb-true g 0x80 p, ltb-false (getD s i 0) 0x80 q) in absurd z
@@ -104,7 +106,8 @@ ascii-text s g e q = sym (go s (sym e ∙ q))
         let l : x < 0x80 = ltb-true x 0x80 (w .0) in
         rw (le-leb 0 x (omega arith), le-leb x 0x7F (omega arith)) (go b (w .1))
 
-pub ascii-split : (l m : ℕ) (b : Bytes) → ascii (take (l + m) b) ≡ true → (ascii (take l b) ≡ true) × (ascii (take m (drop l b)) ≡ true)
+pub ascii-split : (l m : ℕ) (b : Bytes) → ascii (take (l + m) b) ≡ true →
+    (ascii (take l b) ≡ true) × (ascii (take m (drop l b)) ≡ true)
 unfolding ascii
 ascii-split zero m b h = (refl, rw (zero-add m) at h)
 ascii-split (suc l) m [] h = (refl, rw (take-nil m))

@@ -19,4 +19,5 @@ pub mod Walk
 -- Forms that follow the code, for the contracts inside the crate; theorems of proofs/ tie each to the definitions above.
 pub mod Order
 pub mod Place
+pub mod Pass
 pub mod Patch

@@ -1,0 +1,47 @@
+-- The check of a container in one pass, as the code goes: each entry with its payload. proofs/Passes.antt ties it to rules 5 and 6,
+-- of which the first is the table's.
+use Prim.Native.Nat.{ℕ, zero, suc, _+_, _*_, _-_, _/_, _^_}
+use mathlib.Core.Bool.{false, cond, _&&_}
+use lib.Dec.{ltb, eqb}
+use lib.ListN.{length, take, drop}
+use Rattle.layout.specs.Bytes.{Bytes}
+use Rattle.layout.specs.Answer.{Answer}
+use Rattle.layout.specs.Entry.{code-of, length-of, kind-of, entry-at, lengths}
+use Rattle.layout.specs.Tree.{Tree}
+use Rattle.layout.specs.Read.{payload-in}
+use Rattle.layout.specs.Place.{entry-ok, table-ok}
+use Rattle.layout.specs.Check.{checked}
+use Rattle.layout.specs.declared.refusal.Refusal.{Refusal}
+use Rattle.layout.specs.declared.refusal.Refusal.the-variants.{Layout}
+use Rattle.layout.specs.declared.check.Check.{Check}
+use Rattle.layout.specs.declared.check.Check.the-variants.{Readable, Refused}
+use Rattle.layout.specs.declared.check.NamesEnd.{NamesEnd}
+use Rattle.layout.specs.declared.check.NamesEnd.the-variants.{At, Bad}
+
+-- One answer and then the next, so that the first refusal decides.
+abbrev pub and-then : Check → Check → Check
+and-then Readable c = c
+and-then (Refused r) c = Refused r
+
+-- One item: its entry, and its payload.
+unfoldable pub item-checked : (Bytes → Answer Tree) → ℕ → Bytes → Check
+item-checked inner w b = cond (entry-ok false w) (checked (payload-in inner (kind-of (code-of w)) b)) (Refused Layout)
+
+-- The `k` items from the `i`th on, the first of them at `p`; the last ends where the bytes do.
+unfoldable pub items-checked : (Bytes → Answer Tree) → Bytes → ℕ → ℕ → ℕ → Check
+items-checked inner s i p zero = cond (eqb p (length s)) Readable (Refused Layout)
+items-checked inner s i p (suc k) =
+    cond (ltb (length s) (p + length-of (entry-at s i))) (Refused Layout)
+    (and-then (item-checked inner (entry-at s i) (take (length-of (entry-at s i)) (drop p s)))
+    (items-checked inner s (i + 1) (p + length-of (entry-at s i)) k))
+
+-- Where the `k` names from the `i`th on end, the first of them at `p`.
+unfoldable pub names-end : Bytes → ℕ → ℕ → ℕ → NamesEnd
+names-end s i p zero = cond (ltb (length s) p) Bad (At p)
+names-end s i p (suc k) =
+    cond (eqb (entry-at s i / 2 ^ 28) 1) (names-end s (i + 1) (p + length-of (entry-at s i)) k) Bad
+
+-- What stands for a payload's refusal: rule 5 comes before rule 6.
+unfoldable pub payload-refusal : Bytes → ℕ → ℕ → Refusal → Refusal
+payload-refusal s n names r =
+    cond (table-ok s names 0 n && eqb (lengths s 0 n) (length s - (4 + 4 * n))) r Layout
