@@ -7,64 +7,55 @@ use mathlib.Core.Bool.{Bool, true, false, cond}
 use mathlib.Core.List.{List, [], _∷_}
 use lib.ListN.{length}
 use Rattle.layout.specs.Bytes.{Bytes}
-use Rattle.layout.specs.Entry.{length-of}
 use Rattle.layout.proofs.Fields.{length-lt}
 use Rattle.builders.specs.Search.{name-in, value-in, member-at, members-from, members-at, is-kept, kept-of, Bound, least}
 use Rattle.builders.specs.Weave.{column}
 use Rattle.builders.specs.declared.search.Kept.{Kept}
 use Rattle.builders.specs.declared.search.MemberAt.{MemberAt}
-use Rattle.builders.specs.declared.search.Places.{Places}
 use Rattle.builders.specs.declared.search.Found.{Found}
 use Rattle.builders.specs.declared.search.Found.the-variants.{Nothing, At}
 use Rattle.builders.proofs.Searches.{length-kept, length-members, bytes-short}
 use Rattle.builders.proofs.Storing.{column-cons, column-none}
-use Rattle.edits.specs.Members.{kept-ahead, sizes-of, Near, Standing, Next}
+use Rattle.edits.specs.Members.{behind-ahead, kept-ahead, sizes-of, Near, Standing, Next}
 use Rattle.edits.specs.declared.members.Ahead.{Ahead}
 use Rattle.edits.specs.declared.members.Sizes.{Sizes}
 use Rattle.edits.specs.declared.members.Taken.{Taken}
 use Rattle.edits.specs.declared.members.Taken.the-variants.{End, Member}
 
--- The places behind a member whose name and value have these lengths.
-abbrev pub places-on : Places → ℕ → ℕ → Places
-places-on at kl vl =
-    record { «key_jentry» = at .«key_jentry» + 4; «val_jentry» = at .«val_jentry» + 4; key = at .key + kl; val = at .val + vl }
-
--- The first of some members, and the rest.
-module _ (s : Bytes) (kept : Kept) (at : Places) (i n : ℕ) (m : MemberAt) (kl vl : ℕ)
-    (em : m ≡ member-at s s (at .«key_jentry») (at .«val_jentry») (at .key) (at .val))
-    (ek : kl ≡ length-of (m .key .jentry)) (ev : vl ≡ length-of (m .val .jentry)) (more : i < n) (g : Bool) (hg : g ≡ is-kept kept i m) where
-  abbrev here : List MemberAt
-  here = kept-of kept i (members-at s s at (n - i))
-
-  abbrev rest : List MemberAt
-  rest = kept-of kept (i + 1) (members-at s s (places-on at kl vl) (n - (i + 1)))
-
-  one-on : kept-of kept i (members-at s s at (n - i)) ≡ cond g (m ∷ rest) rest
-  unfolding members-at members-from kept-of
-  one-on = let q : n - i ≡ suc (n - (i + 1)) = omega arith in rw (q, hg, ek, ev, em)
-
-  pub one-kept : g ≡ true → kept-of kept i (members-at s s at (n - i)) ≡ m ∷ rest
-  one-kept t = one-on ∙ ap (λ (b : Bool). cond b (m ∷ rest) rest) t
-
-  pub one-passed : g ≡ false → kept-of kept i (members-at s s at (n - i)) ≡ rest
-  one-passed f = one-on ∙ ap (λ (b : Bool). cond b (m ∷ rest) rest) f
-
-pub none-left : (s : Bytes) (kept : Kept) (at : Places) (i n : ℕ) → n ≤ i → kept-of kept i (members-at s s at (n - i)) ≡ []
-unfolding members-at members-from kept-of
-none-left s kept at i n h = let z : n - i ≡ 0 = omega arith in rw z
-
--- What is ahead stays near.
-pub near-on : (a : Ahead) (m : MemberAt) (kl vl : ℕ) → Near a → a .index < a .count → kl ≡ length-of (m .key .jentry) → vl ≡ length-of (m .val .jentry)
-    → Near (record { at = places-on (a .at) kl vl; index = a .index + 1; count = a .count; «is_rising» = a .«is_rising» })
-near-on a m kl vl h more ek ev =
+-- What is ahead stays near, and becomes less.
+pub near-on : (a : Ahead) (m : MemberAt) (next : Ahead) → Near a → a .index < a .count → next ≡ behind-ahead a m → Near next
+near-on a m next h more en =
+    rw en
     record {
       few = h .few;
       inside = omega arith;
       key-jentry = omega (arith, h .key-jentry);
       val-jentry = omega (arith, h .val-jentry);
-      key = omega (arith, h .key, ek, length-lt (m .key .jentry));
-      val = omega (arith, h .val, ev, length-lt (m .val .jentry));
+      key = omega (arith, h .key, length-lt (m .key .jentry));
+      val = omega (arith, h .val, length-lt (m .val .jentry));
     }
+
+pub fewer-on : (a : Ahead) (m : MemberAt) (next : Ahead) → a .index < a .count → next ≡ behind-ahead a m
+    → next .count - next .index < a .count - a .index
+fewer-on a m next more en = rw en (omega arith)
+
+-- The first of the members ahead, and the rest.
+module _ (s : Bytes) (kept : Kept) (a : Ahead) (more : a .index < a .count) (m : MemberAt)
+    (em : m ≡ member-at s s (a .at .«key_jentry») (a .at .«val_jentry») (a .at .key) (a .at .val)) (next : Ahead)
+    (en : next ≡ behind-ahead a m) (g : Bool) (hg : g ≡ is-kept kept (a .index) m) where
+  one-on : kept-ahead s kept a ≡ cond g (m ∷ kept-ahead s kept next) (kept-ahead s kept next)
+  unfolding members-at members-from kept-of
+  one-on = let q : a .count - a .index ≡ suc (a .count - (a .index + 1)) = omega arith in rw (q, hg, en, em)
+
+  pub one-kept : g ≡ true → kept-ahead s kept a ≡ m ∷ kept-ahead s kept next
+  one-kept t = one-on ∙ ap (λ (b : Bool). cond b (m ∷ kept-ahead s kept next) (kept-ahead s kept next)) t
+
+  pub one-passed : g ≡ false → kept-ahead s kept a ≡ kept-ahead s kept next
+  one-passed f = one-on ∙ ap (λ (b : Bool). cond b (m ∷ kept-ahead s kept next) (kept-ahead s kept next)) f
+
+pub none-left : (s : Bytes) (kept : Kept) (a : Ahead) → a .count ≤ a .index → kept-ahead s kept a ≡ []
+unfolding members-at members-from kept-of
+none-left s kept a h = let z : a .count - a .index ≡ 0 = omega arith in rw z
 
 -- Sizes so far, and those of what is still ahead.
 pub record Sized (s : Bytes) (kept : Kept) (all : Ahead) (sizes : Sizes) (here : Ahead) : Type 0 where
@@ -122,17 +113,10 @@ module _ (s : Bytes) (kept : Kept) (all : Ahead) where
             few = now .few;
           }
 
-      pub sized-falls : length (kept-ahead s kept next) < length (kept-ahead s kept here)
-      sized-falls = omega (arith, ap length e)
-
--- The next as it stands, by the case.
-module _ (s : Bytes) (kept : Kept) (a : Ahead) (r : Taken) (st : Standing s kept a r) where
-  pub stands-end : r ≡ End → kept-ahead s kept a ≡ []
-  stands-end e = rw e at st
-
-  pub stands-member : (m : MemberAt) (b : Ahead) → r ≡ Member m b
-      → (kept-ahead s kept a ≡ m ∷ kept-ahead s kept b) × (b .«is_rising» ≡ a .«is_rising») × Near b
-  stands-member m b e = rw e at st
+    -- A member that is left out.
+    pub sized-passed : (next : Ahead) → kept-ahead s kept here ≡ kept-ahead s kept next → Near next → Sized s kept all sizes next
+    sized-passed next e near =
+        record { near = near; count = rw e at (now .count); keys = rw e at (now .keys); vals = rw e at (now .vals); few = now .few }
 
 -- The next in byte order, by how it was taken.
 module _ (s : Bytes) (kept : Kept) (last : Bound) (a : Ahead) where

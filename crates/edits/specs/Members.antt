@@ -37,6 +37,15 @@ members-of s n =
       val = 4 + 4 * (n + n) + lengths s 0 n;
     }
 
+abbrev pub places-for : Sizes → ℕ → Places
+places-for z at =
+    record {
+      «key_jentry» = at + 4;
+      «val_jentry» = at + 4 + 4 * z .count;
+      key = at + 4 + 4 * z .count + 4 * z .count;
+      val = at + 4 + 4 * z .count + 4 * z .count + z .keys;
+    }
+
 -- The places of the member behind one.
 abbrev pub behind-member : Places → MemberAt → Places
 behind-member at m =
@@ -45,15 +54,6 @@ behind-member at m =
       «val_jentry» = at .«val_jentry» + 4;
       key = at .key + length-of (m .key .jentry);
       val = at .val + length-of (m .val .jentry);
-    }
-
-abbrev pub places-for : Sizes → ℕ → Places
-places-for z at =
-    record {
-      «key_jentry» = at + 4;
-      «val_jentry» = at + 4 + 4 * z .count;
-      key = at + 4 + 4 * z .count + 4 * z .count;
-      val = at + 4 + 4 * z .count + 4 * z .count + z .keys;
     }
 
 -- All members of an object of `n`, and those of some that are kept.
@@ -68,6 +68,11 @@ all-ahead s n =
 
 abbrev pub kept-ahead : Bytes → Kept → Ahead → List MemberAt
 kept-ahead s kept a = kept-of kept (a .index) (members-at s s (a .at) (a .count - a .index))
+
+-- What is ahead behind the next member as they stand.
+abbrev pub behind-ahead : Ahead → MemberAt → Ahead
+behind-ahead a m =
+    record { at = behind-member (a .at) m; index = a .index + 1; count = a .count; «is_rising» = a .«is_rising» }
 
 -- Places that are near enough for sums with them to be right.
 pub record Near (a : Ahead) : Type 0 where

@@ -20,7 +20,8 @@ ghost use Prim.Native.Nat.{_+_, _^_, _≤_, _<_};
 ghost use Rattle.builders.specs.Search.{bound};
 ghost use Rattle.edits.specs.Members.{«members-of» as membersOf, «places-for» as placesFor};
 ghost use Rattle.edits.specs.Members.{«in-turn» as inTurn, «sizes-of» as sizesOf, «all-ahead» as allAhead};
-ghost use Rattle.edits.specs.Members.{«kept-ahead» as keptAhead, «behind-member» as behindMember};
+ghost use Rattle.edits.specs.Members.{«kept-ahead» as keptAhead};
+ghost use Rattle.edits.specs.Members.{«behind-member» as behindMember, «behind-ahead» as behindAhead};
 ghost use Rattle.edits.specs.Members.{Near, Standing, Next};
 
 // How many members are written anew, and how long their names and values are.
@@ -59,19 +60,6 @@ pub(crate) fn members_of(s: &[u8], n: usize) -> Places
         val_jentry: HEADER_SIZE + JENTRY_SIZE * n,
         key: first.place,
         val: place_after(s, first, n),
-    }
-}
-
-// The places of the member behind one that stands at `at`.
-pub(crate) fn places_behind(at: Places, member: MemberAt) -> Places
-    requires { ⌜ (at .«key_jentry» < 2 ^ 60) × (at .«val_jentry» < 2 ^ 60) × (at .key < 2 ^ 60) × (at .val < 2 ^ 60) ⌝ }
-    ensures { λ r. ⌜ r ≡ behindMember at member ⌝ }
-{
-    Places {
-        key_jentry: at.key_jentry + JENTRY_SIZE,
-        val_jentry: at.val_jentry + JENTRY_SIZE,
-        key: at.key + payload_len(member.key.jentry) as usize,
-        val: at.val + payload_len(member.val.jentry) as usize,
     }
 }
 
@@ -130,6 +118,32 @@ pub(crate) fn members_ahead(s: &[u8], n: usize) -> Ahead
     }
 }
 
+// The places of the member behind one.
+pub(crate) fn places_behind(at: Places, member: MemberAt) -> Places
+    requires { ⌜ (at .«key_jentry» < 2 ^ 60) × (at .«val_jentry» < 2 ^ 60) × (at .key < 2 ^ 60) × (at .val < 2 ^ 60) ⌝ }
+    ensures { λ r. ⌜ r ≡ behindMember at member ⌝ }
+{
+    Places {
+        key_jentry: at.key_jentry + JENTRY_SIZE,
+        val_jentry: at.val_jentry + JENTRY_SIZE,
+        key: at.key + payload_len(member.key.jentry) as usize,
+        val: at.val + payload_len(member.val.jentry) as usize,
+    }
+}
+
+// What is ahead behind the next member as they stand.
+pub(crate) fn ahead_behind(ahead: Ahead, member: MemberAt) -> Ahead
+    requires { ⌜ Near ahead × (ahead .index < ahead .count) ⌝ }
+    ensures { λ r. ⌜ r ≡ behindAhead ahead member ⌝ }
+{
+    Ahead {
+        at: places_behind(ahead.at, member),
+        index: ahead.index + 1,
+        count: ahead.count,
+        is_rising: ahead.is_rising,
+    }
+}
+
 // The next member as they stand, those left out aside.
 fn next_standing(s: &[u8], ahead: Ahead, kept: Kept) -> Taken
     requires { ⌜ Near ahead ⌝ }
@@ -138,17 +152,7 @@ fn next_standing(s: &[u8], ahead: Ahead, kept: Kept) -> Taken
     let mut here = ahead;
     while here.index < here.count {
         let member = read_member(s, s, here.at);
-        let next = Ahead {
-            at: Places {
-                key_jentry: here.at.key_jentry + JENTRY_SIZE,
-                val_jentry: here.at.val_jentry + JENTRY_SIZE,
-                key: here.at.key + payload_len(member.key.jentry) as usize,
-                val: here.at.val + payload_len(member.val.jentry) as usize,
-            },
-            index: here.index + 1,
-            count: here.count,
-            is_rising: here.is_rising,
-        };
+        let next = ahead_behind(here, member);
         if is_kept(kept, here.index, member) {
             return Taken::Member(member, next);
         }
@@ -169,14 +173,15 @@ pub(crate) fn measure_ahead(s: &[u8], ahead: Ahead, kept: Kept) -> Sizes
     };
     let mut here = ahead;
     while here.index < here.count {
-        let Taken::Member(member, next) = next_standing(s, here, kept) else {
-            return sizes;
-        };
-        sizes = Sizes {
-            count: sizes.count + 1,
-            keys: sizes.keys + payload_at(s, member.key).len(),
-            vals: sizes.vals + payload_at(s, member.val).len(),
-        };
+        let member = read_member(s, s, here.at);
+        let next = ahead_behind(here, member);
+        if is_kept(kept, here.index, member) {
+            sizes = Sizes {
+                count: sizes.count + 1,
+                keys: sizes.keys + payload_at(s, member.key).len(),
+                vals: sizes.vals + payload_at(s, member.val).len(),
+            };
+        }
         here = next;
     }
     sizes
