@@ -174,6 +174,23 @@ module _ (s : Bytes) (n : ℕ) (kept : Kept) (last : Bound) (a : Ahead) (h : Ahe
             let z : b ≡ a = e .searched q .1 in
             rw z (record { near = h .near; all = h .all; rest = λ t. let y : true ≡ false = sym t ∙ q in let z : _≡_ {A = ℕ} 0 1 = cc in let w : ⊥ = omega arith in absurd w })
 
+  -- Where names rise, a member that is left out changes nothing.
+  pub ahead-aside : (b : Ahead) → a .«is_rising» ≡ true → b .«is_rising» ≡ true → Near b → kept-ahead s kept a ≡ kept-ahead s kept b
+      → AheadOf s n kept last b
+  ahead-aside b ta tb near e =
+      record {
+        near = near;
+        all = λ f. let z : true ≡ false = sym tb ∙ f in cc;
+        rest = λ t.
+            record {
+              gone = h .rest ta .gone;
+              split = h .rest ta .split ∙ ap (λ (l : List MemberAt). h .rest ta .gone ++ l) e;
+              passed = h .rest ta .passed;
+              above = λ m ms q. h .rest ta .above m ms (e ∙ q);
+              rising = rw e at (h .rest ta .rising);
+            };
+      }
+
   -- A name above the last and below the next, or where there is no next: what is ahead stays, and so does the next.
   abbrev pub below-next : Bytes → Taken → Type 0
   below-next x r = Below (name-in s) x (found-of r)

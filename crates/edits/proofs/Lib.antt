@@ -34,6 +34,7 @@ pub mod SortedAnews
 pub mod Stripped
 pub mod StripItems
 pub mod StripMembers
+pub mod StripRising
 pub mod StripWrites
 pub mod Writes
 pub mod Deletions

@@ -8,8 +8,7 @@ use mathlib.Core.List.{List, [], _∷_}
 use mathlib.Core.Option.{some}
 use lib.Bits.{bitOr}
 use lib.Dec.{eqb}
-use borrow.Author.Tests.{ne-eqb}
-use lib.ListN.{length, drop, length-take, length-drop}
+use lib.ListN.{length, take, drop, length-take, length-drop}
 use Rattle.layout.specs.Bytes.{Bytes, Octets, be32}
 use Rattle.layout.specs.Entry.{code, code-of, length-of}
 use Rattle.layout.specs.Tree.{Tree, null, boolean, number, string, extension, array, object, Members, empty, member, names, kind}
@@ -28,24 +27,23 @@ use Rattle.layout.proofs.Readables.{size-payload}
 use Rattle.layout.proofs.Answers.{gives-inj}
 use Rattle.layout.proofs.Values.{rising-tail, rising-all, ≺-irrefl}
 use Rattle.builders.specs.Order.{by, insert, insert-all, in-order, find, distinct}
-use Rattle.builders.specs.Search.{name-in, value-in, members-at, is-kept, kept-of, bound, least, sorted, nth}
+use Rattle.builders.specs.Search.{name-in, value-in, members-at, is-kept, kept-of, Bound, bound, least, sorted, nth}
 use Rattle.builders.specs.Weave.{own-entry, stored, woven, column}
 use Rattle.builders.specs.declared.search.Kept.the-variants.{NonNull}
 use Rattle.builders.specs.declared.search.MemberAt.{MemberAt}
 use Rattle.builders.specs.declared.search.Places.{Places}
+use Rattle.builders.specs.declared.search.Found.{Found}
 use Rattle.builders.specs.declared.search.Found.the-variants.{Nothing, At}
 use Rattle.builders.proofs.Orderings.{order-equal, order-refl}
 use Rattle.builders.proofs.InOrders.{in-order-rising, find-in-order, in-order-count, in-order-names, count-distinct}
-use Rattle.builders.proofs.Searches.{length-sorted, nth-inside, bytes-short, least-over}
+use Rattle.builders.proofs.Searches.{length-sorted, nth-inside, bytes-short}
 use Rattle.builders.proofs.Storing.{column-sorted, column-less, Stored, begins, goes, ends-full, ends-val, sought-nth, sought-end}
 use Rattle.builders.proofs.Twos.{and-false}
 use Rattle.builders.proofs.Stands.{Stands, Stand, stand-sorted, stand-names}
 use Rattle.edits.specs.Strip.{is-null, kept, stripped, stripped-members, unrepeated, unrepeated-members}
-use Rattle.edits.specs.Stripping.{stripped-of, unrepeated-of, Strippable, strip-item, strip-value, value-entry, unrepeated-item, Strips}
-use Rattle.edits.specs.Members.{members-of, places-for, sizes-of, kept-ahead, all-ahead, Near, Next}
+use Rattle.edits.specs.Stripping.{stripped-of, unrepeated-of, Strippable, Prepared, strip-item, strip-value, value-entry, unrepeated-item, Strips}
+use Rattle.edits.specs.Members.{members-of, places-for, sizes-of, kept-ahead, all-ahead, Near}
 use Rattle.edits.specs.declared.members.Ahead.{Ahead}
-use Rattle.edits.specs.declared.members.Taken.{Taken}
-use Rattle.edits.specs.declared.members.Taken.the-variants.{End, Member}
 use Rattle.edits.specs.declared.members.Sizes.{Sizes}
 use Rattle.edits.specs.declared.strip.Stripped.{Stripped}
 use Rattle.edits.specs.declared.strip.Stripped.the-variants.{Len, Repeated}
@@ -56,8 +54,8 @@ use Rattle.edits.proofs.Tables.{Contains}
 use Rattle.edits.proofs.Withouts.{object-word}
 use Rattle.edits.proofs.Sorteds.{Object-at, object-at, stand-count, stand-sizes, stand-woven}
 use Rattle.edits.proofs.SortedAnews.{nth-in, column-part}
-use Rattle.edits.proofs.Aheads.{searched, all-is, found-of, AheadOf, ahead-starts, ahead-taken, next-is}
-use Rattle.edits.proofs.Stripped.{stripped-tree, no-longer, Tree-at, strippable-at, stripped-at}
+use Rattle.edits.proofs.Aheads.{searched, all-is, ahead-starts}
+use Rattle.edits.proofs.Stripped.{handed, stripped-tree, no-longer, Tree-at, strippable-at, stripped-at}
 
 -- Only null has code 0.
 null-code : (t : Tree) → eqb (code (kind t)) 0 ≡ is-null t
@@ -349,117 +347,161 @@ module _ (s : Bytes) (n a : ℕ) (w : Object-stripped s n a) where
           stand-woven (name-in s) (strip-value s) (value-entry s) all (in-order (stripped-members ms)) stripped-stand b b₁ b₂ at z c k (rw q at e₁) (rw et at e₂),
         )
 
--- The loop, as the code goes: `i` members are stored, what is ahead is above the last of them, and no value so far has a name twice.
-pub record Storing-members (s : Bytes) (n : ℕ) (o : Bytes) (to₀ : Places) (out last : Bytes) (to : Places) (ahead : Ahead) (i : ℕ) : Type 0 where
+-- All its members are ahead, and are measured, where it is handed on.
+module _ (s : Bytes) (n a : ℕ) (ahead : Ahead) (e : ahead ≡ all-ahead (take (length s - 0) s) n) where
+  pub handed-near : Object-stripped s n a → Near ahead
+  handed-near w = rw (e, handed s) (ahead-starts s n NonNull (w .object-is) .near)
+
+  pub handed-members : Strippable s a → header s ≡ Object n → (z : Sizes) → z ≡ sizes-of (take (length s - 0) s) (kept-ahead (take (length s - 0) s) NonNull ahead)
+      → Prepared (take (length s - 0) s) ahead z a
+  handed-members st h z hz =
+      let c : n ≡ ahead .count = sym (ap (λ (x : Ahead). x .count) e) in
+      let k : ahead ≡ all-ahead s n = rw (handed s) at e in
+      let m : z ≡ sizes-of s (kept-ahead s NonNull ahead) = rw (handed s) at hz in
+      rw (handed s) (record { strippable = st; object = h ∙ ap (λ (j : ℕ). Object j) c; all = k ∙ ap (all-ahead s) c; measured = m })
+
+-- An object that is stored at `at`: the sizes of what is kept of it, and the places of its members.
+pub record Setting (s : Bytes) (n a at : ℕ) (z : Sizes) (to₀ : Places) : Type 0 where
+  pub object-is : Object-stripped s n a
+  pub near : at ≤ 65536 * (64 - a)
+  pub sizes : z ≡ sizes-of s (searched s n NonNull)
+  pub places : to₀ ≡ places-for z at
+
+stripped-sizes : (s : Bytes) (n a : ℕ) (w : Object-stripped s n a) (z : Sizes) → z ≡ sizes-of s (searched s n NonNull)
+    → 4 + 8 * z .count + z .keys + length (column (strip-value s) (sorted (name-in s) (searched s n NonNull))) ≤ 65536
+stripped-sizes s n a w z ez =
+    omega (arith, stripped-room s n a w, ap (λ (x : Sizes). x .count) ez, ap (λ (x : Sizes). x .keys) ez, w .object-is .short)
+
+-- Before the loop.
+module _ (s : Bytes) (ahead : Ahead) (z : Sizes) (a : ℕ) (o : Octets s) (p : Prepared s ahead z a) where
+  whole : Object-stripped s (ahead .count) a
+  whole = object-stripped s (ahead .count) a o (p .strippable) (p .object)
+
+  pub sizes-measured : z ≡ sizes-of s (searched s (ahead .count) NonNull)
+  sizes-measured = p .measured ∙ ap (λ (x : Ahead). sizes-of s (kept-ahead s NonNull x)) (p .all) ∙ ap (sizes-of s) (all-is s (ahead .count) NonNull)
+
+  pub sizes-fit : 4 + 8 * z .count + z .keys ≤ 65536
+  sizes-fit = omega (arith, stripped-sizes s (ahead .count) a whole z sizes-measured)
+
+  pub setting-of : (at : ℕ) → at ≤ 65536 * (64 - a) → (to₀ : Places) → to₀ ≡ places-for z at → Setting s (ahead .count) a at z to₀
+  setting-of at near to₀ et = record { object-is = whole; near = near; sizes = sizes-measured; places = et }
+
+  -- As `next_member` asks and finds.
+  pub all-places : (ahead .count < 2 ^ 29)
+      × (ahead .at .«key_jentry» < 2 ^ 32) × (ahead .at .«val_jentry» < 2 ^ 32) × (ahead .at .key < 2 ^ 32) × (ahead .at .val < 2 ^ 32)
+  all-places =
+      let h : Near ahead = rw (p .all) (ahead-starts s (ahead .count) NonNull (whole .object-is) .near) in
+      let z : ahead .index ≡ 0 = ap (λ (x : Ahead). x .index) (p .all) in
+      (h .few, omega (arith, h .key-jentry), omega (arith, h .val-jentry), omega (arith, h .key), omega (arith, h .val))
+
+  pub found-among : (last : Bound) (found : Found) → found ≡ least (name-in s) last Nothing (kept-of NonNull 0 (members-at s s (ahead .at) (ahead .count)))
+      → found ≡ least (name-in s) last Nothing (searched s (ahead .count) NonNull)
+  found-among last found hf = hf ∙ ap (λ (x : Ahead). least (name-in s) last Nothing (kept-of NonNull 0 (members-at s s (x .at) (ahead .count)))) (p .all)
+
+-- The loop, as the code goes: `i` members are stored, and no value so far has a name twice.
+pub record Storing-members (s : Bytes) (n a at : ℕ) (z : Sizes) (to₀ : Places) (o out last : Bytes) (to : Places) (i : ℕ) : Type 0 where
+  pub setting : Setting s n a at z to₀
   pub stored : Stored (name-in s) (strip-value s) (value-entry s) (searched s n NonNull) o to₀ out last to i
-  pub rest : AheadOf s n NonNull (bound (eqb i 0) last) ahead
   pub each : (k : ℕ) (m : MemberAt) → k < i → nth (sorted (name-in s) (searched s n NonNull)) k ≡ At m → unrepeated-item s (m .val) ≡ true
 
-pub members-starts : (s : Bytes) (n a : ℕ) (w : Object-stripped s n a) (o last : Bytes) (at : Places) (ahead : Ahead) → ahead ≡ all-ahead s n
-    → Storing-members s n o at o last at ahead 0
-members-starts s n a w o last at ahead e =
-    record {
-      stored = begins _ _ _ _ _ _ last;
-      rest = rw e (ahead-starts s n NonNull (w .object-is));
-      each = λ k m h. let z : ⊥ = omega arith in absurd z;
-    }
+pub members-starts : {s : Bytes} {n a at : ℕ} {z : Sizes} {to₀ : Places} → Setting s n a at z to₀ → (o last : Bytes)
+    → Storing-members s n a at z to₀ o o last to₀ 0
+members-starts h o last =
+    record { setting = h; stored = begins _ _ _ _ _ _ last; each = λ k m h. let z : ⊥ = omega arith in absurd z }
 
-pub near-starts : (s : Bytes) (n a : ℕ) (w : Object-stripped s n a) (ahead : Ahead) → ahead ≡ all-ahead s n → Near ahead
-near-starts s n a w ahead e = rw e (ahead-starts s n NonNull (w .object-is) .near)
-
--- The sizes, by what the code measures.
-pub sizes-measured : (s : Bytes) (n : ℕ) (z : Sizes) (ahead : Ahead) → ahead ≡ all-ahead s n → z ≡ sizes-of s (kept-ahead s NonNull ahead)
-    → z ≡ sizes-of s (searched s n NonNull)
-sizes-measured s n z ahead e h = h ∙ ap (λ (x : Ahead). sizes-of s (kept-ahead s NonNull x)) e ∙ ap (sizes-of s) (all-is s n NonNull)
-
-module _ (s : Bytes) (n a at : ℕ) (w : Object-stripped s n a) (hat : at ≤ 65536 * (64 - a)) (z : Sizes) (ez : z ≡ sizes-of s (searched s n NonNull)) where
-  abbrev in-turn : List MemberAt
-  in-turn = sorted (name-in s) (searched s n NonNull)
+module _ {s : Bytes} {n a at : ℕ} {z : Sizes} {to₀ : Places} {o out last : Bytes} {to : Places} {i : ℕ}
+    (now : Storing-members s n a at z to₀ o out last to i) where
+  sizes-all : 4 + 8 * z .count + z .keys + length (column (strip-value s) (sorted (name-in s) (searched s n NonNull))) ≤ 65536
+  sizes-all = stripped-sizes s n a (now .setting .object-is) z (now .setting .sizes)
 
   count-is : z .count ≡ length (searched s n NonNull)
-  count-is = ap (λ (x : Sizes). x .count) ez
+  count-is = ap (λ (x : Sizes). x .count) (now .setting .sizes)
 
-  pub stripped-sizes : 4 + 8 * z .count + z .keys + length (column (strip-value s) (sorted (name-in s) (searched s n NonNull))) ≤ 65536
-  stripped-sizes = omega (arith, stripped-room s n a w, count-is, ap (λ (x : Sizes). x .keys) ez, w .object-is .short)
+  -- Where the next member is stored.
+  pub members-room : (to .«key_jentry» ≤ at + 65536) × (to .«val_jentry» ≡ at + 4 + 4 * z .count + 4 * i) × (at + 4 + 8 * z .count ≤ to .key) × (to .key ≤ 2 ^ 23 + 2 ^ 28 * i)
+      × (at + 4 + 8 * z .count ≤ to .val) × (to .val ≤ at + 65536) × (i ≤ z .count) × (at ≤ 65536 * (64 - a)) × (z .count ≤ 65536) × (1 ≤ a) × (a ≤ 64)
+  members-room =
+      let f0 = ap (λ (x : Places). x .«key_jentry») (now .setting .places) in
+      let f1 = ap (λ (x : Places). x .«val_jentry») (now .setting .places) in
+      let f2 = ap (λ (x : Places). x .key) (now .setting .places) in
+      let f3 = ap (λ (x : Places). x .val) (now .setting .places) in
+      let st = now .stored in
+      let hat = now .setting .near in
+      let c : i ≤ z .count = omega (arith, st .sought .count, length-sorted (name-in s) (searched s n NonNull), count-is) in (
+        omega (arith, st .key-jentry, f0, sizes-all, c),
+        omega (arith, st .val-jentry, f1),
+        omega (arith, st .key-on, f2),
+        omega (arith, st .near-key, f2, sizes-all, hat),
+        omega (arith, st .val-on, f3),
+        omega (arith, st .val-rest, f3, sizes-all),
+        c,
+        hat,
+        omega (arith, sizes-all),
+        now .setting .object-is .levels,
+        now .setting .object-is .allowed,
+      )
 
-  module _ (o : Bytes) (to₀ : Places) (et : to₀ ≡ places-for z at) (out last : Bytes) (to : Places) (ahead : Ahead) (i : ℕ)
-      (now : Storing-members s n o to₀ out last to ahead i) where
-    -- Where the next member is stored.
-    pub members-room : (to .«key_jentry» ≤ at + 65536) × (to .«val_jentry» ≡ at + 4 + 4 * z .count + 4 * i) × (at + 4 + 8 * z .count ≤ to .key) × (to .key ≤ 2 ^ 23 + 2 ^ 28 * i)
-        × (at + 4 + 8 * z .count ≤ to .val) × (to .val ≤ at + 65536) × (i ≤ z .count)
-    members-room =
-        let f0 = ap (λ (x : Places). x .«key_jentry») et in
-        let f1 = ap (λ (x : Places). x .«val_jentry») et in
-        let f2 = ap (λ (x : Places). x .key) et in
-        let f3 = ap (λ (x : Places). x .val) et in
-        let st = now .stored in
-        let c : i ≤ z .count = omega (arith, st .sought .count, length-sorted (name-in s) (searched s n NonNull), count-is) in (
-          omega (arith, st .key-jentry, f0, stripped-sizes, c),
-          omega (arith, st .val-jentry, f1),
-          omega (arith, st .key-on, f2),
-          omega (arith, st .near-key, f2, stripped-sizes, hat),
-          omega (arith, st .val-on, f3),
-          omega (arith, st .val-rest, f3, stripped-sizes),
-          c,
-        )
+  module _ (found : Found) (hf : found ≡ least (name-in s) (bound (eqb i 0) last) Nothing (searched s n NonNull)) where
+    pub members-few : i < z .count → found ≡ Nothing → unrepeated-of s ≡ false
+    members-few h q =
+        too-few s n a (now .setting .object-is) (omega (arith, h, count-is, sought-end (name-in s) (searched s n NonNull) last i (now .stored .sought) found hf q))
 
-    module _ (r : Taken) (hr : Next s NonNull (bound (eqb i 0) last) ahead r) where
-      found : found-of r ≡ least (name-in s) (bound (eqb i 0) last) Nothing (searched s n NonNull)
-      found = next-is s n NonNull (bound (eqb i 0) last) ahead (now .rest) r hr
+    module _ (m : MemberAt) (q : found ≡ At m) where
+      is-nth : nth (sorted (name-in s) (searched s n NonNull)) i ≡ At m
+      is-nth = sought-nth (name-in s) (searched s n NonNull) last i (now .stored .sought) found hf m q
 
-      pub members-few : i < z .count → r ≡ End → unrepeated-of s ≡ false
-      members-few h q =
-          too-few s n a w (omega (arith, h, count-is, sought-end (name-in s) (searched s n NonNull) last i (now .stored .sought) (found-of r) found (ap found-of q)))
+      -- What storing the member asks.
+      pub members-asks : i < z .count → (code-of (m .val .jentry) ≡ 5 → Strippable (value-in s m) (a - 1))
+          × (to .«key_jentry» < 2 ^ 60) × (to .key < 2 ^ 60) × (to .«val_jentry» + 4 ≤ to .key) × (to .«val_jentry» + 4 ≤ to .val) × (to .val ≤ 65536 * (64 - (a - 1)))
+      members-asks h =
+          let r = members-room in (
+            member-asks s n a (now .setting .object-is) i m is-nth,
+            omega (arith, r),
+            omega (arith, r),
+            omega (arith, r),
+            omega (arith, r),
+            omega (arith, r),
+          )
 
-      module _ (m : MemberAt) (next : Ahead) (q : r ≡ Member m next) where
-        is-nth : nth (sorted (name-in s) (searched s n NonNull)) i ≡ At m
-        is-nth = sought-nth (name-in s) (searched s n NonNull) last i (now .stored .sought) (found-of r) found m (ap found-of q)
+      module _ (e : Stripped) (out₁ : Bytes) (st : Strips e (unrepeated-item s (m .val)) (strip-item s (m .val)) out₁
+          (stored (name-in s) (strip-value s) (value-entry s) out (to .«key_jentry») (to .«val_jentry») (to .key) (to .val) m)) where
+        pub members-repeats : e ≡ Repeated → unrepeated-of s ≡ false
+        members-repeats qe = let y : unrepeated-item s (m .val) ≡ false = rw qe at st in member-repeats s n a (now .setting .object-is) i m is-nth y
 
-        pub members-asks : code-of (m .val .jentry) ≡ 5 → Strippable (value-in s m) (a - 1)
-        members-asks = member-asks s n a w i m is-nth
+        module _ (len : ℕ) (qe : e ≡ Len len) where
+          told : (unrepeated-item s (m .val) ≡ true) × (len ≡ length (strip-item s (m .val)))
+              × (out₁ ≡ stored (name-in s) (strip-value s) (value-entry s) out (to .«key_jentry») (to .«val_jentry») (to .key) (to .val) m)
+          told = rw qe at st
 
-        module _ (e : Stripped) (out₁ : Bytes) (st : Strips e (unrepeated-item s (m .val)) (strip-item s (m .val)) out₁
-            (stored (name-in s) (strip-value s) (value-entry s) out (to .«key_jentry») (to .«val_jentry») (to .key) (to .val) m)) where
-          pub members-repeats : e ≡ Repeated → unrepeated-of s ≡ false
-          members-repeats qe = let y : unrepeated-item s (m .val) ≡ false = rw qe at st in member-repeats s n a w i m is-nth y
+          pub len-short : len ≤ 65536
+          len-short = omega (arith, told .1, sizes-all, column-part (strip-value s) (sorted (name-in s) (searched s n NonNull)) i m is-nth)
 
-          module _ (len : ℕ) (qe : e ≡ Len len) where
-            told : (unrepeated-item s (m .val) ≡ true) × (len ≡ length (strip-item s (m .val)))
-                × (out₁ ≡ stored (name-in s) (strip-value s) (value-entry s) out (to .«key_jentry») (to .«val_jentry») (to .key) (to .val) m)
-            told = rw qe at st
+          pub members-on : (key : Bytes) → key ≡ name-in s m
+              → Storing-members s n a at z to₀ o out₁ key (record { «key_jentry» = to .«key_jentry» + 4; «val_jentry» = to .«val_jentry» + 4; key = to .key + length key; val = to .val + len }) (i + 1)
+          members-on key hk =
+              record {
+                setting = now .setting;
+                stored =
+                    goes (name-in s) (strip-value s) (value-entry s) (searched s n NonNull) o to₀ out last to i (now .stored) found hf m key out₁ _ q
+                    (rw (hk, told .1), told .2) hk (bytes-short s (m .key)) (omega (arith, told .1, len-short));
+                each = λ k y h e. more k y (decLe (suc k) i) h e;
+              }
+            where
+              more : (k : ℕ) (y : MemberAt) → Dec (suc k ≤ i) → k < i + 1 → nth (sorted (name-in s) (searched s n NonNull)) k ≡ At y → unrepeated-item s (y .val) ≡ true
+              more k y (yes d) h e = now .each k y d e
+              more k y (no d) h e =
+                  let same : k ≡ i = omega arith in
+                  let f : At y ≡ At m = sym e ∙ ap (nth (sorted (name-in s) (searched s n NonNull))) same ∙ is-nth in
+                  let g : y ≡ m = cc in
+                  rw g (told .0)
 
-            pub len-short : len ≤ 65536
-            len-short = omega (arith, told .1, stripped-sizes, column-part (strip-value s) (sorted (name-in s) (searched s n NonNull)) i m is-nth)
-
-            pub members-on : (key : Bytes) → key ≡ name-in s m
-                → Storing-members s n o to₀ out₁ key (record { «key_jentry» = to .«key_jentry» + 4; «val_jentry» = to .«val_jentry» + 4; key = to .key + length key; val = to .val + len }) next (i + 1)
-            members-on key hk =
-                let later : eqb (i + 1) 0 ≡ false = ne-eqb (i + 1) 0 (λ y. omega arith) in
-                record {
-                  stored =
-                      goes (name-in s) (strip-value s) (value-entry s) (searched s n NonNull) o to₀ out last to i (now .stored) (found-of r) found m key out₁ _ (ap found-of q)
-                      (rw (hk, told .1), told .2) hk (bytes-short s (m .key)) (omega (arith, told .1, len-short));
-                  rest =
-                      rw (later, hk)
-                      (ahead-taken s n NonNull (bound (eqb i 0) last) ahead (now .rest) m next (rw q at hr)
-                      (least-over (name-in s) (bound (eqb i 0) last) (searched s n NonNull) m (sym found ∙ ap found-of q)));
-                  each = λ k y h e. more k y (decLe (suc k) i) h e;
-                }
-              where
-                more : (k : ℕ) (y : MemberAt) → Dec (suc k ≤ i) → k < i + 1 → nth (sorted (name-in s) (searched s n NonNull)) k ≡ At y → unrepeated-item s (y .val) ≡ true
-                more k y (yes d) h e = now .each k y d e
-                more k y (no d) h e =
-                    let same : k ≡ i = omega arith in
-                    let f : At y ≡ At m = sym e ∙ ap (nth (sorted (name-in s) (searched s n NonNull))) same ∙ is-nth in
-                    let g : y ≡ m = cc in
-                    rw g (told .0)
-
-    pub members-ends : (v : ℕ) (o₀ : Bytes) → z .count ≤ i → v ≡ bitOr (2 ^ 30) (z .count) → o ≡ patch o₀ at (be32 v)
-        → Strips (Len (to .val - at)) (unrepeated-of s) (stripped-of s) out (patch o₀ at (stripped-of s))
-    members-ends v o₀ h ev eo =
-        let st = now .stored in
-        let full : length (searched s n NonNull) ≤ length (sorted (name-in s) (searched s n NonNull)) = omega (arith, h, count-is, st .sought .count) in
-        let done : length (sorted (name-in s) (searched s n NonNull)) ≤ i = omega (arith, h, count-is, length-sorted (name-in s) (searched s n NonNull)) in
-        object-stored s n a w full (λ k m e. now .each k m (omega (arith, done, nth-inside (sorted (name-in s) (searched s n NonNull)) k m e)) e) z to₀ at v (to .val) o₀ o out ez et ev eo
-        (ends-full (name-in s) (strip-value s) (value-entry s) (searched s n NonNull) o to₀ out last to i st i (omega (arith, h, count-is)) (omega arith))
-        (ends-val (name-in s) (strip-value s) (value-entry s) (searched s n NonNull) o to₀ out last to i st done)
+  pub members-ends : (v : ℕ) (o₀ : Bytes) → z .count ≤ i → v ≡ bitOr (2 ^ 30) (z .count) → o ≡ patch o₀ at (be32 v)
+      → Strips (Len (to .val - at)) (unrepeated-of s) (stripped-of s) out (patch o₀ at (stripped-of s))
+  members-ends v o₀ h ev eo =
+      let st = now .stored in
+      let full : length (searched s n NonNull) ≤ length (sorted (name-in s) (searched s n NonNull)) = omega (arith, h, count-is, st .sought .count) in
+      let done : length (sorted (name-in s) (searched s n NonNull)) ≤ i = omega (arith, h, count-is, length-sorted (name-in s) (searched s n NonNull)) in
+      object-stored s n a (now .setting .object-is) full (λ k m e. now .each k m (omega (arith, done, nth-inside (sorted (name-in s) (searched s n NonNull)) k m e)) e) z to₀ at v (to .val) o₀ o out
+      (now .setting .sizes) (now .setting .places) ev eo
+      (ends-full (name-in s) (strip-value s) (value-entry s) (searched s n NonNull) o to₀ out last to i st i (omega (arith, h, count-is)) (omega arith))
+      (ends-val (name-in s) (strip-value s) (value-entry s) (searched s n NonNull) o to₀ out last to i st done)

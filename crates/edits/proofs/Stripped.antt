@@ -1,11 +1,13 @@
 -- A container stripped, by its bytes; and an item, a container stripped and anything else as it is.
 use Prim.Native.Nat.{ℕ, _+_, _-_, _%_, _^_, _≤_}
+use native.Mathlib.Nat.{sub-zero}
 use native.Mathlib.Omega.{arith}
 use mathlib.Core.Path.{_≡_, refl, ap, sym, _∙_}
 use mathlib.Core.Bool.{Bool, true, false}
-use mathlib.Core.List.{[]}
+use mathlib.Core.List.{_++_, append-nil}
 use lib.Dec.{eqb}
-use lib.ListN.{length, drop}
+use lib.ListN.{length, take, drop}
+use lib.Seq.{take-length, drop-length}
 use borrow.Author.Tests.{eq-eqb, ne-eqb}
 use Rattle.layout.specs.Bytes.{Bytes, Octets, be32}
 use Rattle.layout.specs.Answer.{Answer, gives, refused}
@@ -239,3 +241,18 @@ module _ {C : Type 0} (s : Bytes) (a : ℕ) (o : Octets s) (h : Strippable s a) 
   no-refusal r q =
       no-other (λ m e. let z : Refused r ≡ Array m = sym q ∙ e in let y : _≡_ {A = ℕ} 0 1 = cc in omega arith)
       (λ m e. let z : Refused r ≡ Object m = sym q ∙ e in let y : _≡_ {A = ℕ} 0 1 = cc in omega arith)
+
+-- A slice that is handed on as `&s[0..]` is the whole, and so is what comes back.
+pub handed : (s : Bytes) → take (length s - 0) s ≡ s
+handed s = rw (sub-zero (length s)) (take-length s)
+
+pub handed-asks : (s : Bytes) (a : ℕ) (h : Header) → Strippable s a → header s ≡ h
+    → Strippable (take (length s - 0) s) a × (header (take (length s - 0) s) ≡ h)
+handed-asks s a h st e = rw (handed s) (st, e)
+
+pub handed-back : (r : Stripped) (s o x : Bytes) (at : ℕ)
+    → Strips r (unrepeated-of (take (length s - 0) s)) (stripped-of (take (length s - 0) s)) x (patch (take (length o - 0) o) at (stripped-of (take (length s - 0) s)))
+    → Strips r (unrepeated-of s) (stripped-of s) (x ++ drop (length o - 0) o) (patch o at (stripped-of s))
+handed-back r s o x at h =
+    let k : Strips r (unrepeated-of s) (stripped-of s) x (patch o at (stripped-of s)) = rw (handed s, handed o) at h in
+    rw (sub-zero (length o), drop-length o, append-nil x) k

@@ -11,15 +11,20 @@ use Rattle.layout.specs.Answer.{Answer, gives, refused}
 use Rattle.layout.specs.Entry.{code-of, entry-of}
 use Rattle.layout.specs.Tree.{Tree}
 use Rattle.layout.specs.Encode.{payload}
-use Rattle.layout.specs.Read.{nested}
+use Rattle.layout.specs.Read.{header, nested}
 use Rattle.layout.specs.Check.{checked}
 use Rattle.layout.specs.Ended.{Outcome, refusal, into}
 use Rattle.layout.specs.declared.check.Check.the-variants.{Readable}
+use Rattle.layout.specs.declared.util.Header.the-variants.{Object}
 use Rattle.layout.specs.declared.refusal.Refusal.the-variants.{Repeated as RepeatedName}
 use Rattle.builders.specs.Search.{bytes-at}
 use Rattle.builders.specs.declared.search.ItemAt.{ItemAt}
 use Rattle.builders.specs.declared.search.MemberAt.{MemberAt}
+use Rattle.builders.specs.declared.search.Kept.the-variants.{NonNull}
 use Rattle.edits.specs.Strip.{stripped, unrepeated}
+use Rattle.edits.specs.Members.{sizes-of, all-ahead, kept-ahead}
+use Rattle.edits.specs.declared.members.Ahead.{Ahead}
+use Rattle.edits.specs.declared.members.Sizes.{Sizes}
 use Rattle.edits.specs.declared.strip.Stripped.{Stripped}
 use Rattle.edits.specs.declared.strip.Stripped.the-variants.{Len, Repeated}
 
@@ -43,6 +48,13 @@ pub record Strippable (s : Bytes) (allowance : ℕ) : Type 0 where
   pub readable : checked (nested allowance s) ≡ Readable
   pub allowed : allowance ≤ 64
   pub short : length s ≤ 65536
+
+-- An object that can be stripped, all of whose members are ahead, and those that are kept are measured.
+pub record Prepared (s : Bytes) (ahead : Ahead) (sizes : Sizes) (allowance : ℕ) : Type 0 where
+  pub strippable : Strippable s allowance
+  pub object : header s ≡ Object (ahead .count)
+  pub all : ahead ≡ all-ahead s (ahead .count)
+  pub measured : sizes ≡ sizes-of s (kept-ahead s NonNull ahead)
 
 -- An item: a container stripped, anything else as it is.
 abbrev pub strip-item : Bytes → ItemAt → Bytes

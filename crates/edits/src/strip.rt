@@ -2,16 +2,21 @@
 use crate::find::Cursor;
 use crate::find::PartAt;
 use crate::find::part_behind;
-use crate::members::Taken;
+use crate::members::Ahead;
+use crate::members::Sizes;
+use crate::members::ahead_behind;
 use crate::members::measure_ahead;
 use crate::members::members_ahead;
-use crate::members::next_in_order;
 use crate::members::places_for;
+use builders::search::Found;
 use builders::search::ItemAt;
 use builders::search::Kept;
 use builders::search::MemberAt;
 use builders::search::Places;
+use builders::search::is_kept;
+use builders::search::next_member;
 use builders::search::payload_at;
+use builders::search::read_member;
 use layout::constants::ARRAY_CONTAINER_TAG;
 use layout::constants::CONTAINER_CODE;
 use layout::constants::DEPTH_LIMIT;
@@ -29,6 +34,7 @@ use layout::util::slice;
 use layout::writer::copy;
 use layout::writer::put_u32;
 ghost use mathlib.Core.Path.{_≡_};
+ghost use mathlib.Core.Bool.{true};
 ghost use Prim.Native.Nat.{_+_, _-_, _*_, _^_, _≤_, _<_};
 ghost use lib.ListN.{length};
 ghost use Rattle.layout.specs.Bytes.{be32};
@@ -40,7 +46,8 @@ ghost use Rattle.layout.specs.Ended.{Ended};
 ghost use Rattle.layout.specs.declared.check.Check.the-variants.{Readable};
 ghost use Rattle.builders.specs.Search.{«bytes-at» as bytesAt, «name-in» as nameIn, «value-in» as valueIn};
 ghost use Rattle.builders.specs.Weave.{stored};
-ghost use Rattle.edits.specs.Stripping.{Strippable, Strips, «stripped-of» as strippedOf, «unrepeated-of» as unrepeatedOf};
+ghost use Rattle.edits.specs.Stripping.{Strippable, Prepared, Strips};
+ghost use Rattle.edits.specs.Stripping.{«stripped-of» as strippedOf, «unrepeated-of» as unrepeatedOf};
 ghost use Rattle.edits.specs.Stripping.{«strip-item» as stripItem, «strip-entry» as stripEntry, «unrepeated-item» as unrepeatedItem};
 ghost use Rattle.edits.specs.Stripping.{«strip-value» as stripValue, «value-entry» as valueEntry, «strip-out» as stripOut};
 
@@ -126,22 +133,34 @@ fn put_items_stripped(s: &[u8], n: usize, out: &mut [u8], at: usize, allowance: 
     Stripped::Len(here.place - at)
 }
 
-// Stores an object of n members without those whose value is null, the others stripped and in byte order of their names, and gives
-// its length. Where fewer names are found than members are kept, one is repeated.
-fn put_members_stripped(s: &[u8], n: usize, out: &mut [u8], at: usize, allowance: u32) -> Stripped
-    requires { ⌜ Strippable (now s) allowance × (header (now s) ≡ Header.Object n) × (at ≤ 65536 * (64 - allowance)) ⌝ }
+// Stores an object whose names do not rise: of the members that are kept, each is searched for in byte order. Where fewer names are
+// found than members are kept, one is repeated.
+fn put_sorted_stripped(
+    s: &[u8],
+    ahead: Ahead,
+    sizes: Sizes,
+    out: &mut [u8],
+    at: usize,
+    allowance: u32,
+) -> Stripped
+    requires { ⌜ Prepared (now s) ahead sizes allowance × (at ≤ 65536 * (64 - allowance)) ⌝ }
     ensures { λ r. ⌜ Strips r (unrepeatedOf (now (s .entry))) (strippedOf (now (s .entry))) (now (out .exit))
         (patch (now (out .entry)) at (strippedOf (now (s .entry)))) ⌝ }
 {
-    let mut ahead = members_ahead(s, n);
-    let sizes = measure_ahead(s, ahead, Kept::NonNull);
     let mut to = places_for(sizes, at);
     put_u32(out, at, OBJECT_CONTAINER_TAG | sizes.count as u32);
     let mut last = slice(s, 0, 0);
     let mut i = 0;
     while i < sizes.count {
-        let Taken::Member(member, next) = next_in_order(s, ahead, Kept::NonNull, i == 0, last)
-        else {
+        let Found::At(member) = next_member(
+            s,
+            s,
+            ahead.at,
+            ahead.count,
+            Kept::NonNull,
+            i == 0,
+            last,
+        ) else {
             return Stripped::Repeated;
         };
         let Stripped::Len(len) = put_member_stripped(s, member, out, to, allowance - 1) else {
@@ -154,10 +173,60 @@ fn put_members_stripped(s: &[u8], n: usize, out: &mut [u8], at: usize, allowance
             key: to.key + last.len(),
             val: to.val + len,
         };
-        ahead = next;
         i += 1;
     }
     Stripped::Len(to.val - at)
+}
+
+// Stores an object whose names rise: the members that are kept are stored as they stand, and no name of theirs is repeated.
+fn put_rising_stripped(
+    s: &[u8],
+    ahead: Ahead,
+    sizes: Sizes,
+    out: &mut [u8],
+    at: usize,
+    allowance: u32,
+) -> Stripped
+    requires { ⌜ Prepared (now s) ahead sizes allowance × (at ≤ 65536 * (64 - allowance)) × (ahead .«is_rising» ≡ true) ⌝ }
+    ensures { λ r. ⌜ Strips r (unrepeatedOf (now (s .entry))) (strippedOf (now (s .entry))) (now (out .exit))
+        (patch (now (out .entry)) at (strippedOf (now (s .entry)))) ⌝ }
+{
+    let mut to = places_for(sizes, at);
+    put_u32(out, at, OBJECT_CONTAINER_TAG | sizes.count as u32);
+    let mut here = ahead;
+    while here.index < here.count {
+        let member = read_member(s, s, here.at);
+        let next = ahead_behind(here, member);
+        if is_kept(Kept::NonNull, here.index, member) {
+            let Stripped::Len(len) = put_member_stripped(s, member, out, to, allowance - 1) else {
+                return Stripped::Repeated;
+            };
+            to = Places {
+                key_jentry: to.key_jentry + JENTRY_SIZE,
+                val_jentry: to.val_jentry + JENTRY_SIZE,
+                key: to.key + payload_at(s, member.key).len(),
+                val: to.val + len,
+            };
+        }
+        here = next;
+    }
+    Stripped::Len(to.val - at)
+}
+
+// Stores an object of n members without those whose value is null, the others stripped and in byte order of their names, and gives
+// its length. A slice that is handed on as it came is copied by one move of 16 bytes, which waits for the two stores of 8 bytes
+// before it; so here and in `put_stripped` slices are handed on as `&s[0..]`.
+fn put_members_stripped(s: &[u8], n: usize, out: &mut [u8], at: usize, allowance: u32) -> Stripped
+    requires { ⌜ Strippable (now s) allowance × (header (now s) ≡ Header.Object n) × (at ≤ 65536 * (64 - allowance)) ⌝ }
+    ensures { λ r. ⌜ Strips r (unrepeatedOf (now (s .entry))) (strippedOf (now (s .entry))) (now (out .exit))
+        (patch (now (out .entry)) at (strippedOf (now (s .entry)))) ⌝ }
+{
+    let ahead = members_ahead(&s[0..], n);
+    let sizes = measure_ahead(&s[0..], ahead, Kept::NonNull);
+    if ahead.is_rising {
+        return put_rising_stripped(&s[0..], ahead, sizes, &mut out[0..], at, allowance);
+    }
+    put_sorted_stripped(&s[0..], ahead, sizes, &mut out[0..], at, allowance)
 }
 
 // Stores a container stripped, and gives its length. What is no container is not met here.
@@ -167,8 +236,8 @@ fn put_stripped(s: &[u8], out: &mut [u8], at: usize, allowance: u32) -> Stripped
         (patch (now (out .entry)) at (strippedOf (now (s .entry)))) ⌝ }
 {
     match read_header(s) {
-        Header::Array(n) => put_items_stripped(s, n, out, at, allowance),
-        Header::Object(n) => put_members_stripped(s, n, out, at, allowance),
+        Header::Array(n) => put_items_stripped(&s[0..], n, &mut out[0..], at, allowance),
+        Header::Object(n) => put_members_stripped(&s[0..], n, &mut out[0..], at, allowance),
         Header::Scalar(_) => Stripped::Len(0),
         Header::Refused(_) => Stripped::Len(0),
     }

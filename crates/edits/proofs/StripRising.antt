@@ -1,0 +1,126 @@
+-- An object whose names rise, stripped: its members are taken as they stand.
+use Prim.Native.Nat.{ℕ, _+_, _*_, _-_, _^_, _≤_, _<_}
+use native.Mathlib.Omega.{arith}
+use mathlib.Core.Path.{_≡_, refl, ap, sym, _∙_}
+use mathlib.Core.Bool.{Bool, true, false}
+use mathlib.Core.List.{[], _∷_}
+use lib.Bits.{bitOr}
+use lib.Dec.{eqb}
+use lib.ListN.{length}
+use borrow.Author.Tests.{ne-eqb}
+use Rattle.layout.specs.Bytes.{Bytes, be32}
+use Rattle.layout.specs.Entry.{code-of}
+use Rattle.layout.specs.Patch.{patch}
+use Rattle.builders.specs.Search.{name-in, value-in, member-at, is-kept, bound, least}
+use Rattle.builders.specs.Weave.{stored}
+use Rattle.builders.specs.declared.search.Kept.the-variants.{NonNull}
+use Rattle.builders.specs.declared.search.MemberAt.{MemberAt}
+use Rattle.builders.specs.declared.search.Places.{Places}
+use Rattle.builders.specs.declared.search.Found.the-variants.{Nothing, At}
+use Rattle.builders.proofs.Searches.{least-over}
+use Rattle.edits.specs.Stripping.{stripped-of, unrepeated-of, Strippable, strip-item, strip-value, value-entry, unrepeated-item, Strips}
+use Rattle.edits.specs.Members.{places-for, sizes-of, behind-ahead, kept-ahead, all-ahead, Near, Next}
+use Rattle.edits.specs.declared.members.Ahead.{Ahead}
+use Rattle.edits.specs.declared.members.Sizes.{Sizes}
+use Rattle.edits.specs.declared.members.Taken.the-variants.{Member}
+use Rattle.edits.specs.declared.strip.Stripped.{Stripped}
+use Rattle.edits.specs.declared.strip.Stripped.the-variants.{Len, Repeated}
+use Rattle.edits.proofs.Standings.{near-on, one-kept, one-passed, none-left, next-stands}
+use Rattle.edits.proofs.Aheads.{searched, all-is, AheadOf, ahead-starts, ahead-taken, ahead-aside, next-is}
+use Rattle.edits.proofs.StripMembers.{Setting, Storing-members, members-starts, members-asks, members-repeats, len-short, members-on, members-ends}
+
+-- The loop: of the members passed `count` are kept, and are stored. No name is repeated, so these and what is kept of those ahead
+-- are all that are kept.
+pub record Storing-rising (s : Bytes) (n a at : ℕ) (to₀ : Places) (o out : Bytes) (to : Places) (here : Ahead) : Type 0 where
+  pub last : Bytes
+  pub count : ℕ
+  pub storing : Storing-members s n a at (sizes-of s (searched s n NonNull)) to₀ o out last to count
+  pub rest : AheadOf s n NonNull (bound (eqb count 0) last) here
+  pub up : here .«is_rising» ≡ true
+  pub left : count + length (kept-ahead s NonNull here) ≡ length (searched s n NonNull)
+
+pub rising-starts : {s : Bytes} {n a at : ℕ} {z : Sizes} {to₀ : Places} → Setting s n a at z to₀ → (o : Bytes) (ahead : Ahead)
+    → ahead ≡ all-ahead s n → ahead .«is_rising» ≡ true → Storing-rising s n a at to₀ o o to₀ ahead
+rising-starts {s} {n} {a} {at} {z} {to₀} h o ahead e up =
+    let own : Setting s n a at (sizes-of s (searched s n NonNull)) to₀ =
+    record { object-is = h .object-is; near = h .near; sizes = refl; places = h .places ∙ ap (λ (x : Sizes). places-for x at) (h .sizes) } in
+    record {
+      last = [];
+      count = 0;
+      storing = members-starts own o [];
+      rest = rw e (ahead-starts s n NonNull (h .object-is .object-is));
+      up = up;
+      left = omega (arith, ap (λ (x : Ahead). length (kept-ahead s NonNull x)) e, ap length (all-is s n NonNull));
+    }
+
+module _ {s : Bytes} {n a at : ℕ} {to₀ : Places} {o out : Bytes} {to : Places} {here : Ahead} (now : Storing-rising s n a at to₀ o out to here) where
+  pub rising-ends : (z : Sizes) (v : ℕ) (o₀ : Bytes) → here .count ≤ here .index → z ≡ sizes-of s (searched s n NonNull)
+      → v ≡ bitOr (2 ^ 30) (z .count) → o ≡ patch o₀ at (be32 v)
+      → Strips (Len (to .val - at)) (unrepeated-of s) (stripped-of s) out (patch o₀ at (stripped-of s))
+  rising-ends z v o₀ h ez ev eo =
+      members-ends (now .storing) v o₀ (omega (arith, now .left, ap length (none-left s NonNull here h)))
+      (ev ∙ ap (λ (x : Sizes). bitOr (2 ^ 30) (x .count)) ez) eo
+
+  module _ (more : here .index < here .count) (m : MemberAt)
+      (em : m ≡ member-at s s (here .at .«key_jentry») (here .at .«val_jentry») (here .at .key) (here .at .val)) (next : Ahead)
+      (en : next ≡ behind-ahead here m) (g : Bool) (hg : g ≡ is-kept NonNull (here .index) m) where
+    next-near : Near next
+    next-near = near-on here m next (now .rest .near) more en
+
+    next-up : next .«is_rising» ≡ true
+    next-up = ap (λ (x : Ahead). x .«is_rising») en ∙ now .up
+
+    -- A member that is left out.
+    pub rising-passed : g ≡ false → Storing-rising s n a at to₀ o out to next
+    rising-passed f =
+        let p = one-passed s NonNull here more m em next en g hg f in
+        record {
+          last = now .last;
+          count = now .count;
+          storing = now .storing;
+          rest = ahead-aside s n NonNull (bound (eqb (now .count) 0) (now .last)) here (now .rest) next (now .up) next-up next-near p;
+          up = next-up;
+          left = omega (arith, now .left, ap length p);
+        }
+
+    -- One that is kept is the next in byte order.
+    module _ (t : g ≡ true) where
+      split : kept-ahead s NonNull here ≡ m ∷ kept-ahead s NonNull next
+      split = one-kept s NonNull here more m em next en g hg t
+
+      taken : Next s NonNull (bound (eqb (now .count) 0) (now .last)) here (Member m next)
+      taken =
+          next-stands s NonNull (bound (eqb (now .count) 0) (now .last)) here (Member m next) (now .up)
+          (split, ap (λ (x : Ahead). x .«is_rising») en, next-near)
+
+      found : At m ≡ least (name-in s) (bound (eqb (now .count) 0) (now .last)) Nothing (searched s n NonNull)
+      found = next-is s n NonNull (bound (eqb (now .count) 0) (now .last)) here (now .rest) (Member m next) taken
+
+      pub rising-asks : (code-of (m .val .jentry) ≡ 5 → Strippable (value-in s m) (a - 1))
+          × (to .«key_jentry» < 2 ^ 60) × (to .key < 2 ^ 60) × (to .«val_jentry» + 4 ≤ to .key) × (to .«val_jentry» + 4 ≤ to .val) × (to .val ≤ 65536 * (64 - (a - 1)))
+      rising-asks = members-asks (now .storing) (At m) found m refl (omega (arith, now .left, ap length split))
+
+      module _ (e : Stripped) (out₁ : Bytes) (st : Strips e (unrepeated-item s (m .val)) (strip-item s (m .val)) out₁
+          (stored (name-in s) (strip-value s) (value-entry s) out (to .«key_jentry») (to .«val_jentry») (to .key) (to .val) m)) where
+        pub rising-repeats : e ≡ Repeated → unrepeated-of s ≡ false
+        rising-repeats = members-repeats (now .storing) (At m) found m refl e out₁ st
+
+        module _ (len : ℕ) (qe : e ≡ Len len) where
+          pub rising-len : len ≤ 65536
+          rising-len = len-short (now .storing) (At m) found m refl e out₁ st len qe
+
+          pub rising-on : (key : Bytes) → key ≡ name-in s m
+              → Storing-rising s n a at to₀ o out₁ (record { «key_jentry» = to .«key_jentry» + 4; «val_jentry» = to .«val_jentry» + 4; key = to .key + length key; val = to .val + len }) next
+          rising-on key hk =
+              let later : eqb (now .count + 1) 0 ≡ false = ne-eqb (now .count + 1) 0 (λ y. omega arith) in
+              record {
+                last = key;
+                count = now .count + 1;
+                storing = members-on (now .storing) (At m) found m refl e out₁ st len qe key hk;
+                rest =
+                    rw (later, hk)
+                    (ahead-taken s n NonNull (bound (eqb (now .count) 0) (now .last)) here (now .rest) m next taken
+                    (least-over (name-in s) (bound (eqb (now .count) 0) (now .last)) (searched s n NonNull) m (sym found)));
+                up = next-up;
+                left = omega (arith, now .left, ap length split);
+              }
