@@ -7,9 +7,9 @@ use Rattle.layout.specs.Bytes.{Bytes, be32}
 use Rattle.layout.specs.Tree.{Tree, array, none, item}
 use Rattle.layout.specs.Encode.{encode}
 use Rattle.layout.specs.Ended.{result, refusal}
-use Rattle.layout.specs.Order.{order}
+use Rattle.layout.specs.Order.{order, same-bytes}
 use Rattle.layout.specs.declared.refusal.Refusal.the-variants.{Short, Layout, Limit, Kind, Repeated, Result, Buffer}
-use Rattle.builders.specs.Order.{same, has, distinct}
+use Rattle.builders.specs.Order.{has, distinct}
 use Rattle.builders.specs.Build.{append, build, on-two}
 
 abbrev empty-array : Bytes
@@ -99,7 +99,7 @@ by-bytes :
     0x40 ∷ 0 ∷ 0 ∷ 3 ∷ 0x10 ∷ 0 ∷ 0 ∷ 0 ∷ 0x10 ∷ 0 ∷ 0 ∷ 2 ∷ 0x10 ∷ 0 ∷ 0 ∷ 1
     ∷ 0x40 ∷ 0 ∷ 0 ∷ 0 ∷ 0x30 ∷ 0 ∷ 0 ∷ 0 ∷ 0 ∷ 0 ∷ 0 ∷ 0 ∷ 0x61 ∷ 0x61 ∷ 0x62 ∷ []
     )
-unfolding on-two be32 order same has distinct
+unfolding on-two be32 order same-bytes has distinct
 by-bytes = refl
 
 no-members : on-two build empty-array empty-array 4 ≡ result (0x40 ∷ 0 ∷ 0 ∷ 0 ∷ [])
@@ -111,7 +111,7 @@ abbrev twice : Bytes
 twice = 0x80 ∷ 0 ∷ 0 ∷ 2 ∷ 0x10 ∷ 0 ∷ 0 ∷ 1 ∷ 0x10 ∷ 0 ∷ 0 ∷ 1 ∷ 0x61 ∷ 0x61 ∷ []
 
 repeated : on-two build twice (0x80 ∷ 0 ∷ 0 ∷ 2 ∷ 0 ∷ 0 ∷ 0 ∷ 0 ∷ 0 ∷ 0 ∷ 0 ∷ 0 ∷ []) 0 ≡ refusal Repeated
-unfolding on-two order same has distinct
+unfolding on-two order same-bytes has distinct
 repeated = refl
 
 -- The result of these would be too long for any buffer.
@@ -119,7 +119,7 @@ abbrev long-values : Bytes
 long-values = 0x80 ∷ 0 ∷ 0 ∷ 2 ∷ be32 (0x60000000 + 65523) ++ (0 ∷ 0 ∷ 0 ∷ 0 ∷ replicate 65523 0)
 
 repeated-first : on-two build twice long-values 0 ≡ refusal Repeated
-unfolding on-two be32 order same has distinct
+unfolding on-two be32 order same-bytes has distinct
 repeated-first = refl
 
 unequal-counts : on-two build twice nulls 0 ≡ refusal Kind

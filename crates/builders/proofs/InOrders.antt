@@ -13,13 +13,14 @@ use Rattle.layout.specs.Text.{utf8}
 use Rattle.layout.specs.Tree.{Tree, Members, empty, member, names}
 use Rattle.layout.specs.Encode.{payloads, name-parts, member-parts}
 use Rattle.layout.specs.Limits.{Valid, ValidMembers, depth, depth-members, size, size-members}
-use Rattle.layout.specs.Order.{order}
+use Rattle.layout.specs.Order.{order, same-bytes}
 use Rattle.layout.specs.Sound.{_≺_, Rising, Sound, SoundMembers}
 use Rattle.layout.specs.Value.{Taken, SameMembers}
 use Rattle.layout.specs.declared.order.Ordering.{Ordering}
 use Rattle.layout.specs.declared.order.Ordering.the-variants.{Less, Equal, Greater}
 use Rattle.layout.proofs.Values.{≺-irrefl, ≺-trans, In, rising-tail, rising-all, same-refl}
-use Rattle.builders.specs.Order.{by, insert, insert-all, in-order, find, same, has, distinct, follow}
+use Rattle.layout.proofs.Orders.{unlike-bytes, alike-bytes}
+use Rattle.builders.specs.Order.{by, insert, insert-all, in-order, find, has, distinct, follow}
 use Rattle.builders.proofs.Orderings.{order-cases, by-order, order-less, order-greater, order-refl}
 
 -- A name that comes before another is not equal to it.
@@ -29,24 +30,22 @@ unlike a b l e = ≺-irrefl a (rw (← e) at l)
 -- ---- names among others
 
 pub not-has : (n : Bytes) (ns : List Bytes) → (In n ns → ⊥) → has n ns ≡ false
-unfolding has same
+unfolding has
 not-has n [] h = refl
-not-has n (m ∷ ns) h =
-    by-order n m (λ (b : Bool). (b || has n ns) ≡ false) _ _ _
-    (λ _. not-has n ns (λ i. h (inr i))) (λ e. absurd (h (inl e))) (λ _. not-has n ns (λ i. h (inr i)))
+not-has n (m ∷ ns) h = rw (← unlike-bytes n m (λ e. h (inl e))) (not-has n ns (λ i. h (inr i)))
 
 true-false : true ≡ false → ⊥
 true-false e = let z : _≡_ {A = ℕ} 0 1 = cc in omega arith
 
 pub has-not : (n : Bytes) (ns : List Bytes) → has n ns ≡ false → In n ns → ⊥
-unfolding has same
+unfolding has
 has-not n [] e i = i
 has-not n (m ∷ ns) e i =
-    by-order n m (λ (b : Bool). (b || has n ns) ≡ false → ⊥) _ _ _
-    (λ l e. ⊎-elim (λ j. unlike n m l j) (λ j. has-not n ns e j) i)
-    (λ _ e. true-false e)
-    (λ l e. ⊎-elim (λ j. unlike m n l (sym j)) (λ j. has-not n ns e j) i)
-    e
+    ⊎-elim (λ j. true-false (rw (← alike-bytes n m j) at e)) (λ j. has-not n ns (neither (same-bytes n m) (has n ns) e) j) i
+  where
+    neither : (p q : Bool) → (p || q) ≡ false → q ≡ false
+    neither true q k = absurd (true-false k)
+    neither false q k = k
 
 -- The first of distinct names is not among the rest, and these are distinct.
 pub distinct-cons : (n : Bytes) (ns : List Bytes) → distinct (n ∷ ns) ≡ true → (has n ns ≡ false) × (distinct ns ≡ true)
@@ -388,7 +387,7 @@ all-distinct (member n t ms) done h e =
     let grown : length (member-parts (insert n t done)) ≡ suc (length (member-parts done)) =
     omega (arith, all-count ms (insert n t done), insert-count n t done) in
     let k = all-distinct ms (insert n t done) (insert-rising n t done h) (omega arith) in
-    let new : In n (names done) → ⊥ = λ i. let same = insert-there n t done h i in omega arith in (
+    let new : In n (names done) → ⊥ = λ i. let same-bytes = insert-there n t done h i in omega arith in (
       rw (not-has n (names ms) (λ i. k .1 n i (insert-in n t done))) (k .0),
       λ x i j. ⊎-elim (λ e. new (rw e at j)) (λ i. k .1 x i (insert-stays n t done x j)) i,
     )

@@ -12,14 +12,14 @@ use Rattle.layout.specs.Bytes.{Bytes}
 use Rattle.layout.specs.Entry.{code-of, length-of, entry-at}
 use Rattle.layout.specs.Encode.{Part}
 use Rattle.layout.specs.Place.{parts-at, rising-from, rising-parts}
-use Rattle.layout.specs.Order.{order, before, rising}
+use Rattle.layout.specs.Order.{order, before, rising, same-bytes}
 use Rattle.layout.specs.declared.order.Ordering.{Ordering}
 use Rattle.layout.specs.declared.order.Ordering.the-variants.{Less, Equal, Greater}
 use Rattle.layout.proofs.Values.{≺-irrefl}
 use Rattle.layout.proofs.Orders.{Says, says}
 use Rattle.layout.proofs.Checks.{one-less, parts-step}
 use Rattle.layout.proofs.Sounds.{rising-test}
-use Rattle.builders.specs.Order.{by, same, has, distinct}
+use Rattle.builders.specs.Order.{by, has, distinct}
 use Rattle.builders.specs.Search.{texts, strings-at}
 use Rattle.builders.proofs.InOrders.{rising-distinct}
 
@@ -38,46 +38,11 @@ module _ (s : Bytes) (n i : ℕ) (inv : strings-at s 0 n ≡ strings-at s i (n -
   unfolding strings-at
   strings-end h = let z : n - i ≡ 0 = omega arith in rw (inv, z)
 
--- Equal names.
-pub same-unlike : (a b : Bytes) → (a ≡ b → ⊥) → false ≡ same a b
-unfolding same
-same-unlike a b h = go (order a b) (says a b)
-  where
-    go : (o : Ordering) → Says a b o → false ≡ by o false true false
-    go Less q = refl
-    go Equal q = absurd (h q)
-    go Greater q = refl
-
-pub same-alike : (a b : Bytes) → a ≡ b → true ≡ same a b
-unfolding same
-same-alike a b h = go (order a b) (says a b)
-  where
-    go : (o : Ordering) → Says a b o → true ≡ by o false true false
-    go Less q = absurd (≺-irrefl b (rw h at q))
-    go Equal q = refl
-    go Greater q = absurd (≺-irrefl b (rw h at q))
-
--- Names of equal lengths, from their ends on.
-module _ (a b : Bytes) (e : length a ≡ length b) where
-  pub ends-alike : drop (length a) a ≡ drop (length a) b
-  ends-alike =
-      let l : length b ≤ length a = omega (arith, e) in
-      drop-of-length-le a (le-refl _) ∙ sym (drop-of-length-le b l)
-
-  pub rests-alike : (i : ℕ) → 0 < i → i ≤ length a → drop i a ≡ drop i b → getD a (i - 1) 0 ≡ getD b (i - 1) 0
-      → drop (i - 1) a ≡ drop (i - 1) b
-  rests-alike i p l h q =
-      let k : suc (i - 1) ≡ i = omega arith in
-      rw (drop-cons a (i - 1) 0 (omega arith), drop-cons b (i - 1) 0 (omega (arith, e)), q, k, h)
-
-pub whole : (a b : Bytes) (i : ℕ) → drop i a ≡ drop i b → i ≡ 0 → a ≡ b
-whole a b i h e = rw e at h
-
 -- Among others.
 module _ (name s : Bytes) (from start n i p : ℕ)
     (inv : has name (texts (parts-at s from start (n - from))) ≡ has name (texts (parts-at s i p (n - i)))) where
   module _ (lt : i < n) (e l : ℕ) (piece : Bytes) (g : Bool) (he : e ≡ entry-at s i) (hl : l ≡ length-of e)
-      (hp : piece ≡ take l (drop p s)) (hg : g ≡ same name piece) where
+      (hp : piece ≡ take l (drop p s)) (hg : g ≡ same-bytes name piece) where
     pub among-found : g ≡ true → true ≡ has name (texts (parts-at s from start (n - from)))
     unfolding has
     among-found q = rw (inv, parts-step s i p n lt, ← he, ← hl, ← hp, ← hg, q)

@@ -6,7 +6,7 @@ use mathlib.Core.List.{List, [], _∷_}
 use mathlib.Core.Option.{Option, none, some}
 use Rattle.layout.specs.Bytes.{Bytes}
 use Rattle.layout.specs.Tree.{Tree, Members, empty, member}
-use Rattle.layout.specs.Order.{order}
+use Rattle.layout.specs.Order.{order, same-bytes}
 use Rattle.layout.specs.declared.order.Ordering.{Ordering}
 use Rattle.layout.specs.declared.order.Ordering.the-variants.{Less, Equal, Greater}
 
@@ -43,12 +43,9 @@ find n empty = none
 find n (member m t ms) = by (order n m) (find n ms) (some t) (find n ms)
 
 -- "8 repeated name": whether a name is among others, and whether no name is there twice.
-unfoldable pub same : Bytes → Bytes → Bool
-same n m = by (order n m) false true false
-
 unfoldable pub has : Bytes → List Bytes → Bool
 has n [] = false
-has n (m ∷ ns) = same n m || has n ns
+has n (m ∷ ns) = same-bytes n m || has n ns
 
 unfoldable pub distinct : List Bytes → Bool
 distinct [] = true

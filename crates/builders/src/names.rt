@@ -3,12 +3,13 @@ use layout::constants::STRING_CODE;
 use layout::jentry::payload_len;
 use layout::jentry::read_jentry;
 use layout::jentry::type_code;
+use layout::order::is_same_bytes;
 use layout::sound::is_rising;
 use layout::util::slice;
 ghost use mathlib.Core.Path.{_≡_};
 ghost use Prim.Native.Nat.{_-_, _^_, _≤_, _<_};
 ghost use Rattle.layout.specs.Place.{«parts-at» as partsAt};
-ghost use Rattle.builders.specs.Order.{same, has, distinct};
+ghost use Rattle.builders.specs.Order.{has, distinct};
 ghost use Rattle.builders.specs.Search.{texts, «strings-at» as stringsAt};
 
 // Whether the first n entries are those of strings.
@@ -26,24 +27,6 @@ pub(crate) fn are_strings(s: &[u8], n: usize) -> bool
     true
 }
 
-// Whether two names are equal. Unequal lengths tell it without a look at the bytes, and names of one table differ at their ends
-// more often than at their fronts.
-pub fn is_same(a: &[u8], b: &[u8]) -> bool
-    ensures { λ r. ⌜ r ≡ same (now (a .entry)) (now (b .entry)) ⌝ }
-{
-    if a.len() != b.len() {
-        return false;
-    }
-    let mut i = a.len();
-    while 0 < i {
-        i -= 1;
-        if a[i] != b[i] {
-            return false;
-        }
-    }
-    true
-}
-
 // Whether a name is among those from entry `from` on, the first of which stands at `start`.
 fn is_among(name: &[u8], s: &[u8], from: usize, n: usize, start: usize) -> bool
     requires { ⌜ (from ≤ n) × (n < 2 ^ 29) × (start < 2 ^ 60) ⌝ }
@@ -53,7 +36,7 @@ fn is_among(name: &[u8], s: &[u8], from: usize, n: usize, start: usize) -> bool
     let mut i = from;
     while i < n {
         let len = payload_len(read_jentry(s, i)) as usize;
-        if is_same(name, slice(s, place, len)) {
+        if is_same_bytes(name, slice(s, place, len)) {
             return true;
         }
         place += len;

@@ -12,7 +12,7 @@ use Rattle.layout.specs.Entry.{length-of, entry-at, lengths}
 use Rattle.layout.specs.Place.{parts-at}
 use Rattle.layout.proofs.Checks.{parts-step, lengths-step}
 use Rattle.layout.proofs.Places.{lengths-split, length-parts}
-use Rattle.builders.specs.Order.{same}
+use Rattle.layout.specs.Order.{same-bytes}
 use Rattle.builders.specs.Search.{texts}
 use Rattle.builders.proofs.Builds.{length-texts}
 use Rattle.edits.specs.Find.{place}
@@ -70,7 +70,7 @@ first-start name s start n = rw (sub-zero n) (sym (moved-none _))
 module _ (name s : Bytes) (n i p : ℕ)
     (inv : first name (texts (parts-at s 0 (4 + 4 * (n + n)) n)) ≡ moved i (first name (texts (parts-at s i p (n - i))))) where
   module _ (lt : i < n) (e l : ℕ) (piece : Bytes) (g : Bool) (he : e ≡ entry-at s i) (hl : l ≡ length-of e)
-      (hp : piece ≡ take l (drop p s)) (hg : g ≡ same name piece) where
+      (hp : piece ≡ take l (drop p s)) (hg : g ≡ same-bytes name piece) where
     first-turn : first name (texts (parts-at s 0 (4 + 4 * (n + n)) n))
         ≡ moved i (cond g (some 0) (one-more (first name (texts (parts-at s (i + 1) (p + l) (n - (i + 1)))))))
     unfolding first
@@ -93,7 +93,7 @@ module _ (name s : Bytes) (n i p : ℕ)
 first-below : (name : Bytes) (ns : List Bytes) (k : ℕ) → first name ns ≡ some k → k < length ns
 unfolding first
 first-below name [] k e = let z : _≡_ {A = ℕ} 0 1 = cc in let w : ⊥ = omega arith in absurd w
-first-below name (m ∷ ns) k e = go (same name m) (first name ns) (first-below name ns) e
+first-below name (m ∷ ns) k e = go (same-bytes name m) (first name ns) (first-below name ns) e
   where
     go : (b : Bool) (o : Option ℕ) → ((j : ℕ) → o ≡ some j → j < length ns) → cond b (some 0) (one-more o) ≡ some k
         → k < suc (length ns)

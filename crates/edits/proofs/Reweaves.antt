@@ -10,7 +10,7 @@ use Rattle.layout.specs.Entry.{entry-of, length-of}
 use Rattle.layout.specs.Patch.{patch}
 use Rattle.layout.proofs.Words.{length-be32, octets-take, octets-drop}
 use Rattle.layout.proofs.Patches.{length-patch, patch-comm}
-use Rattle.builders.specs.Order.{same}
+use Rattle.layout.specs.Order.{same-bytes}
 use Rattle.builders.specs.Search.{bytes-at, name-in, value-in}
 use Rattle.builders.specs.Weave.{behind, own-entry, stored}
 use Rattle.builders.specs.declared.search.MemberAt.{MemberAt}
@@ -27,16 +27,16 @@ reordered o a b c d x v y z h k =
     patch-comm (patch (patch o a x) c y) b d v z k ∙ ap (λ (l : Bytes). patch l d z) (patch-comm (patch o a x) b c v y h)
 
 module _ (s path name : Bytes) (m : MemberAt) (w : Way) (at : Places) (key : Bytes) (hk : key ≡ bytes-at s (m .key)) (g : Bool)
-    (hg : g ≡ same name key) where
+    (hg : g ≡ same-bytes name key) where
   abbrev steps : List Step
   steps = steps-from path w
 
-  is-named : (b : Bool) → g ≡ b → same name (name-in s m) ≡ b
-  is-named b q = sym (ap (same name) hk) ∙ sym hg ∙ q
+  is-named : (b : Bool) → g ≡ b → same-bytes name (name-in s m) ≡ b
+  is-named b q = sym (ap (same-bytes name) hk) ∙ sym hg ∙ q
 
   -- Where it has the name.
   module _ (t : g ≡ true) (allowance : ℕ)
-      (pre : same name (name-in s m) ≡ true → Cuts (value-in s m) path w allowance × (at .val ≤ 65536 * (64 - allowance)))
+      (pre : same-bytes name (name-in s m) ≡ true → Cuts (value-in s m) path w allowance × (at .val ≤ 65536 * (64 - allowance)))
       (value : Bytes) (hv : value ≡ bytes-at s (m .val)) where
     pub value-cuts : Cuts value path w allowance × (at .val ≤ 65536 * (64 - allowance))
     value-cuts = rw hv (pre (is-named true t))
@@ -54,7 +54,7 @@ module _ (s path name : Bytes) (m : MemberAt) (w : Way) (at : Places) (key : Byt
           ≡ behind (name-in s m) (anew-value s name steps m) at)
           × (o₄ ≡ stored (name-in s) (anew-value s name steps) (anew-entry s name steps) o₀ (at .«key_jentry») (at .«val_jentry») (at .key) (at .val) m)
       named-stored o₀ o₁ o₄ e e₁ e₂ ee e₄ hc hd =
-          let n : same name (name-in s m) ≡ true = is-named true t in
+          let n : same-bytes name (name-in s m) ≡ true = is-named true t in
           let ln : len ≡ length (left-of (value-in s m) (steps-from path w)) = l .length-is ∙ ap (λ (v : Bytes). length (left-of v (steps-from path w))) hv in
           let ez : e ≡ entry-of 5 (length (left-of (value-in s m) (steps-from path w))) = ee ∙ omega (arith, ln, value-short) in
           let st : o₃ ≡ patch o₂ (at .val) (left-of (value-in s m) (steps-from path w)) =
@@ -74,7 +74,7 @@ module _ (s path name : Bytes) (m : MemberAt) (w : Way) (at : Places) (key : Byt
       × (o₁ ≡ stored (name-in s) (value-in s) own-entry o₀ (at .«key_jentry») (at .«val_jentry») (at .key) (at .val) m)
       → (at′ ≡ behind (name-in s m) (anew-value s name steps m) at)
       × (o₁ ≡ stored (name-in s) (anew-value s name steps) (anew-entry s name steps) o₀ (at .«key_jentry») (at .«val_jentry») (at .key) (at .val) m)
-  other-stored f at′ o₀ o₁ h = let n : same name (name-in s m) ≡ false = is-named false f in rw n h
+  other-stored f at′ o₀ o₁ h = let n : same-bytes name (name-in s m) ≡ false = is-named false f in rw n h
 
 -- Four stores leave the buffer's length.
 pub stored-length : (o o₁ x y z v : Bytes) (a b c d : ℕ) → o₁ ≡ patch (patch (patch (patch o a x) b y) c z) d v → length o₁ ≡ length o

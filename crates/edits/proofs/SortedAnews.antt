@@ -13,7 +13,7 @@ use Rattle.layout.specs.Bytes.{Bytes, Octets, be32}
 use Rattle.layout.specs.Entry.{length-of, entry-at, lengths}
 use Rattle.layout.specs.Tree.{Tree, object, Members, empty, member, names, kind}
 use Rattle.layout.specs.Encode.{Part, name-part, name-parts, member-parts, payload, record-of}
-use Rattle.layout.specs.Order.{order}
+use Rattle.layout.specs.Order.{order, is-equal, same-bytes}
 use Rattle.layout.specs.Sound.{Rising, _≺_}
 use Rattle.layout.specs.Read.{header}
 use Rattle.layout.specs.Check.{checked}
@@ -22,11 +22,12 @@ use Rattle.layout.specs.declared.order.Ordering.{Ordering}
 use Rattle.layout.specs.declared.order.Ordering.the-variants.{Less, Equal, Greater}
 use Rattle.layout.specs.declared.item.Kind.the-variants.{Container}
 use Rattle.layout.specs.declared.util.Header.the-variants.{Object}
+use Rattle.layout.proofs.Orders.{bytes-test, unlike-bytes}
 use Rattle.layout.proofs.Level.{AllFit}
 use Rattle.layout.proofs.Answers.{gives-inj}
 use Rattle.layout.proofs.Encoding.{object-fits}
 use Rattle.layout.proofs.Values.{In, rising-tail, rising-all, ≺-irrefl}
-use Rattle.builders.specs.Order.{by, same, find, in-order}
+use Rattle.builders.specs.Order.{by, find, in-order}
 use Rattle.builders.specs.Search.{name-in, value-in, members-at, kept-of, sorted, nth}
 use Rattle.builders.specs.Weave.{own-entry, woven, column}
 use Rattle.builders.specs.declared.search.Kept.the-variants.{All}
@@ -54,25 +55,15 @@ use Rattle.edits.proofs.Sorteds.{Value-at, value-at, stand-sizes, stand
 use Rattle.edits.proofs.Onwards.{Below, below}
 
 -- Two names by the test.
-same-as : (n m : Bytes) (o : Ordering) → order n m ≡ o → same n m ≡ by o false true false
-unfolding same
+same-as : (n m : Bytes) (o : Ordering) → order n m ≡ o → same-bytes n m ≡ is-equal o
+unfolding same-bytes
 same-as n m o q = rw q
 
-same-true : (n m : Bytes) → same n m ≡ true → n ≡ m
-same-true n m e = go (order n m) refl
-  where
-    go : (o : Ordering) → order n m ≡ o → n ≡ m
-    go Equal q = order-equal n m q
-    go Less q = let z : false ≡ true = sym (same-as n m Less q) ∙ e in let w : _≡_ {A = ℕ} 0 1 = cc in let v : ⊥ = omega arith in absurd v
-    go Greater q = let z : false ≡ true = sym (same-as n m Greater q) ∙ e in let w : _≡_ {A = ℕ} 0 1 = cc in let v : ⊥ = omega arith in absurd v
+same-true : (n m : Bytes) → same-bytes n m ≡ true → n ≡ m
+same-true n m e = bytes-test n m .0 (rw e tt)
 
-same-false : (n m : Bytes) → (n ≡ m → ⊥) → same n m ≡ false
-same-false n m d = go (order n m) refl
-  where
-    go : (o : Ordering) → order n m ≡ o → same n m ≡ false
-    go Equal q = absurd (d (order-equal n m q))
-    go Less q = same-as n m Less q
-    go Greater q = same-as n m Greater q
+same-false : (n m : Bytes) → (n ≡ m → ⊥) → same-bytes n m ≡ false
+same-false n m d = sym (unlike-bytes n m d)
 
 -- The name of a member that stands is among the names.
 pub nth-in : (name value : MemberAt → Bytes) (entry : MemberAt → ℕ) (xs : List MemberAt) (ms : Members) → Stand name value entry xs ms
@@ -95,11 +86,11 @@ module _ (s n : Bytes) (rest : List Step) (before after : Tree)
   abbrev Anew : List MemberAt → Members → Type 0
   Anew = Stand (name-in s) (anew-value s n rest) (anew-entry s n rest)
 
-  other-head : (x : MemberAt) (m : Bytes) (t : Tree) → Stands (name-in s) (value-in s) own-entry x m t → same n (name-in s x) ≡ false
+  other-head : (x : MemberAt) (m : Bytes) (t : Tree) → Stands (name-in s) (value-in s) own-entry x m t → same-bytes n (name-in s x) ≡ false
       → Stands (name-in s) (anew-value s n rest) (anew-entry s n rest) x m t
   other-head x m t h g = (h .0, rw g (h .1), h .2, rw g (h .3))
 
-  this-head : (x : MemberAt) (m : Bytes) → Stands (name-in s) (value-in s) own-entry x m before → same n (name-in s x) ≡ true
+  this-head : (x : MemberAt) (m : Bytes) → Stands (name-in s) (value-in s) own-entry x m before → same-bytes n (name-in s x) ≡ true
       → Stands (name-in s) (anew-value s n rest) (anew-entry s n rest) x m after
   this-head x m h g =
       let l : left-of (value-in s x) rest ≡ payload after = ap (λ (b : Bytes). left-of b rest) (h .3) ∙ here in
@@ -122,7 +113,7 @@ module _ (s n : Bytes) (rest : List Step) (before after : Tree)
   anew-by Equal x xs m t ms q r f h go =
       let a : n ≡ m = order-equal n m q in
       let b : t ≡ before = some-inj f in
-      let g : same n (name-in s x) ≡ true = rw (h .0 .2) (same-as n m Equal q) in (
+      let g : same-bytes n (name-in s x) ≡ true = rw (h .0 .2) (same-as n m Equal q) in (
         this-head x m (rw b at (h .0)) g,
         stand-others xs ms (λ k i e. ≺-irrefl m (rw (← sym a ∙ e) at (rising-all m (names ms) r k i))) (h .1),
       )
@@ -151,7 +142,7 @@ module _ (s n : Bytes) (rest : List Step) (before after : Tree)
   found-now Greater m t ms q f e = let z : Greater ≡ Equal = sym q ∙ rw e (order-refl m) in let w : _≡_ {A = ℕ} 0 1 = cc in let v : ⊥ = omega arith in absurd v
 
   pub stand-found : (xs : List MemberAt) (ms : Members) → Rising (names ms) → find n ms ≡ some before → Stand name value own-entry xs ms
-      → (i : ℕ) (m : MemberAt) → nth xs i ≡ FoundAt m → same n (name-in s m) ≡ true → value-in s m ≡ payload before
+      → (i : ℕ) (m : MemberAt) → nth xs i ≡ FoundAt m → same-bytes n (name-in s m) ≡ true → value-in s m ≡ payload before
   unfolding nth
   stand-found [] ms r f h i m e g = let z : _≡_ {A = ℕ} 0 1 = cc in let w : ⊥ = omega arith in absurd w
   stand-found (x ∷ xs) empty r f h i m e g = absurd h
@@ -264,7 +255,7 @@ module _ (s path : Bytes) (n : ℕ) (val : PartAt) (w : Way) (allowance : ℕ) (
     anew-room = omega (arith, summed, down .left-shorter, c .short)
 
     -- The member whose value is written anew: what the nested call asks.
-    pub anew-cuts : (i : ℕ) (m : MemberAt) → nth all i ≡ FoundAt m → same name (name-in s m) ≡ true → Cuts (value-in s m) path next (allowance - 1)
+    pub anew-cuts : (i : ℕ) (m : MemberAt) → nth all i ≡ FoundAt m → same-bytes name (name-in s m) ≡ true → Cuts (value-in s m) path next (allowance - 1)
     anew-cuts i m e g =
         let v : value-in s m ≡ payload (down .value) =
         stand-found s name steps (down .value) (down .after) inner (down .made) all (in-order ms) (in-order-rising ms) finds own i m e g in

@@ -18,7 +18,7 @@ use Rattle.layout.specs.Limits.{size}
 use Rattle.layout.specs.Read.{header, nested}
 use Rattle.layout.specs.Check.{checked}
 use Rattle.layout.specs.Patch.{patch}
-use Rattle.layout.specs.Order.{order}
+use Rattle.layout.specs.Order.{order, is-equal, same-bytes}
 use Rattle.layout.specs.declared.check.Check.the-variants.{Readable}
 use Rattle.layout.specs.declared.util.Header.the-variants.{Object}
 use Rattle.layout.specs.declared.order.Ordering.{Ordering}
@@ -26,7 +26,7 @@ use Rattle.layout.specs.declared.order.Ordering.the-variants.{Less, Equal, Grea
 use Rattle.layout.proofs.Encoding.{object-fits, names-count, pair-of}
 use Rattle.layout.proofs.Decoding.{payloads-append}
 use Rattle.layout.proofs.Readables.{record-of-length, size-payload}
-use Rattle.builders.specs.Order.{by, find, same, in-order}
+use Rattle.builders.specs.Order.{by, find, in-order}
 use Rattle.builders.specs.Search.{name-in, value-in, members-at, is-kept, kept-of}
 use Rattle.builders.specs.Weave.{own-entry, woven, column}
 use Rattle.builders.specs.declared.search.Kept.the-variants.{But}
@@ -153,14 +153,14 @@ module _ (name value : MemberAt → Bytes) (entry : MemberAt → ℕ) (n : Bytes
 
   pub stand-gone : (xs : List MemberAt) (ms : Members) (k i : ℕ) → first n (names ms) ≡ some k → Stand name value entry xs ms
       → Stand name value entry (kept-of (But (i + k)) i xs) (change-member nothing n ms)
-  unfolding first same
+  unfolding first same-bytes
   stand-gone [] empty k i e h = nothing-some e
   stand-gone [] (member m t ms) k i e h = absurd h
   stand-gone (x ∷ xs) empty k i e h = absurd h
   stand-gone (x ∷ xs) (member m t ms) k i e h =
       stand-by (order n m) m t ms x xs k i refl (as-by (order n m) (first n (names ms)) e) h (λ j q. stand-gone xs ms j (i + 1) q (h .1))
     where
-      as-by : (o : Ordering) (r : Option ℕ) → cond (by o false true false) (some 0) (one-more r) ≡ some k → by o (one-more r) (some 0) (one-more r) ≡ some k
+      as-by : (o : Ordering) (r : Option ℕ) → cond (is-equal o) (some 0) (one-more r) ≡ some k → by o (one-more r) (some 0) (one-more r) ≡ some k
       as-by Less r q = q
       as-by Equal r q = q
       as-by Greater r q = q

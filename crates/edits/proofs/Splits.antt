@@ -9,10 +9,10 @@ use lib.ListN.{length}
 use Rattle.layout.specs.Bytes.{Bytes}
 use Rattle.layout.specs.Tree.{Tree, Items, none, item, Members, empty, member, names}
 use Rattle.layout.specs.Encode.{Part, name-part, name-parts, item-parts, member-parts, part}
-use Rattle.layout.specs.Order.{order}
+use Rattle.layout.specs.Order.{order, same-bytes}
 use Rattle.layout.specs.declared.order.Ordering.{Ordering}
 use Rattle.layout.specs.declared.order.Ordering.the-variants.{Less, Equal, Greater}
-use Rattle.builders.specs.Order.{by, find, same}
+use Rattle.builders.specs.Order.{by, find}
 use Rattle.builders.proofs.Orderings.{order-equal}
 use Rattle.edits.specs.Find.{item-at}
 use Rattle.edits.specs.Delete.{change-item, change-member}
@@ -62,7 +62,7 @@ pub record MemberSplit (n : Bytes) (ms : Members) (v : Tree) : Type 0 where
   pub vals-changed : (u : Tree) → member-parts (change-member (some u) n ms) ≡ vals-left ++ (part u ∷ vals-right)
 
 -- A member before the one found.
-later : (n m : Bytes) (t : Tree) (ms : Members) (v : Tree) → same n m ≡ false
+later : (n m : Bytes) (t : Tree) (ms : Members) (v : Tree) → same-bytes n m ≡ false
     → ((o : Option Tree) → change-member o n (member m t ms) ≡ member m t (change-member o n ms))
     → MemberSplit n ms v → MemberSplit n (member m t ms) v
 unfolding first
@@ -86,7 +86,7 @@ later n m t ms v d c r =
 
 split-by : (n m : Bytes) (t : Tree) (ms : Members) (v : Tree) (o : Ordering) → order n m ≡ o
     → by o (find n ms) (some t) (find n ms) ≡ some v → (find n ms ≡ some v → MemberSplit n ms v) → MemberSplit n (member m t ms) v
-unfolding first same
+unfolding first same-bytes
 split-by n m t ms v Less q e rest = later n m t ms v (rw q) (λ o. rw q) (rest e)
 split-by n m t ms v Greater q e rest = later n m t ms v (rw q) (λ o. rw q) (rest e)
 split-by n m t ms v Equal q e rest =
@@ -116,7 +116,7 @@ member-split n (member m t ms) v e = split-by n m t ms v (order n m) refl e (mem
 -- Where no member has the name.
 none-by : (n m : Bytes) (t : Tree) (ms : Members) (o : Ordering) → order n m ≡ o → by o (find n ms) (some t) (find n ms) ≡ nothing
     → (find n ms ≡ nothing → first n (names ms) ≡ nothing) → first n (m ∷ names ms) ≡ nothing
-unfolding first same
+unfolding first same-bytes
 none-by n m t ms Less q e rest = rw (q, rest e)
 none-by n m t ms Greater q e rest = rw (q, rest e)
 none-by n m t ms Equal q e rest = nothing-some (sym e)

@@ -16,11 +16,11 @@ use Rattle.layout.specs.Read.{read}
 use Rattle.layout.specs.Sound.{Sound}
 use Rattle.layout.specs.Check.{checked, soundness}
 use Rattle.layout.specs.Ended.{absence, refusal, into}
-use Rattle.layout.specs.Order.{order, before}
+use Rattle.layout.specs.Order.{order, before, same-bytes}
 use Rattle.layout.specs.declared.refusal.Refusal.the-variants.{Short, Layout, Repeated}
 use Rattle.layout.specs.declared.check.Check.the-variants.{Readable, Refused}
 use Rattle.layout.specs.declared.sound.Soundness.the-variants.{Unsound}
-use Rattle.builders.specs.Order.{same, has}
+use Rattle.builders.specs.Order.{has}
 use Rattle.builders.specs.Build.{on-two}
 use Rattle.edits.specs.Find.{place}
 use Rattle.edits.specs.Keypath.{get-by, delete-by, on-path}
@@ -97,7 +97,7 @@ A-then-b : (room : ℕ) → on-two concat A true-b room
     ≡ into room (
     0x40 ∷ 0 ∷ 0 ∷ 2 ∷ 0x10 ∷ 0 ∷ 0 ∷ 1 ∷ 0x10 ∷ 0 ∷ 0 ∷ 1 ∷ 0x20 ∷ 0 ∷ 0 ∷ 2 ∷ 0x40 ∷ 0 ∷ 0 ∷ 0 ∷ 0x61 ∷ 0x62 ∷ 0x50 ∷ 1 ∷ []
     )
-unfolding on-two concat be32 order same has
+unfolding on-two concat be32 order same-bytes has
 A-then-b room = refl
 
 -- "* A, path 80000001 10000001 61: 20000000 20000002 5001."
@@ -152,7 +152,7 @@ D-unsound = refl
 
 -- "* Strip and * deletion of "a" both give 40000001 10000001 40000000 61."
 D-stripped : (room : ℕ) → on-one strip D room ≡ into room true-a
-unfolding on-one be32 order same has
+unfolding on-one be32 order same-bytes has
 D-stripped room = refl
 
 D-without-a : (room : ℕ) → on-path delete-by D name-a room ≡ into room true-a
@@ -161,11 +161,11 @@ D-without-a room = refl
 
 -- "* 40000000 then D: 8." And without a star, the other side: "D then 40000000: 40000001 10000001 00000000 61."
 empty-then-D : (room : ℕ) → on-two concat empty-object D room ≡ refusal Repeated
-unfolding on-two concat order same has
+unfolding on-two concat order same-bytes has
 empty-then-D room = refl
 
 D-then-empty : (room : ℕ) → on-two concat D empty-object room ≡ into room null-a
-unfolding on-two concat be32 order same has
+unfolding on-two concat be32 order same-bytes has
 D-then-empty room = refl
 
 -- "* Root null then root null: 80000002 00000000 00000000."

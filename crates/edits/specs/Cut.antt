@@ -19,7 +19,7 @@ use Rattle.layout.specs.Place.{part-at, parts-at, rising-parts}
 use Rattle.layout.specs.declared.check.Check.the-variants.{Readable}
 use Rattle.layout.specs.declared.util.Header.{Header}
 use Rattle.layout.specs.declared.util.Header.the-variants.{Array, Object, Scalar, Refused}
-use Rattle.builders.specs.Order.{same}
+use Rattle.layout.specs.Order.{same-bytes}
 use Rattle.builders.specs.Search.{name-in, value-in}
 use Rattle.builders.specs.declared.search.MemberAt.{MemberAt}
 use Rattle.edits.specs.Path.{Step}
@@ -139,7 +139,7 @@ name-of s n k = part-at s k (4 + 4 * (n + n) + lengths s 0 k) .bytes
 
 -- The value of a member and its entry, where the values of a name are written anew.
 abbrev pub anew-value : Bytes → Bytes → List Step → MemberAt → Bytes
-anew-value s n p m = cond (same n (name-in s m)) (left-of (value-in s m) p) (value-in s m)
+anew-value s n p m = cond (same-bytes n (name-in s m)) (left-of (value-in s m) p) (value-in s m)
 
 abbrev pub anew-entry : Bytes → Bytes → List Step → MemberAt → ℕ
-anew-entry s n p m = cond (same n (name-in s m)) (entry-of 5 (length (left-of (value-in s m) p))) (m .val .jentry)
+anew-entry s n p m = cond (same-bytes n (name-in s m)) (entry-of 5 (length (left-of (value-in s m) p))) (m .val .jentry)

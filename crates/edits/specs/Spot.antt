@@ -10,7 +10,7 @@ use Rattle.layout.specs.Entry.{length-of, entry-at, lengths}
 use Rattle.layout.specs.Place.{parts-at}
 use Rattle.layout.specs.declared.util.Header.{Header}
 use Rattle.layout.specs.declared.util.Header.the-variants.{Array, Object, Scalar, Refused}
-use Rattle.builders.specs.Order.{same}
+use Rattle.layout.specs.Order.{same-bytes}
 use Rattle.builders.specs.Search.{texts}
 use Rattle.edits.specs.Path.{Step}
 use Rattle.edits.specs.Find.{step-place, step-name}
@@ -36,7 +36,7 @@ one-more (some k) = some (suc k)
 
 unfoldable pub first : Bytes → List Bytes → Option ℕ
 first n [] = nothing
-first n (m ∷ ns) = cond (same n m) (some 0) (one-more (first n ns))
+first n (m ∷ ns) = cond (same-bytes n m) (some 0) (one-more (first n ns))
 
 -- The part behind this one.
 abbrev pub behind : Bytes → PartAt → PartAt

@@ -9,7 +9,6 @@ use crate::find::place_after;
 use crate::members::measure_members;
 use crate::members::members_of;
 use crate::members::places_for;
-use builders::names::is_same;
 use builders::search::Found;
 use builders::search::Kept;
 use builders::search::MemberAt;
@@ -28,6 +27,7 @@ use layout::ending::Ending;
 use layout::jentry::encoded;
 use layout::jentry::payload_len;
 use layout::jentry::read_jentry;
+use layout::order::is_same_bytes;
 use layout::refusal::Refusal;
 use layout::sound::is_rising;
 use layout::util::Header;
@@ -49,7 +49,7 @@ ghost use Rattle.layout.specs.Patch.{patch};
 ghost use Rattle.layout.specs.Ended.{Ended, into};
 ghost use Rattle.layout.specs.Place.{«parts-at» as partsAt};
 ghost use Rattle.layout.specs.declared.check.Check.the-variants.{Readable};
-ghost use Rattle.builders.specs.Order.{same};
+ghost use Rattle.layout.specs.Order.{«same-bytes» as sameBytes};
 ghost use Rattle.builders.specs.Search.{«name-in» as nameIn, «value-in» as valueIn};
 ghost use Rattle.builders.specs.Weave.{behind, stored};
 ghost use Rattle.edits.specs.Steps.{«part-steps» as partSteps};
@@ -287,7 +287,7 @@ fn put_member_anew(
 ) -> Places
     requires { ⌜ (at .«key_jentry» < 2 ^ 60) × (at .key < 2 ^ 60) × (at .val < 2 ^ 60)
         × (at .«val_jentry» + 4 ≤ at .key) × (at .«val_jentry» + 4 ≤ at .val)
-        × (same (now name) (nameIn (now s) member) ≡ true
+        × (sameBytes (now name) (nameIn (now s) member) ≡ true
         → Cuts (valueIn (now s) member) (now path) next allowance × (at .val ≤ 65536 * (64 - allowance))) ⌝ }
     ensures is { λ r. ⌜ r ≡ behind (nameIn (now (s .entry)) member)
         (anewValue (now (s .entry)) (now (name .entry)) (stepsFrom (now (path .entry)) next) member) at ⌝ }
@@ -297,7 +297,7 @@ fn put_member_anew(
         (now (out .entry)) (at .«key_jentry») (at .«val_jentry») (at .key) (at .val) member ⌝ }
 {
     let key = payload_at(s, member.key);
-    if is_same(name, key) {
+    if is_same_bytes(name, key) {
         put_u32(out, at.key_jentry, member.key.jentry);
         copy(key, out, at.key);
         let len = put_deleted(

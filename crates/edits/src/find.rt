@@ -2,11 +2,11 @@
 use crate::keypath::KeyPath;
 use crate::keypath::key_of;
 use crate::keypath::put_index;
-use builders::names::is_same;
 use layout::constants::HEADER_SIZE;
 use layout::constants::JENTRY_SIZE;
 use layout::jentry::payload_len;
 use layout::jentry::read_jentry;
+use layout::order::is_same_bytes;
 use layout::util::Header;
 use layout::util::read_header;
 use layout::util::slice;
@@ -108,7 +108,7 @@ fn find_name(s: &[u8], n: usize, name: &[u8]) -> Spot
     let mut i = 0;
     while i < n {
         let len = payload_len(read_jentry(s, i)) as usize;
-        if is_same(name, slice(s, place, len)) {
+        if is_same_bytes(name, slice(s, place, len)) {
             return Spot::At(PartAt { index: i, place });
         }
         place += len;

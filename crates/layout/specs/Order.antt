@@ -1,5 +1,5 @@
--- Byte order and rising names as tests, which the code computes. That they say what `_≺_` and `Sound` say is `before-is` of
--- proofs/Orders.antt and `sound-test` of proofs/Sounds.antt.
+-- Byte order, equal bytes and rising names as tests, which the code computes. That they say what `_≺_`, `_≡_` and `Sound` say is
+-- `before-is` and `bytes-test` of proofs/Orders.antt and `sound-test` of proofs/Sounds.antt.
 use mathlib.Core.Bool.{Bool, true, false, cond, _&&_}
 use mathlib.Core.List.{List, [], _∷_}
 use lib.Dec.{ltb}
@@ -21,6 +21,14 @@ is-less Greater = false
 
 unfoldable pub before : Bytes → Bytes → Bool
 before a b = is-less (order a b)
+
+abbrev pub is-equal : Ordering → Bool
+is-equal Less = false
+is-equal Equal = true
+is-equal Greater = false
+
+unfoldable pub same-bytes : Bytes → Bytes → Bool
+same-bytes a b = is-equal (order a b)
 
 -- Whether names rise, and whether they do in every object.
 abbrev pub rising : List Bytes → Bool

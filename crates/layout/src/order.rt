@@ -1,6 +1,6 @@
 // Byte order of names: what the Rust's `str` comparison is on bytes.
 ghost use mathlib.Core.Path.{_≡_};
-ghost use Rattle.layout.specs.Order.{order, before};
+ghost use Rattle.layout.specs.Order.{order, before, «same-bytes» as sameBytes};
 
 pub enum Ordering {
     Less,
@@ -42,4 +42,22 @@ pub fn is_before(a: &[u8], b: &[u8]) -> bool
         Ordering::Equal => false,
         Ordering::Greater => false,
     }
+}
+
+// Whether two texts, payloads or records are equal bytes. Unequal lengths tell it without a look at the bytes, and names of one
+// table differ at their ends more often than at their fronts.
+pub fn is_same_bytes(a: &[u8], b: &[u8]) -> bool
+    ensures { λ r. ⌜ r ≡ sameBytes (now (a .entry)) (now (b .entry)) ⌝ }
+{
+    if a.len() != b.len() {
+        return false;
+    }
+    let mut i = a.len();
+    while 0 < i {
+        i -= 1;
+        if a[i] != b[i] {
+            return false;
+        }
+    }
+    true
 }

@@ -8,7 +8,8 @@ use lib.Dec.{T, eqb, eqb→eq}
 use borrow.Author.Tests.{eq-eqb}
 use Rattle.layout.specs.Bytes.{Bytes}
 use Rattle.layout.specs.Tree.{Tree, Members, empty, member, names}
-use Rattle.builders.specs.Order.{find, same, has, distinct}
+use Rattle.layout.specs.Order.{same-bytes}
+use Rattle.builders.specs.Order.{find, has, distinct}
 use Rattle.edits.proofs.Deletes.{nothing-some, by-equal, equal-or-not, find-first, find-later}
 use Rattle.runs.specs.Plain.{equal, has-name, repeats, named}
 
@@ -47,7 +48,7 @@ named-find n (member m t ms) =
     (λ h. named-find n ms ∙ sym (find-later n m t ms h))
 
 pub has-named : (n : Bytes) (ms : Members) → has-name n ms ≡ has n (names ms)
-unfolding has same
+unfolding has same-bytes
 has-named n empty = refl
 has-named n (member m t ms) = ap₂ _||_ (by-equal n m (λ (b : Bool). equal n m ≡ b) false true (equal-not n m) (λ e. rw e (equal-refl m))) (has-named n ms)
 

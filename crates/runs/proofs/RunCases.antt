@@ -10,7 +10,7 @@ use lib.Dec.{T, ltb, ltb→lt}
 use lib.ListN.{getD, replicate}
 use Rattle.layout.specs.Bytes.{Bytes, Octets, be32}
 use Rattle.layout.specs.Answer.{gives}
-use Rattle.layout.specs.Order.{order}
+use Rattle.layout.specs.Order.{order, same-bytes}
 use Rattle.layout.specs.Tree.{Tree, boolean, number, string, array, object, none, item, empty, member}
 use Rattle.layout.specs.Read.{read}
 use Rattle.layout.specs.Sound.{Sound}
@@ -18,7 +18,7 @@ use Rattle.layout.specs.Value.{Same}
 use Rattle.layout.specs.declared.refusal.Refusal.the-variants.{Kind, Buffer}
 use Rattle.layout.specs.declared.ending.Ending.the-variants.{Done, Absent, Refused}
 use Rattle.layout.proofs.Values.{same-refl}
-use Rattle.builders.specs.Order.{same, has}
+use Rattle.builders.specs.Order.{has}
 use Rattle.runs.specs.declared.call.Edit.{Edit}
 use Rattle.runs.specs.declared.call.Edit.the-variants.{Get, Concat, Strip, Append, Build}
 use Rattle.runs.specs.Call.{Call, outcome}
@@ -43,7 +43,7 @@ octets (x ∷ b) h = go (ltb x 256) (ltb→lt x 256) (octets b) h
 
 -- A record with the value that it reads as.
 sound-with : (b : Bytes) (t : Tree) → T (below-256 b) → read b ≡ gives t → Sound t → SoundWith b t
-sound-with b t o e s = record { octets = octets b o; tree = t; reads = e; sound = s; same = same-refl t }
+sound-with b t o e s = record { octets = octets b o; tree = t; reads = e; sound = s; same-bytes = same-refl t }
 
 -- {"a":1}, {"a":true} and {"b":true}.
 abbrev one : Bytes
@@ -117,7 +117,7 @@ short-call e left right = record { edit = e; left = left; right = right; path = 
 
 -- {"a":1} overlaid with {"b":true}; then a name that is not there is looked up, and the overlaid record stripped.
 overlaid : Start
-unfolding outcome be32 order same has
+unfolding outcome be32 order same-bytes has
 overlaid =
     record {
       calls = call Concat 0 1 [] ∷ call Get 2 0 name-c ∷ call Strip 2 0 [] ∷ [];
@@ -146,7 +146,7 @@ overlaid-values = refl
 
 -- An object built of ["a","b"] and [1,true], once the buffer serves; to append to it is refused.
 built : Start
-unfolding outcome be32 order same has
+unfolding outcome be32 order same-bytes has
 built =
     record {
       calls = short-call Build 0 1 ∷ call Build 0 1 [] ∷ call Append 2 0 [] ∷ [];
@@ -182,7 +182,7 @@ same-value = demand-3 overlaid built .equal 2 6 (omega arith) (omega arith) .0 r
 
 -- {"a":1} and {"a":true}: of a shared name the right one's value counts.
 one-last : Start
-unfolding outcome be32 order same has
+unfolding outcome be32 order same-bytes has
 one-last =
     record {
       calls = call Concat 1 0 [] ∷ [];
@@ -194,7 +194,7 @@ one-last =
     }
 
 true-last : Start
-unfolding outcome be32 order same has
+unfolding outcome be32 order same-bytes has
 true-last =
     record {
       calls = call Concat 0 1 [] ∷ [];

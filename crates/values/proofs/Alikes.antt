@@ -25,9 +25,11 @@ use Rattle.layout.proofs.Encoding.{array-header, object-header, scalar-header, 
 use Rattle.layout.proofs.Readables.{record-of-length}
 use Rattle.layout.proofs.Places.{parts-at-record, drop-parts}
 use Rattle.layout.proofs.Sounds.{both, names-at}
-use Rattle.values.specs.Alike.{same-bytes, payload-at, same-kind, same-payload, same-part, same-parts, Member, member-at, next, members-from, first, members, same-at}
+use Rattle.layout.specs.Order.{same-bytes}
+use Rattle.layout.proofs.Orders.{bytes-test}
+use Rattle.values.specs.Alike.{payload-at, same-kind, same-payload, same-part, same-parts, Member, member-at, next, members-from, first, members, same-at}
 use Rattle.values.specs.declared.value.MemberAt.{MemberAt}
-use Rattle.values.proofs.Likes.{bytes-test, listed, Tells, Told, Small, same-length, members-test}
+use Rattle.values.proofs.Likes.{listed, Tells, Told, Small, same-length, members-test}
 
 -- "Values of unlike sort differ": by the kind, and between containers by the header.
 

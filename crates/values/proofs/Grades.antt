@@ -13,7 +13,7 @@ use Rattle.layout.specs.Encode.{encode}
 use Rattle.layout.specs.Read.{read}
 use Rattle.layout.specs.Sound.{Sound}
 use Rattle.layout.specs.Value.{Same}
-use Rattle.layout.specs.Order.{is-sound}
+use Rattle.layout.specs.Order.{is-sound, same-bytes}
 use Rattle.layout.specs.Place.{sound-at}
 use Rattle.layout.specs.Check.{checked}
 use Rattle.layout.specs.declared.check.Check.{Check}
@@ -25,12 +25,12 @@ use Rattle.layout.proofs.Nestings.{readable-gives, refused-as}
 use Rattle.layout.proofs.Values.{same-refl, sound-bytes}
 use Rattle.layout.proofs.Places.{and-both}
 use Rattle.layout.proofs.Sounds.{sound-test, record-sound}
-use Rattle.values.specs.Alike.{same-bytes, same-at}
+use Rattle.layout.proofs.Orders.{bytes-test}
+use Rattle.values.specs.Alike.{same-at}
 use Rattle.values.specs.Value.{EqualValues}
 use Rattle.values.specs.Grade.{Graded}
 use Rattle.values.specs.declared.grade.Grade.{Grade}
 use Rattle.values.specs.declared.grade.Grade.the-variants.{Right, SameValue, OtherValue, Damaged, Ungraded}
-use Rattle.values.proofs.Likes.{bytes-test}
 use Rattle.values.proofs.Alikes.{record-test}
 
 -- What the test by places says of readable records: whether they have equal values.

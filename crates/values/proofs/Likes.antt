@@ -12,23 +12,14 @@ use Rattle.layout.specs.Bytes.{Bytes}
 use Rattle.layout.specs.Tree.{Tree, Members, empty, member}
 use Rattle.layout.specs.Encode.{payload, part, member-parts}
 use Rattle.layout.specs.Value.{Taken, Same, SameMembers}
-use Rattle.layout.specs.Order.{order}
+use Rattle.layout.specs.Order.{order, same-bytes}
 use Rattle.layout.specs.declared.order.Ordering.{Ordering}
 use Rattle.layout.specs.declared.order.Ordering.the-variants.{Less, Equal, Greater}
 use Rattle.layout.proofs.Values.{≺-irrefl, same-refl}
 use Rattle.layout.proofs.Sames.{same-sym, same-trans}
-use Rattle.layout.proofs.Orders.{Says, says}
+use Rattle.layout.proofs.Orders.{bytes-test}
 use Rattle.layout.proofs.Sounds.{both}
-use Rattle.values.specs.Alike.{is-equal, same-bytes, same-part, Member, like, likes, same-members}
-
-pub bytes-test : (a b : Bytes) → T (same-bytes a b) ↔ (a ≡ b)
-unfolding same-bytes
-bytes-test a b = go (order a b) (says a b)
-  where
-    go : (o : Ordering) → Says a b o → T (is-equal o) ↔ (a ≡ b)
-    go Less s = (λ h. absurd h, λ h. ≺-irrefl b (rw h at s))
-    go Equal s = (λ _. s, λ _. tt)
-    go Greater s = (λ h. absurd h, λ h. ≺-irrefl b (rw h at s))
+use Rattle.values.specs.Alike.{same-part, Member, like, likes, same-members}
 
 -- The members of a tree.
 abbrev pub one : Bytes → Tree → Member

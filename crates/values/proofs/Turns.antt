@@ -11,7 +11,7 @@ use mir.Val.{boolByte}
 use borrow.Author.Tests.{lt-ltb, le-ltb, eq-eqb, ne-eqb}
 use Rattle.layout.specs.Bytes.{Bytes, word-at}
 use Rattle.layout.specs.Entry.{code, code-of, length-of, kind-of, entry-at, lengths}
-use Rattle.layout.specs.Order.{order}
+use Rattle.layout.specs.Order.{order, same-bytes}
 use Rattle.layout.specs.Place.{part-at, parts-at}
 use Rattle.layout.specs.Read.{header}
 use Rattle.layout.specs.declared.item.Kind.{Kind}
@@ -22,15 +22,11 @@ use Rattle.layout.specs.declared.util.Header.the-variants.{Array, Object, Scala
 use Rattle.layout.proofs.Fields.{length-lt}
 use Rattle.layout.proofs.Checks.{one-less, parts-step}
 use Rattle.layout.proofs.Walks.{lengths-le}
-use Rattle.values.specs.Alike.{is-equal, same-bytes, same-kind, payload-at, same-payload, same-part, same-parts}
+use Rattle.values.specs.Alike.{same-kind, payload-at, same-payload, same-part, same-parts}
 use Rattle.values.specs.Alike.{Member, member-at, Near, next, members-from, first, members, like, likes, same-members, same-by, same-at}
 use Rattle.values.specs.declared.value.MemberAt.{MemberAt}
 
 -- Bytes, kinds and payloads.
-pub bytes-told : (a b : Bytes) (o x : Ordering) → o ≡ order a b → o ≡ x → is-equal x ≡ same-bytes a b
-unfolding same-bytes
-bytes-told a b o x h q = rw (← h, q)
-
 pub kinds-told : (c d x y : ℕ) (k l : Kind) → k ≡ kind-of c → x ≡ code k → l ≡ kind-of d → y ≡ code l → eqb x y ≡ same-kind (kind-of c) (kind-of d)
 unfolding same-kind
 kinds-told c d x y k l hk hx hl hy = rw (hx, hk, hy, hl)

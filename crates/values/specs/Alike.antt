@@ -7,25 +7,14 @@ use lib.ListN.{take, drop}
 use Rattle.layout.specs.Bytes.{Bytes, word-at}
 use Rattle.layout.specs.Entry.{code, length-of, entry-at, lengths}
 use Rattle.layout.specs.Encode.{Part}
-use Rattle.layout.specs.Order.{order}
+use Rattle.layout.specs.Order.{same-bytes}
 use Rattle.layout.specs.Place.{part-at, parts-at}
 use Rattle.layout.specs.Read.{header}
 use Rattle.layout.specs.declared.item.Kind.{Kind}
 use Rattle.layout.specs.declared.item.Kind.the-variants.{Null, String, Number, False, True, Container, Extension}
-use Rattle.layout.specs.declared.order.Ordering.{Ordering}
-use Rattle.layout.specs.declared.order.Ordering.the-variants.{Less, Equal, Greater}
 use Rattle.layout.specs.declared.util.Header.{Header}
 use Rattle.layout.specs.declared.util.Header.the-variants.{Array, Object, Scalar, Refused}
 use Rattle.values.specs.declared.value.MemberAt.{MemberAt}
-
--- Equal bytes, by the layout's comparison.
-abbrev pub is-equal : Ordering → Bool
-is-equal Less = false
-is-equal Equal = true
-is-equal Greater = false
-
-unfoldable pub same-bytes : Bytes → Bytes → Bool
-same-bytes a b = is-equal (order a b)
 
 -- The payload at a place, as long as entry `i` says.
 unfoldable pub payload-at : Bytes → ℕ → ℕ → Bytes

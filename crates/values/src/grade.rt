@@ -1,9 +1,9 @@
 // The grade of a record against the one that was expected.
-use crate::value::is_same_bytes;
 use crate::value::is_same_nested;
 use layout::check::Check;
 use layout::check::check_record;
 use layout::constants::DEPTH_LIMIT;
+use layout::order::is_same_bytes;
 use layout::refusal::Refusal;
 use layout::sound::is_sound_nested;
 ghost use Rattle.values.specs.Grade.{Graded};

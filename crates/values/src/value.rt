@@ -19,8 +19,7 @@ use layout::jentry::kind_of;
 use layout::jentry::payload_len;
 use layout::jentry::read_jentry;
 use layout::jentry::type_code;
-use layout::order::Ordering;
-use layout::order::compare;
+use layout::order::is_same_bytes;
 use layout::util::Header;
 use layout::util::read_header;
 use layout::util::read_u32;
@@ -32,7 +31,7 @@ ghost use lib.Dec.{T};
 ghost use Rattle.layout.specs.Entry.{code, «kind-of» as kindOf};
 ghost use Rattle.layout.specs.Place.{«part-at» as partAt, «parts-at» as partsAt};
 ghost use Rattle.values.specs.Value.{EqualValues};
-ghost use Rattle.values.specs.Alike.{«same-bytes» as sameBytes, «same-kind» as sameKind, «payload-at» as payloadAt};
+ghost use Rattle.values.specs.Alike.{«same-kind» as sameKind, «payload-at» as payloadAt};
 ghost use Rattle.values.specs.Alike.{«same-part» as samePart, «same-parts» as sameParts, Near, first, next};
 ghost use Rattle.values.specs.Alike.{«member-at» as memberAt, «members-from» as membersFrom, members, like, likes};
 ghost use Rattle.values.specs.Alike.{«same-members» as sameMembers, «same-at» as sameAt};
@@ -56,17 +55,6 @@ fn code_of(kind: Kind) -> u32
         Kind::True => TRUE_CODE,
         Kind::Container => CONTAINER_CODE,
         Kind::Extension => EXTENSION_CODE,
-    }
-}
-
-// Whether two texts, payloads or records are equal bytes.
-pub(crate) fn is_same_bytes(a: &[u8], b: &[u8]) -> bool
-    ensures { λ r. ⌜ r ≡ sameBytes (now (a .entry)) (now (b .entry)) ⌝ }
-{
-    match compare(a, b) {
-        Ordering::Less => false,
-        Ordering::Equal => true,
-        Ordering::Greater => false,
     }
 }
 

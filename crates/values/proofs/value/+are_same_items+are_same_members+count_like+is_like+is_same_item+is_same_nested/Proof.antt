@@ -38,7 +38,7 @@ use Rattle.layout.proofs.jentry.type_code.Reads as type-code-reads
 use Rattle.layout.proofs.util.read_header.Reads as read-header-reads
 use Rattle.layout.proofs.util.read_u32.Reads as read-u32-reads
 use Rattle.values.proofs.value.first_member.Reads as first-member-reads
-use Rattle.values.proofs.value.is_same_bytes.Reads as is-same-bytes-reads
+use Rattle.layout.proofs.order.is_same_bytes.Reads as is-same-bytes-reads
 use Rattle.values.proofs.value.is_same_kind.Reads as is-same-kind-reads
 use Rattle.values.proofs.value.next_member.Reads as next-member-reads
 use Rattle.values.proofs.value.payload_at.Reads as payload-at-reads

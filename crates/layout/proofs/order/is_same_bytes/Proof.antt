@@ -1,13 +1,13 @@
--- `builders::names::is_same` meets its contract. The loop keeps that what is behind `i` is the same.
+-- `layout::order::is_same_bytes` meets its contract. The loop keeps that what is behind `i` is the same.
 use Prim.Native.Nat.{_-_, _≤_}
 use mathlib.Core.Path.{_≡_, ap}
 use native.Mathlib.Omega.{arith}
 use borrow.Author.Needs.{needs}
 use lib.ListN.{length, drop, getD}
 use Rattle.layout.specs.Bytes.{Bytes}
-use Rattle.builders.proofs.Naming.{same-unlike, same-alike, ends-alike, rests-alike, whole}
-use Rattle.builders.proofs.names.is_same.Statement.{statement}
-use Rattle.builders.proofs.names.is_same.Tie as tie
+use Rattle.layout.proofs.Orders.{unlike-bytes, alike-bytes, ends-alike, rests-alike, whole}
+use Rattle.layout.proofs.order.is_same_bytes.Statement.{statement}
+use Rattle.layout.proofs.order.is_same_bytes.Tie as tie
 
 abbrev Inv-loop : tie.InvT-loop
 Inv-loop a b i₀ i = (i ≤ length a) × (drop i a ≡ drop i b)
@@ -16,22 +16,22 @@ abbrev μ-loop : tie.MeasureT-loop
 μ-loop a b i₀ i = i
 
 returns : tie.Need-returns Inv-loop μ-loop
-returns c = same-unlike _ _ (λ q. c .if1 .taken (ap length q))
+returns c = unlike-bytes _ _ (λ q. c .if1 .taken (ap length q))
 
 loop-holds : tie.Need-loop-holds Inv-loop μ-loop
 loop-holds c = (omega arith, ends-alike (c .before .args .a .now) (c .before .args .b .now) (c .if1 .left))
 
 returns-2 : tie.Need-returns-2 Inv-loop μ-loop
-returns-2 c = same-unlike _ _ (λ q. c .if2 .taken (ap (λ (s : Bytes). getD s (c .before .before .before .before .loop .i - 1) 0) q))
+returns-2 c = unlike-bytes _ _ (λ q. c .if2 .taken (ap (λ (s : Bytes). getD s (c .before .before .before .before .loop .i - 1) 0) q))
 
 loop-again : tie.Need-loop-again Inv-loop μ-loop
 loop-again c = (omega arith, rests-alike (c .before .before .before .before .before .before .args .a .now) (c .before .before .before .before .before .before .args .b .now) (c .before .before .before .before .before .if1 .left) (c .before .before .before .before .loop .i) (c .before .before .before .loop-test .taken) (c .before .before .before .before .loop .inv .0) (c .before .before .before .before .loop .inv .1) (c .if2 .left))
 
 returns-3 : tie.Need-returns-3 Inv-loop μ-loop
-returns-3 c = same-alike _ _ (whole _ _ (c .before .loop .i) (c .before .loop .inv .1) (omega arith))
+returns-3 c = alike-bytes _ _ (whole _ _ (c .before .loop .i) (c .before .loop .inv .1) (omega arith))
 
-pub is-same-spec : {M : Type 1} → statement M
-is-same-spec =
+pub is-same-bytes-spec : {M : Type 1} → statement M
+is-same-bytes-spec =
     tie.close
     (tie.spec
     Inv-loop
