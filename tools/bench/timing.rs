@@ -38,8 +38,8 @@ fn round_of(call: &mut dyn FnMut()) -> (usize, f64) {
     }
 }
 
-/// The times of some calls, round by round. A machine that is slower in one round than in another is slower for all of them, so what
-/// they are to each other is told round by round.
+/// The times of some calls, round by round. A machine that is slower in one round than in another is slower for all of them, so
+/// what they are to each other is told round by round.
 pub fn rounds<const N: usize>(mut calls: [&mut dyn FnMut(); N]) -> Vec<[f64; N]> {
     let mut counts = [0; N];
     let mut whole = 0.0;
