@@ -223,7 +223,7 @@ module _ (s : Bytes) (at : Places) (i n : ℕ) where
 
   module _ (h : Near (standing-at at i n)) where
     pub near-behind : (m : MemberAt) → i < n → Near (standing-at (behind-member at m) (i + 1) n)
-    near-behind m lt = near-on (standing-at at i n) m _ _ h lt refl refl
+    near-behind m lt = near-on (standing-at at i n) m _ h lt refl
 
     pub near-under : Under (2 ^ 58) at
     near-under = (
@@ -242,11 +242,11 @@ module _ (s : Bytes) (at : Places) (i n : ℕ) where
             (cond b (Member (member-here s at) (standing-at (behind-member at (member-here s at)) (i + 1) n)) NoMember)
         go true q =
             let lt : i < n = ltb-true i n q in (
-              one-kept s All at i n (member-here s at) _ _ refl refl refl lt true refl refl,
+              one-kept s All (standing-at at i n) lt (member-here s at) refl _ refl true refl refl,
               refl,
               near-behind (member-here s at) lt,
             )
-        go false q = none-left s All at i n (ltb-false i n q)
+        go false q = none-left s All (standing-at at i n) (ltb-false i n q)
 
     next-at : (b : Bound) → Next s All b (standing-at at i n) (taken-at s at i n)
     next-at b = next-stands s All b (standing-at at i n) (taken-at s at i n) refl stands-at
