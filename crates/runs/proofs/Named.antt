@@ -9,8 +9,9 @@ use borrow.Author.Tests.{eq-eqb}
 use Rattle.layout.specs.Bytes.{Bytes}
 use Rattle.layout.specs.Tree.{Tree, Members, empty, member, names}
 use Rattle.layout.specs.Order.{same-bytes}
+use Rattle.layout.proofs.Orders.{alike-bytes, unlike-bytes}
 use Rattle.builders.specs.Order.{find, has, distinct}
-use Rattle.edits.proofs.Deletes.{nothing-some, by-equal, equal-or-not, find-first, find-later}
+use Rattle.edits.proofs.Deletes.{nothing-some, equal-or-not, find-first, find-later}
 use Rattle.runs.specs.Plain.{equal, has-name, repeats, named}
 
 equal-refl : (a : Bytes) → equal a a ≡ true
@@ -47,10 +48,16 @@ named-find n (member m t ms) =
     (λ e. rw e (sym (find-first m t ms)))
     (λ h. named-find n ms ∙ sym (find-later n m t ms h))
 
+-- The account's test of equal names is the layout's.
+equal-bytes : (n m : Bytes) → equal n m ≡ same-bytes n m
+equal-bytes n m =
+    ⊎-elim (λ e. let q : equal n m ≡ true = rw e (equal-refl m) in q ∙ alike-bytes n m e) (λ h. equal-not n m h ∙ unlike-bytes n m h)
+    (equal-or-not n m)
+
 pub has-named : (n : Bytes) (ms : Members) → has-name n ms ≡ has n (names ms)
-unfolding has same-bytes
+unfolding has
 has-named n empty = refl
-has-named n (member m t ms) = ap₂ _||_ (by-equal n m (λ (b : Bool). equal n m ≡ b) false true (equal-not n m) (λ e. rw e (equal-refl m))) (has-named n ms)
+has-named n (member m t ms) = ap₂ _||_ (equal-bytes n m) (has-named n ms)
 
 pub missing-name : (n : Bytes) (ms : Members) → find n ms ≡ nothing → has-name n ms ≡ false
 missing-name n empty e = refl

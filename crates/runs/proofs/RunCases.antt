@@ -43,7 +43,7 @@ octets (x ∷ b) h = go (ltb x 256) (ltb→lt x 256) (octets b) h
 
 -- A record with the value that it reads as.
 sound-with : (b : Bytes) (t : Tree) → T (below-256 b) → read b ≡ gives t → Sound t → SoundWith b t
-sound-with b t o e s = record { octets = octets b o; tree = t; reads = e; sound = s; same-bytes = same-refl t }
+sound-with b t o e s = record { octets = octets b o; tree = t; reads = e; sound = s; same = same-refl t }
 
 -- {"a":1}, {"a":true} and {"b":true}.
 abbrev one : Bytes
