@@ -3,7 +3,7 @@
 use jsonb::{Edit, Request, EDITS};
 
 use crate::reading::{largest_count, DEPTH_LIMIT, RECORD_LIMIT};
-use crate::tree::{record, Tree};
+use crate::tree::{record, scalar_record, Tree};
 
 /// A stream of numbers (splitmix64).
 pub struct Random(pub u64);
@@ -92,7 +92,7 @@ fn some_spoiled(r: &mut Random) -> Tree {
         ),
         5 => {
             let inner = if r.percent(50) { Tree::Null } else { some_spoiled(r) };
-            Tree::Spoiled(5, table(0x2000_0000, &[part(&inner)]))
+            Tree::Spoiled(5, scalar_record(&inner))
         }
         6 => {
             let length = r.below(6);

@@ -41,6 +41,11 @@ fn table(header: u32, parts: &[(u32, Vec<u8>)]) -> Vec<u8> {
     out
 }
 
+/// An item behind a scalar's header: no record where it is a container.
+pub fn scalar_record(item: &Tree) -> Vec<u8> {
+    table(0x2000_0000, &[part(item)])
+}
+
 pub fn record(tree: &Tree) -> Vec<u8> {
     match tree {
         Tree::Array(items) => table(0x8000_0000 | items.len() as u32, &items.iter().map(part).collect::<Vec<_>>()),
@@ -49,7 +54,7 @@ pub fn record(tree: &Tree) -> Vec<u8> {
             let parts: Vec<_> = names.chain(members.iter().map(|m| part(&m.1))).collect();
             table(0x4000_0000 | members.len() as u32, &parts)
         }
-        scalar => table(0x2000_0000, &[part(scalar)]),
+        scalar => scalar_record(scalar),
     }
 }
 

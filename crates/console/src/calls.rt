@@ -12,9 +12,9 @@ use crate::text::count_arguments;
 use crate::text::trim;
 use crate::text::word_end;
 use crate::writing::answer_edit;
-use builders::names::is_same;
 use layout::check::Check;
 use layout::check::check_record;
+use layout::order::is_same_bytes;
 use layout::sound::Soundness;
 use layout::sound::check_sound;
 use layout::util::byte;
@@ -71,22 +71,22 @@ pub(crate) enum Word {
 
 // The edit that a word names.
 pub(crate) fn edit_of(word: &[u8]) -> Word {
-    if is_same(word, b"get") {
+    if is_same_bytes(word, b"get") {
         return Word::Edit(Edit::Get);
     }
-    if is_same(word, b"delete") {
+    if is_same_bytes(word, b"delete") {
         return Word::Edit(Edit::Delete);
     }
-    if is_same(word, b"concat") {
+    if is_same_bytes(word, b"concat") {
         return Word::Edit(Edit::Concat);
     }
-    if is_same(word, b"strip") {
+    if is_same_bytes(word, b"strip") {
         return Word::Edit(Edit::Strip);
     }
-    if is_same(word, b"append") {
+    if is_same_bytes(word, b"append") {
         return Word::Edit(Edit::Append);
     }
-    if is_same(word, b"build") {
+    if is_same_bytes(word, b"build") {
         return Word::Edit(Edit::Build);
     }
     Word::Other
@@ -94,19 +94,19 @@ pub(crate) fn edit_of(word: &[u8]) -> Word {
 
 // The calls that are no edits.
 fn answer_other(word: &[u8], rest: &[u8]) {
-    if is_same(word, b"check") {
+    if is_same_bytes(word, b"check") {
         return answer_one(Call::Check, rest);
     }
-    if is_same(word, b"sound") {
+    if is_same_bytes(word, b"sound") {
         return answer_one(Call::Sound, rest);
     }
-    if is_same(word, b"show") {
+    if is_same_bytes(word, b"show") {
         return answer_one(Call::Show, rest);
     }
-    if is_same(word, b"grade") {
+    if is_same_bytes(word, b"grade") {
         return answer_grade(rest);
     }
-    if is_same(word, b"run") {
+    if is_same_bytes(word, b"run") {
         return answer_run(rest);
     }
     say(
