@@ -1,7 +1,8 @@
 // One call, to the port and to the client's Rust.
-use jsonb::{Answer, Edit, KeyPath};
+use jsonb::{Answer, Edit, Error, KeyPath};
 
 use crate::port;
+use crate::port::Refusal;
 use crate::tree::{record, Tree};
 
 pub struct Call {
@@ -16,8 +17,7 @@ impl Call {
         Call { edit, first: record(first), second }
     }
 
-    /// Every call that is measured has an answer, so that a refusal is a fault of the driver.
-    pub fn ask_port<'a>(&self, out: &'a mut [u8]) -> Option<&'a [u8]> {
+    pub fn ask_port<'a>(&self, out: &'a mut [u8]) -> Result<Option<&'a [u8]>, Refusal> {
         let (first, second) = (&self.first[..], &self.second[..]);
         match self.edit {
             Edit::Get => port::get_by_keypath(first, second, out),
@@ -27,11 +27,10 @@ impl Call {
             Edit::Append => port::append(first, second, out).map(Some),
             Edit::Build => port::build_object(first, second, out).map(Some),
         }
-        .expect("the port refused a call that is measured")
     }
 
     /// The steps of a path are read beforehand: the Rust has no path records.
-    pub fn ask_rust(&self, steps: &[KeyPath]) -> Answer {
+    pub fn ask_rust(&self, steps: &[KeyPath]) -> Result<Answer, Error> {
         let (first, second) = (&self.first[..], &self.second[..]);
         match self.edit {
             Edit::Get => jsonb::get(first, steps),
@@ -41,7 +40,6 @@ impl Call {
             Edit::Append => jsonb::append(first, second),
             Edit::Build => jsonb::build(first, second),
         }
-        .expect("the Rust refused a call that is measured")
     }
 
     pub fn steps(&self) -> Vec<KeyPath<'_>> {
@@ -52,18 +50,19 @@ impl Call {
     }
 
     /// The port's check of all that it is given, which is part of its every call.
-    pub fn check(&self) {
-        port::check(&self.first).expect("a record that is measured is not readable");
-        if self.edit != Edit::Strip {
-            port::check(&self.second).expect("a record that is measured is not readable");
+    pub fn check(&self) -> Result<(), Refusal> {
+        port::check(&self.first)?;
+        if self.edit == Edit::Strip {
+            return Ok(());
         }
+        port::check(&self.second)
     }
 
-    /// Whether both sides give the same bytes.
+    /// Whether both sides give the same bytes. A refusal is nothing that is measured, and none of them.
     pub fn is_same(&self, out: &mut [u8]) -> bool {
         match (self.ask_port(out), self.ask_rust(&self.steps())) {
-            (Some(ours), Answer::Result(theirs)) => ours == theirs,
-            (None, Answer::Absent) => true,
+            (Ok(Some(ours)), Ok(Answer::Result(theirs))) => ours == theirs,
+            (Ok(None), Ok(Answer::Absent)) => true,
             _ => false,
         }
     }

@@ -51,11 +51,13 @@ fn say_call(name: &str, call: &Call, out: &mut [u8]) {
     let steps = call.steps();
     let times = rounds([
         &mut || {
-            black_box(call.ask_port(black_box(out)));
+            let _ = black_box(call.ask_port(black_box(out)));
         },
-        &mut || call.check(),
         &mut || {
-            black_box(call.ask_rust(black_box(&steps)));
+            let _ = black_box(call.check());
+        },
+        &mut || {
+            let _ = black_box(call.ask_rust(black_box(&steps)));
         },
     ]);
     let of = |i: usize| median(times.iter().map(|round| round[i] / MICRO));
@@ -93,7 +95,7 @@ fn say_growth(what: &str, counts: [usize; 2], make: fn(usize) -> Vec<Call>) {
     for (few, many) in few.iter().zip(&many) {
         let (mut small, mut large) = (vec![0; port::ROOM], vec![0; port::ROOM]);
         let ask = |call: &Call, out: &mut [u8]| {
-            black_box(call.ask_port(black_box(out)));
+            let _ = black_box(call.ask_port(black_box(out)));
         };
         say_factor(what, few.edit.word(), &mut || ask(few, &mut small), &mut || ask(many, &mut large));
     }
@@ -102,7 +104,7 @@ fn say_growth(what: &str, counts: [usize; 2], make: fn(usize) -> Vec<Call>) {
 fn say_search(length: usize, out: &mut [u8]) {
     for call in calls_on_search(length) {
         let time = time(&mut || {
-            black_box(call.ask_port(black_box(out)));
+            let _ = black_box(call.ask_port(black_box(out)));
         });
         println!("| {} | {length} | {} | {:.1} |", count_searched(length), call.edit.word(), time / MILLI);
     }
@@ -150,8 +152,14 @@ fn all_calls() -> Vec<Call> {
 /// Whether the two sides agree on every call: a side that answers something else is not measured.
 fn agree(out: &mut [u8]) -> bool {
     let calls = all_calls();
-    let wrong = calls.iter().filter(|call| !call.is_same(out)).count();
-    eprintln!("bench: {} calls, {wrong} answers differ", calls.len());
+    let mut wrong = 0;
+    for call in &calls {
+        if !call.is_same(out) {
+            eprintln!("bench: the answers to {} of {} and {} bytes differ", call.edit.word(), call.first.len(), call.second.len());
+            wrong += 1;
+        }
+    }
+    eprintln!("bench: {} calls, {wrong} with answers that differ", calls.len());
     wrong == 0
 }
 

@@ -1,25 +1,20 @@
 -- The tests of names: strings, equal, among others, distinct.
-use Prim.Native.Nat.{ℕ, suc, _+_, _-_, _<_, _≤_}
+use Prim.Native.Nat.{ℕ, _+_, _-_, _<_, _≤_}
 use native.Mathlib.Omega.{arith}
-use native.Mathlib.Nat.{sub-zero, le-refl}
+use native.Mathlib.Nat.{sub-zero}
 use mathlib.Core.Path.{_≡_, refl, ap, sym, _∙_}
 use mathlib.Core.Bool.{Bool, true, false, _&&_}
 use mathlib.Core.List.{List, [], _∷_}
-use lib.ListN.{length, take, drop, getD, drop-of-length-le}
-use lib.Seq.{drop-cons}
+use lib.ListN.{take, drop}
 use borrow.Author.Tests.{eq-eqb, ne-eqb}
 use Rattle.layout.specs.Bytes.{Bytes}
 use Rattle.layout.specs.Entry.{code-of, length-of, entry-at}
 use Rattle.layout.specs.Encode.{Part}
 use Rattle.layout.specs.Place.{parts-at, rising-from, rising-parts}
-use Rattle.layout.specs.Order.{order, before, rising, same-bytes}
-use Rattle.layout.specs.declared.order.Ordering.{Ordering}
-use Rattle.layout.specs.declared.order.Ordering.the-variants.{Less, Equal, Greater}
-use Rattle.layout.proofs.Values.{≺-irrefl}
-use Rattle.layout.proofs.Orders.{Says, says}
+use Rattle.layout.specs.Order.{before, rising, same-bytes}
 use Rattle.layout.proofs.Checks.{one-less, parts-step}
 use Rattle.layout.proofs.Sounds.{rising-test}
-use Rattle.builders.specs.Order.{by, has, distinct}
+use Rattle.builders.specs.Order.{has, distinct}
 use Rattle.builders.specs.Search.{texts, strings-at}
 use Rattle.builders.proofs.InOrders.{rising-distinct}
 

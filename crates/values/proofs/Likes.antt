@@ -12,10 +12,8 @@ use Rattle.layout.specs.Bytes.{Bytes}
 use Rattle.layout.specs.Tree.{Tree, Members, empty, member}
 use Rattle.layout.specs.Encode.{payload, part, member-parts}
 use Rattle.layout.specs.Value.{Taken, Same, SameMembers}
-use Rattle.layout.specs.Order.{order, same-bytes}
-use Rattle.layout.specs.declared.order.Ordering.{Ordering}
-use Rattle.layout.specs.declared.order.Ordering.the-variants.{Less, Equal, Greater}
-use Rattle.layout.proofs.Values.{≺-irrefl, same-refl}
+use Rattle.layout.specs.Order.{same-bytes}
+use Rattle.layout.proofs.Values.{same-refl}
 use Rattle.layout.proofs.Sames.{same-sym, same-trans}
 use Rattle.layout.proofs.Orders.{bytes-test}
 use Rattle.layout.proofs.Sounds.{both}

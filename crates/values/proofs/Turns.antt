@@ -11,11 +11,10 @@ use mir.Val.{boolByte}
 use borrow.Author.Tests.{lt-ltb, le-ltb, eq-eqb, ne-eqb}
 use Rattle.layout.specs.Bytes.{Bytes, word-at}
 use Rattle.layout.specs.Entry.{code, code-of, length-of, kind-of, entry-at, lengths}
-use Rattle.layout.specs.Order.{order, same-bytes}
+use Rattle.layout.specs.Order.{same-bytes}
 use Rattle.layout.specs.Place.{part-at, parts-at}
 use Rattle.layout.specs.Read.{header}
 use Rattle.layout.specs.declared.item.Kind.{Kind}
-use Rattle.layout.specs.declared.order.Ordering.{Ordering}
 use Rattle.layout.specs.declared.refusal.Refusal.{Refusal}
 use Rattle.layout.specs.declared.util.Header.{Header}
 use Rattle.layout.specs.declared.util.Header.the-variants.{Array, Object, Scalar, Refused}
