@@ -5,8 +5,8 @@
  * Each is proved to end, and to answer what Keypath.antt, Concat.antt and Strip.antt of crates/edits/specs and
  * crates/builders/specs/Build.antt define (the check: crates/layout/specs/Read.antt) as a number by crates/edits/specs/C.antt, on
  * every record, path and buffer. They keep nothing between calls, take no memory but the stack, and may be called from several
- * threads at once. 64 KiB of stack serve every call: measured at 64 levels, the deepest that a record can be, delete takes 56,600
- * bytes, strip 36,200 and each of the others 14,000.
+ * threads at once. 64 KiB of stack serve every call: measured at 64 levels, the deepest that a record can be, delete takes 61,900
+ * bytes at the most, strip 33,100 and each of the others 20,000 (tests/c/stack.c).
  *
  * A record, a path and a buffer are each a pointer and a length in bytes. What the caller owes:
  *

@@ -134,7 +134,8 @@ fn put_standing(s: &[u8], from: Places, count: usize, out: &mut [u8], to: Places
     at
 }
 
-// The same where the names rise on both sides: one walk through both, with no more in hand than the places of the next members.
+// What `put_merged` does where the names rise on both sides: one walk through both, with no more in hand than the places of the
+// next members.
 fn put_rising(left: &[u8], m: usize, right: &[u8], n: usize, out: &mut [u8], to: Places) -> Places
     requires { ⌜ Objects (now left) m (now right) n × (rises (now left) m ≡ true) × (rises (now right) n ≡ true)
         × (to .«key_jentry» < 2 ^ 32) × (to .«val_jentry» < 2 ^ 32) × (to .key < 2 ^ 32) × (to .val < 2 ^ 32) ⌝ }
