@@ -11,7 +11,7 @@ use Rattle.layout.specs.Encode.{item-parts}
 use Rattle.layout.specs.Read.{header, read}
 use Rattle.layout.specs.Limits.{depth-items, record-length}
 use Rattle.layout.specs.Check.{checked, nesting}
-use Rattle.layout.specs.Ended.{Ended}
+use Rattle.layout.specs.Room.{EndedIn}
 use Rattle.layout.specs.declared.refusal.Refusal.{Refusal}
 use Rattle.layout.specs.declared.refusal.Refusal.the-variants.{Kind, Result}
 use Rattle.layout.specs.declared.ending.Ending.{Ending}
@@ -81,24 +81,24 @@ one-more : (a : Bytes) (k : ℕ) (b : Bytes) (g : Given) → Lies a (Table k) �
 unfolding given-start given-count
 one-more a k b g l e = or-shifted 1 31 (k + 1) (omega (arith, l .starts, l .short)) ∙ rw e
 
-module _ (a b o : Bytes) (oa : Octets a) (ob : Octets b) (c : Check) (hc : c ≡ checked (read a)) where
-  pub append-left : (x : Refusal) → c ≡ NotReadable x → Ended (Refused x) o o (on-two append a b (length o))
-  append-left x q = two-left append a b o x (refused-as (read a) c x hc q)
+module _ (a b o : Bytes) (room : ℕ) (oa : Octets a) (ob : Octets b) (c : Check) (hc : c ≡ checked (read a)) where
+  pub append-left : (x : Refusal) → c ≡ NotReadable x → EndedIn (Refused x) o o (on-two append a b room)
+  append-left x q = two-left append a b o room x (refused-as (read a) c x hc q)
 
   module _ (qc : c ≡ Readable) (n : Nesting) (hn : n ≡ nesting (read b)) where
     left : (t : Tree) × Known a t
     left = let w = readable-gives (read a) c hc qc in (w .0, known a (w .0) oa (w .1))
 
-    pub append-right : (x : Refusal) → n ≡ NotNested x → Ended (Refused x) o o (on-two append a b (length o))
-    append-right x q = two-right append a b o (left .0) (left .1 .reads) x (nested-refused (read b) n x hn q)
+    pub append-right : (x : Refusal) → n ≡ NotNested x → EndedIn (Refused x) o o (on-two append a b room)
+    append-right x q = two-right append a b o room (left .0) (left .1 .reads) x (nested-refused (read b) n x hn q)
 
     module _ (qn : (x : Refusal) → n ≡ NotNested x → ⊥) (h : Header) (hh : h ≡ header a) where
       right : (u : Tree) × Known b u
       right = let w = nested-gives (read b) n hn qn in (w .0, known b (w .0) ob (w .1))
 
-      pub append-kind : ((k : ℕ) → h ≡ Array k → ⊥) → Ended (Refused Kind) o o (on-two append a b (length o))
+      pub append-kind : ((k : ℕ) → h ≡ Array k → ⊥) → EndedIn (Refused Kind) o o (on-two append a b room)
       append-kind q =
-          two-edit append a b o (left .0) (left .1 .reads) (right .0) (right .1 .reads) Kind
+          two-edit append a b o room (left .0) (left .1 .reads) (right .0) (right .1 .reads) Kind
           (append-other (left .0) (right .0) (no-array (left .0) (λ k e. q k (hh ∙ left .1 .head ∙ e))))
 
       module _ (k : ℕ) (qh : h ≡ Array k) where
@@ -108,10 +108,10 @@ module _ (a b o : Bytes) (oa : Octets a) (ob : Octets b) (c : Check) (hc : c ≡
         an-items : Known a (array (items .0))
         an-items = rw (items .1) at (left .1)
 
-        pub append-deep : n ≡ Deep → Ended (Refused Result) o o (on-two append a b (length o))
+        pub append-deep : n ≡ Deep → EndedIn (Refused Result) o o (on-two append a b room)
         append-deep q =
             let d = deep-nesting (right .0) (sym q ∙ hn ∙ ap nesting (right .1 .reads)) in
-            two-deep append a b o (array (items .0)) (an-items .reads) (right .0) (right .1 .reads) _ (append-array (items .0) (right .0))
+            two-deep append a b o room (array (items .0)) (an-items .reads) (right .0) (right .1 .reads) _ (append-array (items .0) (right .0))
             (omega (arith, depth-join (items .0) (item (right .0) none)))
 
         module _ (g : Given) (hg : g ≡ as-one (header b)) where
@@ -119,11 +119,11 @@ module _ (a b o : Bytes) (oa : Octets a) (ob : Octets b) (c : Check) (hc : c ≡
           append-lies = (array-lies a k (items .0) an-items (items .2), one-lies b g (right .0) (right .1) hg)
 
           pub append-ends : (n ≡ Deep → ⊥) → (e : Ending) (o′ : Bytes)
-              → Ended e o o′ (sized (length o) (joined (bitOr (2 ^ 31) (k + 1)) a (Table k) b g))
-              → Ended e o o′ (on-two append a b (length o))
+              → EndedIn e o o′ (sized room (joined (bitOr (2 ^ 31) (k + 1)) a (Table k) b g))
+              → EndedIn e o o′ (on-two append a b room)
           append-ends q e o′ h =
               let d = fits-nesting (right .0) n (hn ∙ ap nesting (right .1 .reads)) q in
-              two-sized append a b o (array (items .0)) (an-items .reads) (right .0) (right .1 .reads) _ (append-array (items .0) (right .0))
+              two-sized append a b o room (array (items .0)) (an-items .reads) (right .0) (right .1 .reads) _ (append-array (items .0) (right .0))
               e o′ (joined (bitOr (2 ^ 31) (k + 1)) a (Table k) b g)
               (omega (arith, depth-join (items .0) (item (right .0) none), an-items .deep))
               (joined-encode (bitOr (2 ^ 31) (k + 1)) a (Table k) (items .0) b g (item (right .0) none)

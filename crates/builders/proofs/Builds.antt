@@ -19,7 +19,7 @@ use Rattle.layout.specs.Order.{rising}
 use Rattle.layout.specs.Sound.{Rising}
 use Rattle.layout.specs.Place.{parts-at, rising-parts}
 use Rattle.layout.specs.Check.{checked}
-use Rattle.layout.specs.Ended.{Ended}
+use Rattle.layout.specs.Room.{EndedIn}
 use Rattle.layout.specs.Patch.{patch}
 use Rattle.layout.specs.declared.refusal.Refusal.{Refusal}
 use Rattle.layout.specs.declared.refusal.Refusal.the-variants.{Kind, Repeated}
@@ -163,7 +163,7 @@ module _ (ks vs : Bytes) (n : ℕ) (ts us : Items) (kk : Known ks (array ts)) (k
       ap all-strings (sym (array-parts ks n ts kk en .0)) ∙ sym (strings-parts ks 0 (4 + 4 * n) n) ∙ q in
       rw (texts-by ts, z)
 
-  module _ (st : strings-at ks 0 n ≡ true) (o : Bytes) where
+  module _ (st : strings-at ks 0 n ≡ true) (o : Bytes) (room : ℕ) where
     abbrev ns : List Bytes
     ns = texts (item-parts ts)
 
@@ -205,15 +205,15 @@ module _ (ks vs : Bytes) (n : ℕ) (ts us : Items) (kk : Known ks (array ts)) (k
 
     -- A result is what is stored, where its names are distinct.
     ends : (e : Ending) (o′ b : Bytes) → distinct ns ≡ true → b ≡ encode (object (in-order ms))
-        → Ended e o o′ (sized (length o) b)
-        → Ended e o o′ (on-two build ks vs (length o))
+        → EndedIn e o o′ (sized room b)
+        → EndedIn e o o′ (on-two build ks vs room)
     ends e o′ b d q h =
-        two-sized build ks vs o (array ts) (kk .reads) (array us) (kv .reads) (object (in-order ms)) (built true d) e o′ b deep q h
+        two-sized build ks vs o room (array ts) (kk .reads) (array us) (kv .reads) (object (in-order ms)) (built true d) e o′ b deep q h
 
     pub build-repeated : distinct (texts (parts-at ks 0 (4 + 4 * n) n)) ≡ false
-        → Ended (Refused Repeated) o o (on-two build ks vs (length o))
+        → EndedIn (Refused Repeated) o o (on-two build ks vs room)
     build-repeated q =
-        two-edit build ks vs o (array ts) (kk .reads) (array us) (kv .reads) Repeated
+        two-edit build ks vs o room (array ts) (kk .reads) (array us) (kv .reads) Repeated
         (built false (ap (λ ps. distinct (texts ps)) (sym parts-are) ∙ q))
 
     given-keys : Gives ks (Table n) ts
@@ -245,8 +245,8 @@ module _ (ks vs : Bytes) (n : ℕ) (ts us : Items) (kk : Known ks (array ts)) (k
         )
 
     pub build-rising : rising-parts (parts-at ks 0 (4 + 4 * n) n) ≡ true → (e : Ending) (o′ : Bytes)
-        → Ended e o o′ (sized (length o) (joined (bitOr (2 ^ 30) n) ks (Table n) vs (Table n)))
-        → Ended e o o′ (on-two build ks vs (length o))
+        → EndedIn e o o′ (sized room (joined (bitOr (2 ^ 30) n) ks (Table n) vs (Table n)))
+        → EndedIn e o o′ (on-two build ks vs room)
     build-rising q e o′ h =
         let r : rising ns ≡ true = sym (rising-names ns) ∙ ap rising-parts (sym named) ∙ ap rising-parts (sym parts-are) ∙ q in
         let up : Rising ns = rising-test ns .0 (rw r tt) in
@@ -309,23 +309,23 @@ module _ (ks vs : Bytes) (n : ℕ) (ts us : Items) (kk : Known ks (array ts)) (k
           fk (array-parts vs n us kv eu .1) e₁ e₂ (behind-header vs us kv) e₃ in
           rw (← ln) at all
 
-      module _ (len : ℕ) (el : len ≡ length ks + (length vs - 4)) (room : Room) (hr : room ≡ room-for len (length o)) where
-        pub sorted-refused : (x : Refusal) → room ≡ NoRoom x → Ended (Refused x) o o (on-two build ks vs (length o))
+      module _ (len : ℕ) (el : len ≡ length ks + (length vs - 4)) (serves : Room) (hs : serves ≡ room-for len room) where
+        pub sorted-refused : (x : Refusal) → serves ≡ NoRoom x → EndedIn (Refused x) o o (on-two build ks vs room)
         sorted-refused x q =
-            ends _ o _ distinct-ns refl (sized-refused (encode (object (in-order ms))) o len (el ∙ result-length) room hr x q)
+            ends _ o _ distinct-ns refl (sized-refused (encode (object (in-order ms))) o room len (el ∙ result-length) serves hs x q)
 
-        pub sorted-done : (w : ℕ) (o₁ o₂ : Bytes) → room ≡ Serves → w ≡ bitOr (2 ^ 30) n → o₁ ≡ patch o 0 (be32 w)
+        pub sorted-done : (w : ℕ) (o₁ o₂ : Bytes) → serves ≡ Serves → w ≡ bitOr (2 ^ 30) n → o₁ ≡ patch o 0 (be32 w)
             → o₂ ≡ woven (name-in ks) (value-in vs) own-entry o₁ 4 (4 + 4 * n) (4 + 4 * n + 4 * n) (length ks + 4 * n)
             (sorted (name-in ks) (members-at ks vs from n))
-            → Ended (Done len) o o₂ (on-two build ks vs (length o))
-        sorted-done w o₁ o₂ serves ew e₁ e₂ =
+            → EndedIn (Done len) o o₂ (on-two build ks vs room)
+        sorted-done w o₁ o₂ qs ew e₁ e₂ =
             let d : length ks + 4 * n ≡ 4 + 4 * n + 4 * n + length (payloads (name-parts (names (in-order ms)))) =
             omega (arith, length-keys, name-bytes, in-order-names ms distinct-ms) in
             let k : n ≡ length (member-parts (in-order ms)) = eu ∙ sym (ap length parts-ms) ∙ sym (in-order-count ms distinct-ms) in
             let hw : w ≡ 2 ^ 30 + n = ew ∙ header-word ∙ ap (λ j. 2 ^ 30 + j) (ap length parts-ms ∙ sym eu) in
             let st = stand-sorted (name-in ks) (value-in vs) own-entry (members-at ks vs from n) ms stand in
             let r = woven-record (name-in ks) (value-in vs) own-entry _ (in-order ms) o o₁ o₂ 0 n _ _ _ _ st k refl refl refl d (rw (← hw) e₁) e₂ in
-            ends _ o₂ _ distinct-ns refl (sized-done (encode (object (in-order ms))) o len (el ∙ result-length) room hr o₂ serves r)
+            ends _ o₂ _ distinct-ns refl (sized-done (encode (object (in-order ms))) o room len (el ∙ result-length) serves hs o₂ qs r)
 
 -- What a readable array is.
 pub array-known : (s : Bytes) (n : ℕ) → Octets s → checked (read s) ≡ Readable → header s ≡ Array n
@@ -368,59 +368,59 @@ module _ (ks vs : Bytes) (ok : Octets ks) (ov : Octets vs) (n : ℕ) (pairs : Pa
         vals = pairs-lie .1 .short;
       }
 
-  module _ (o : Bytes) where
+  module _ (o : Bytes) (room : ℕ) where
     abbrev On : Ending → Bytes → Type 0
-    On e o′ = Ended e o o′ (on-two build ks vs (length o))
+    On e o′ = EndedIn e o o′ (on-two build ks vs room)
 
     pub pairs-repeated : distinct (texts (parts-at ks 0 (4 + 4 * n) n)) ≡ false → On (Refused Repeated) o
     pairs-repeated =
-        build-repeated ks vs n (keys-known .0) (vals-known .0) (keys-known .1) (vals-known .1) (keys-known .2) (vals-known .2) (pairs .strings) o
+        build-repeated ks vs n (keys-known .0) (vals-known .0) (keys-known .1) (vals-known .1) (keys-known .2) (vals-known .2) (pairs .strings) o room
 
     pub pairs-rising : rising-parts (parts-at ks 0 (4 + 4 * n) n) ≡ true → (e : Ending) (o′ : Bytes)
-        → Ended e o o′ (sized (length o) (joined (bitOr (2 ^ 30) n) ks (Table n) vs (Table n))) → On e o′
+        → EndedIn e o o′ (sized room (joined (bitOr (2 ^ 30) n) ks (Table n) vs (Table n))) → On e o′
     pairs-rising =
-        build-rising ks vs n (keys-known .0) (vals-known .0) (keys-known .1) (vals-known .1) (keys-known .2) (vals-known .2) (pairs .strings) o
+        build-rising ks vs n (keys-known .0) (vals-known .0) (keys-known .1) (vals-known .1) (keys-known .2) (vals-known .2) (pairs .strings) o room
 
     module _ (dist : distinct (texts (parts-at ks 0 (4 + 4 * n) n)) ≡ true) (len : ℕ) (el : len ≡ length ks + (length vs - 4))
-        (room : Room) (hr : room ≡ room-for len (length o)) where
-      pub pairs-refused : (x : Refusal) → room ≡ NoRoom x → On (Refused x) o
+        (serves : Room) (hs : serves ≡ room-for len room) where
+      pub pairs-refused : (x : Refusal) → serves ≡ NoRoom x → On (Refused x) o
       pairs-refused =
           sorted-refused ks vs n (keys-known .0) (vals-known .0) (keys-known .1) (vals-known .1) (keys-known .2) (vals-known .2)
-          (pairs .strings) o dist len el room hr
+          (pairs .strings) o room dist len el serves hs
 
-      pub pairs-done : (w : ℕ) (o₁ o₂ : Bytes) → room ≡ Serves → w ≡ bitOr (2 ^ 30) n → o₁ ≡ patch o 0 (be32 w)
+      pub pairs-done : (w : ℕ) (o₁ o₂ : Bytes) → serves ≡ Serves → w ≡ bitOr (2 ^ 30) n → o₁ ≡ patch o 0 (be32 w)
           → o₂ ≡ woven (name-in ks) (value-in vs) own-entry o₁ 4 (4 + 4 * n) (4 + 4 * n + 4 * n) (length ks + 4 * n)
           (sorted (name-in ks)
           (kept-of All 0 (members-at ks vs (record { «key_jentry» = 4; «val_jentry» = 4; key = 4 + 4 * n; val = 4 + 4 * n }) n)))
           → On (Done len) o₂
-      pairs-done w o₁ o₂ serves ew e₁ e₂ =
+      pairs-done w o₁ o₂ qs ew e₁ e₂ =
           sorted-done ks vs n (keys-known .0) (vals-known .0) (keys-known .1) (vals-known .1) (keys-known .2) (vals-known .2)
-          (pairs .strings) o dist len el room hr w o₁ o₂ serves ew e₁ (rw (kept-all 0) at e₂)
+          (pairs .strings) o room dist len el serves hs w o₁ o₂ qs ew e₁ (rw (kept-all 0) at e₂)
 
 -- Before the pairs are known: the numbers in their order.
-module _ (ks vs o : Bytes) (ok : Octets ks) (ov : Octets vs) (c : Check) (hc : c ≡ checked (read ks)) where
-  pub build-left : (x : Refusal) → c ≡ NotReadable x → Ended (Refused x) o o (on-two build ks vs (length o))
-  build-left x q = two-left build ks vs o x (refused-as (read ks) c x hc q)
+module _ (ks vs o : Bytes) (room : ℕ) (ok : Octets ks) (ov : Octets vs) (c : Check) (hc : c ≡ checked (read ks)) where
+  pub build-left : (x : Refusal) → c ≡ NotReadable x → EndedIn (Refused x) o o (on-two build ks vs room)
+  build-left x q = two-left build ks vs o room x (refused-as (read ks) c x hc q)
 
   module _ (qc : c ≡ Readable) (d : Check) (hd : d ≡ checked (read vs)) where
     left : (t : Tree) × Known ks t
     left = let w = readable-gives (read ks) c hc qc in (w .0, known ks (w .0) ok (w .1))
 
-    pub build-right : (x : Refusal) → d ≡ NotReadable x → Ended (Refused x) o o (on-two build ks vs (length o))
-    build-right x q = two-right build ks vs o (left .0) (left .1 .reads) x (refused-as (read vs) d x hd q)
+    pub build-right : (x : Refusal) → d ≡ NotReadable x → EndedIn (Refused x) o o (on-two build ks vs room)
+    build-right x q = two-right build ks vs o room (left .0) (left .1 .reads) x (refused-as (read vs) d x hd q)
 
     module _ (qd : d ≡ Readable) (h : Header) (hh : h ≡ header ks) where
       right : (u : Tree) × Known vs u
       right = let w = readable-gives (read vs) d hd qd in (w .0, known vs (w .0) ov (w .1))
 
-      kind : build (left .0) (right .0) ≡ refused Kind → Ended (Refused Kind) o o (on-two build ks vs (length o))
-      kind = two-edit build ks vs o (left .0) (left .1 .reads) (right .0) (right .1 .reads) Kind
+      kind : build (left .0) (right .0) ≡ refused Kind → EndedIn (Refused Kind) o o (on-two build ks vs room)
+      kind = two-edit build ks vs o room (left .0) (left .1 .reads) (right .0) (right .1 .reads) Kind
 
-      pub build-no-names : ((k : ℕ) → h ≡ Array k → ⊥) → Ended (Refused Kind) o o (on-two build ks vs (length o))
+      pub build-no-names : ((k : ℕ) → h ≡ Array k → ⊥) → EndedIn (Refused Kind) o o (on-two build ks vs room)
       build-no-names q = kind (no-names (left .0) (right .0) (no-array (left .0) (λ k e. q k (hh ∙ left .1 .head ∙ e))))
 
       module _ (n : ℕ) (qh : h ≡ Array n) (j : Header) (hj : j ≡ header vs) where
-        pub build-no-values : ((k : ℕ) → j ≡ Array k → ⊥) → Ended (Refused Kind) o o (on-two build ks vs (length o))
+        pub build-no-values : ((k : ℕ) → j ≡ Array k → ⊥) → EndedIn (Refused Kind) o o (on-two build ks vs room)
         build-no-values q = kind (no-values (left .0) (right .0) (no-array (right .0) (λ k e. q k (hj ∙ right .1 .head ∙ e))))
 
         module _ (m : ℕ) (qj : j ≡ Array m) where
@@ -430,13 +430,13 @@ module _ (ks vs o : Bytes) (ok : Octets ks) (ov : Octets vs) (c : Check) (hc : c
           vals : (us : Items) × (right .0 ≡ array us) × (m ≡ length (item-parts us))
           vals = an-array (right .0) m (sym (right .1 .head) ∙ sym hj ∙ qj)
 
-          pub build-unequal : (n ≡ m → ⊥) → Ended (Refused Kind) o o (on-two build ks vs (length o))
+          pub build-unequal : (n ≡ m → ⊥) → EndedIn (Refused Kind) o o (on-two build ks vs room)
           build-unequal q =
               kind (rw (keys .1, vals .1) (unequal (keys .0) (vals .0)
               (λ e. q (keys .2 ∙ sym (count-parts (keys .0)) ∙ e ∙ count-parts (vals .0) ∙ sym (vals .2)))))
 
           module _ (e : n ≡ m) (g : Bool) (hg : g ≡ strings-at ks 0 n) where
-            pub build-no-strings : g ≡ false → Ended (Refused Kind) o o (on-two build ks vs (length o))
+            pub build-no-strings : g ≡ false → EndedIn (Refused Kind) o o (on-two build ks vs room)
             build-no-strings q =
                 kind (rw (keys .1, vals .1) (texts-none ks vs n (keys .0) (vals .0) (rw (keys .1) at (left .1)) (rw (vals .1) at (right .1))
                 (keys .2) (e ∙ vals .2) (sym hg ∙ q)))

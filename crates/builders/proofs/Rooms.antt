@@ -3,15 +3,18 @@ use Prim.Native.Nat.{ℕ, _<_, _≤_}
 use native.Mathlib.Omega.{arith}
 use native.Mathlib.Decide.{decLe}
 use mathlib.Core.Path.{_≡_, refl, sym, _∙_}
+use mathlib.Core.Bool.{Bool, true, false, cond}
+use lib.Dec.{ltb}
 use lib.ListN.{length}
 use borrow.Author.Tests.{lt-ltb, le-ltb}
 use Rattle.layout.specs.Bytes.{Bytes}
 use Rattle.layout.specs.Patch.{patch}
-use Rattle.layout.specs.Ended.{Ended}
+use Rattle.layout.specs.Ended.{refusal, into}
+use Rattle.layout.specs.Room.{EndedIn, Fits}
 use Rattle.layout.specs.declared.ending.Ending.the-variants.{Done, Refused}
 use Rattle.layout.specs.declared.refusal.Refusal.{Refusal}
 use Rattle.layout.specs.declared.refusal.Refusal.the-variants.{Result, Buffer}
-use Rattle.layout.proofs.Patches.{ended-short, ended-full}
+use Rattle.layout.proofs.Patches.{in-short, in-full, into-fits}
 use Rattle.builders.specs.Room.{room-for, sized}
 use Rattle.builders.specs.declared.room.Room.{Room}
 use Rattle.builders.specs.declared.room.Room.the-variants.{Serves, Refused as NoRoom}
@@ -31,33 +34,42 @@ module _ (len room : ℕ) where
     room-serves h = rw (le-ltb 65536 len l, le-ltb room len h)
 
 -- What the test says of a result `b`.
-module _ (b o : Bytes) (n : ℕ) (e : n ≡ length b) (r : Room) (hr : r ≡ room-for n (length o)) where
-  pub sized-refused : (x : Refusal) → r ≡ NoRoom x → Ended (Refused x) o o (sized (length o) b)
+module _ (b o : Bytes) (room n : ℕ) (e : n ≡ length b) (r : Room) (hr : r ≡ room-for n room) where
+  pub sized-refused : (x : Refusal) → r ≡ NoRoom x → EndedIn (Refused x) o o (sized room b)
   unfolding sized
-  sized-refused x q = by-length (decLe n 65536) (decLe n (length o))
+  sized-refused x q = by-length (decLe n 65536) (decLe n room)
     where
-      same : (y : Refusal) → NoRoom y ≡ room-for n (length o) → y ≡ x
+      same : (y : Refusal) → NoRoom y ≡ room-for n room → y ≡ x
       same y h = let z : NoRoom y ≡ NoRoom x = h ∙ sym hr ∙ q in cc
 
-      by-length : Dec (n ≤ 65536) → Dec (n ≤ length o) → Ended (Refused x) o o (sized (length o) b)
+      by-length : Dec (n ≤ 65536) → Dec (n ≤ room) → EndedIn (Refused x) o o (sized room b)
       by-length (no k) d =
-          rw (lt-ltb 65536 (length b) (omega arith), same Result (room-long n (length o) (omega arith))) (record { answer = refl; bytes = refl })
+          rw (lt-ltb 65536 (length b) (omega arith), same Result (room-long n room (omega arith))) (record { answer = refl; bytes = refl })
       by-length (yes k) (no j) =
-          rw (le-ltb 65536 (length b) (omega arith), ← same Buffer (room-short n (length o) k (omega arith))) (ended-short b o (omega arith))
+          rw (le-ltb 65536 (length b) (omega arith), ← same Buffer (room-short n room k (omega arith))) (in-short b o room (omega arith))
       by-length (yes k) (yes j) =
-          let z : Serves ≡ NoRoom x = room-serves n (length o) k j ∙ sym hr ∙ q in
+          let z : Serves ≡ NoRoom x = room-serves n room k j ∙ sym hr ∙ q in
           let w : _≡_ {A = ℕ} 0 1 = cc in
           let v : ⊥ = omega arith in
           absurd v
 
-  pub sized-done : (o′ : Bytes) → r ≡ Serves → o′ ≡ patch o 0 b → Ended (Done n) o o′ (sized (length o) b)
+  pub sized-done : (o′ : Bytes) → r ≡ Serves → o′ ≡ patch o 0 b → EndedIn (Done n) o o′ (sized room b)
   unfolding sized
-  sized-done o′ q p = by-length (decLe n 65536) (decLe n (length o))
+  sized-done o′ q p = by-length (decLe n 65536) (decLe n room)
     where
-      never : (y : Refusal) → NoRoom y ≡ room-for n (length o) → ⊥
+      never : (y : Refusal) → NoRoom y ≡ room-for n room → ⊥
       never y h = let z : NoRoom y ≡ Serves = h ∙ sym hr ∙ q in let w : _≡_ {A = ℕ} 0 1 = cc in omega arith
 
-      by-length : Dec (n ≤ 65536) → Dec (n ≤ length o) → Ended (Done n) o o′ (sized (length o) b)
-      by-length (no k) d = absurd (never Result (room-long n (length o) (omega arith)))
-      by-length (yes k) (no j) = absurd (never Buffer (room-short n (length o) k (omega arith)))
-      by-length (yes k) (yes j) = rw (le-ltb 65536 (length b) (omega arith)) (ended-full b o o′ n (omega arith) e p)
+      by-length : Dec (n ≤ 65536) → Dec (n ≤ room) → EndedIn (Done n) o o′ (sized room b)
+      by-length (no k) d = absurd (never Result (room-long n room (omega arith)))
+      by-length (yes k) (no j) = absurd (never Buffer (room-short n room k (omega arith)))
+      by-length (yes k) (yes j) = rw (le-ltb 65536 (length b) (omega arith)) (in-full b o room o′ n (omega arith) e p)
+
+-- What comes of bytes goes into the room.
+pub sized-fits : (room : ℕ) (b : Bytes) → Fits room (sized room b)
+unfolding sized
+sized-fits room b = by-length (ltb 65536 (length b))
+  where
+    by-length : (long : Bool) → Fits room (cond long (refusal Result) (into room b))
+    by-length true = tt
+    by-length false = into-fits room b

@@ -13,18 +13,16 @@ use Rattle.layout.specs.Tree.{Tree}
 use Rattle.layout.specs.Encode.{encode}
 use Rattle.layout.specs.Read.{read}
 use Rattle.layout.specs.Limits.{depth, record-length}
-use Rattle.layout.specs.Ended.{Ended, Outcome, refusal, into}
+use Rattle.layout.specs.Ended.{refusal, into}
+use Rattle.layout.specs.Room.{EndedIn, Fits}
 use Rattle.layout.specs.declared.refusal.Refusal.{Refusal}
 use Rattle.layout.specs.declared.refusal.Refusal.the-variants.{Result}
 use Rattle.layout.specs.declared.ending.Ending.{Ending}
 use Rattle.layout.specs.declared.ending.Ending.the-variants.{Refused}
+use Rattle.layout.proofs.Patches.{in-refused, into-fits}
 use Rattle.layout.proofs.Readables.{length-encode}
 use Rattle.builders.specs.Build.{within, written, on-two}
 use Rattle.builders.specs.Room.{sized}
-
--- A refusal leaves the buffer.
-refuses : (o : Bytes) (p : Outcome) (x : Refusal) → p ≡ refusal x → Ended (Refused x) o o p
-refuses o p x e = rw e (record { answer = refl; bytes = refl })
 
 pub and-false : (a : Bool) → (a && false) ≡ false
 and-false true = refl
@@ -47,29 +45,38 @@ written-sized v b room d e =
     go (yes k) = rw (le-leb (record-length v) 65536 k, le-ltb 65536 (record-length v) k, e)
     go (no k) = rw (lt-leb (record-length v) 65536 (omega arith), lt-ltb 65536 (record-length v) (omega arith))
 
-module _ (edit : Tree → Tree → Answer Tree) (l r o : Bytes) where
-  pub two-left : (x : Refusal) → read l ≡ refused x → Ended (Refused x) o o (on-two edit l r (length o))
+module _ (edit : Tree → Tree → Answer Tree) (l r o : Bytes) (room : ℕ) where
+  pub two-left : (x : Refusal) → read l ≡ refused x → EndedIn (Refused x) o o (on-two edit l r room)
   unfolding on-two
-  two-left x e = refuses o _ x (rw e)
+  two-left x e = in-refused o _ x (rw e)
 
   module _ (t : Tree) (hl : read l ≡ gives t) where
-    pub two-right : (x : Refusal) → read r ≡ refused x → Ended (Refused x) o o (on-two edit l r (length o))
+    pub two-right : (x : Refusal) → read r ≡ refused x → EndedIn (Refused x) o o (on-two edit l r room)
     unfolding on-two
-    two-right x e = refuses o _ x (rw (hl, e))
+    two-right x e = in-refused o _ x (rw (hl, e))
 
     module _ (u : Tree) (hr : read r ≡ gives u) where
-      pub two-edit : (x : Refusal) → edit t u ≡ refused x → Ended (Refused x) o o (on-two edit l r (length o))
+      pub two-edit : (x : Refusal) → edit t u ≡ refused x → EndedIn (Refused x) o o (on-two edit l r room)
       unfolding on-two
-      two-edit x e = refuses o _ x (rw (hl, hr, e))
+      two-edit x e = in-refused o _ x (rw (hl, hr, e))
 
       module _ (v : Tree) (he : edit t u ≡ gives v) where
-        two-is : on-two edit l r (length o) ≡ written (length o) (within v)
+        two-is : on-two edit l r room ≡ written room (within v)
         unfolding on-two
         two-is = rw (hl, hr, he)
 
-        pub two-deep : 64 < depth v → Ended (Refused Result) o o (on-two edit l r (length o))
-        two-deep h = refuses o _ Result (two-is ∙ ap (written (length o)) (within-deep v h))
+        pub two-deep : 64 < depth v → EndedIn (Refused Result) o o (on-two edit l r room)
+        two-deep h = in-refused o _ Result (two-is ∙ ap (written room) (within-deep v h))
 
-        pub two-sized : (e : Ending) (o′ b : Bytes) → depth v ≤ 64 → b ≡ encode v → Ended e o o′ (sized (length o) b)
-            → Ended e o o′ (on-two edit l r (length o))
-        two-sized e o′ b d q h = rw (two-is ∙ written-sized v b (length o) d q) h
+        pub two-sized : (e : Ending) (o′ b : Bytes) → depth v ≤ 64 → b ≡ encode v → EndedIn e o o′ (sized room b)
+            → EndedIn e o o′ (on-two edit l r room)
+        two-sized e o′ b d q h = rw (two-is ∙ written-sized v b room d q) h
+
+-- A result goes into the room.
+pub written-fits : (room : ℕ) (m : Answer Tree) → Fits room (written room m)
+written-fits room (gives t) = into-fits room (encode t)
+written-fits room (refused x) = tt
+
+pub two-fits : (edit : Tree → Tree → Answer Tree) (l r : Bytes) (room : ℕ) → Fits room (on-two edit l r room)
+unfolding on-two
+two-fits edit l r room = written-fits room (read l >>= λ t. read r >>= λ u. edit t u >>= λ v. within v)

@@ -29,14 +29,14 @@ ghost use Prim.Native.Nat.{_+_, _*_};
 ghost use lib.ListN.{length};
 ghost use Rattle.layout.specs.Place.{«parts-at» as partsAt};
 ghost use Rattle.layout.specs.Ended.{Ended};
+ghost use Rattle.layout.specs.Room.{EndedIn};
 ghost use Rattle.builders.specs.Order.{distinct};
 ghost use Rattle.builders.specs.Build.{append as appendOf, build, «on-two» as onTwo};
 ghost use Rattle.builders.specs.Search.{texts, Pairs};
 
-// Puts a record, as one item, at the end of an array record.
-pub fn append(array: &[u8], item: &[u8], out: &mut [u8]) -> Ending
-    ensures { λ e. ⌜ Ended e (now (out .entry)) (now (out .exit))
-        (onTwo appendOf (now (array .entry)) (now (item .entry)) (length (now (out .entry)))) ⌝ }
+// Puts a record, as one item, at the end of an array record, where the result goes into `room` bytes.
+pub fn append_in(array: &[u8], item: &[u8], out: &mut [u8], room: usize) -> Ending
+    ensures { λ e. ⌜ EndedIn e (now (out .entry)) (now (out .exit)) (onTwo appendOf (now (array .entry)) (now (item .entry)) room) ⌝ }
 {
     if let Check::Refused(refusal) = check_record(array) {
         return Ending::Refused(refusal);
@@ -52,18 +52,34 @@ pub fn append(array: &[u8], item: &[u8], out: &mut [u8]) -> Ending
         return Ending::Refused(Refusal::Result);
     }
     let header = ARRAY_CONTAINER_TAG | (n + 1) as u32;
-    write_joined(header, array, Given::Table(n), item, as_item(item), out)
+    write_joined(
+        header,
+        array,
+        Given::Table(n),
+        item,
+        as_item(item),
+        out,
+        room,
+    )
+}
+
+// Puts a record, as one item, at the end of an array record.
+pub fn append(array: &[u8], item: &[u8], out: &mut [u8]) -> Ending
+    ensures { λ e. ⌜ Ended e (now (out .entry)) (now (out .exit))
+        (onTwo appendOf (now (array .entry)) (now (item .entry)) (length (now (out .entry)))) ⌝ }
+{
+    let room = out.len();
+    append_in(array, item, out, room)
 }
 
 // Stores the object of n members with distinct names, in byte order of the names, where there is room for it. It is as long as
 // both records less one header.
-fn write_sorted(names: &[u8], values: &[u8], n: usize, out: &mut [u8]) -> Ending
+fn write_sorted(names: &[u8], values: &[u8], n: usize, out: &mut [u8], room: usize) -> Ending
     requires { ⌜ Pairs (now names) (now values) n × (distinct (texts (partsAt (now names) 0 (4 + 4 * n) n)) ≡ true) ⌝ }
-    ensures { λ e. ⌜ Ended e (now (out .entry)) (now (out .exit))
-        (onTwo build (now (names .entry)) (now (values .entry)) (length (now (out .entry)))) ⌝ }
+    ensures { λ e. ⌜ EndedIn e (now (out .entry)) (now (out .exit)) (onTwo build (now (names .entry)) (now (values .entry)) room) ⌝ }
 {
     let len = names.len() + (values.len() - HEADER_SIZE);
-    if let Room::Refused(refusal) = check_room(len, out.len()) {
+    if let Room::Refused(refusal) = check_room(len, room) {
         return Ending::Refused(refusal);
     }
     let start = HEADER_SIZE + JENTRY_SIZE * n;
@@ -85,26 +101,32 @@ fn write_sorted(names: &[u8], values: &[u8], n: usize, out: &mut [u8]) -> Ending
 }
 
 // The object of n names, all strings, with n values. Names that rise already stay as they stand.
-fn build_members(names: &[u8], values: &[u8], n: usize, out: &mut [u8]) -> Ending
+fn build_members(names: &[u8], values: &[u8], n: usize, out: &mut [u8], room: usize) -> Ending
     requires { ⌜ Pairs (now names) (now values) n ⌝ }
-    ensures { λ e. ⌜ Ended e (now (out .entry)) (now (out .exit))
-        (onTwo build (now (names .entry)) (now (values .entry)) (length (now (out .entry)))) ⌝ }
+    ensures { λ e. ⌜ EndedIn e (now (out .entry)) (now (out .exit)) (onTwo build (now (names .entry)) (now (values .entry)) room) ⌝ }
 {
     let start = HEADER_SIZE + JENTRY_SIZE * n;
     if is_rising(names, n, start) {
         let header = OBJECT_CONTAINER_TAG | n as u32;
-        return write_joined(header, names, Given::Table(n), values, Given::Table(n), out);
+        return write_joined(
+            header,
+            names,
+            Given::Table(n),
+            values,
+            Given::Table(n),
+            out,
+            room,
+        );
     }
     if is_distinct(names, n, start) {
-        return write_sorted(names, values, n, out);
+        return write_sorted(names, values, n, out, room);
     }
     Ending::Refused(Refusal::Repeated)
 }
 
-// Builds an object from an array of names and an array of values.
-pub fn build_object(names: &[u8], values: &[u8], out: &mut [u8]) -> Ending
-    ensures { λ e. ⌜ Ended e (now (out .entry)) (now (out .exit))
-        (onTwo build (now (names .entry)) (now (values .entry)) (length (now (out .entry)))) ⌝ }
+// Builds an object from an array of names and an array of values, where it goes into `room` bytes.
+pub fn build_object_in(names: &[u8], values: &[u8], out: &mut [u8], room: usize) -> Ending
+    ensures { λ e. ⌜ EndedIn e (now (out .entry)) (now (out .exit)) (onTwo build (now (names .entry)) (now (values .entry)) room) ⌝ }
 {
     if let Check::Refused(refusal) = check_record(names) {
         return Ending::Refused(refusal);
@@ -122,7 +144,16 @@ pub fn build_object(names: &[u8], values: &[u8], out: &mut [u8]) -> Ending
         return Ending::Refused(Refusal::Kind);
     }
     if are_strings(names, n) {
-        return build_members(names, values, n, out);
+        return build_members(names, values, n, out, room);
     }
     Ending::Refused(Refusal::Kind)
+}
+
+// Builds an object from an array of names and an array of values.
+pub fn build_object(names: &[u8], values: &[u8], out: &mut [u8]) -> Ending
+    ensures { λ e. ⌜ Ended e (now (out .entry)) (now (out .exit))
+        (onTwo build (now (names .entry)) (now (values .entry)) (length (now (out .entry)))) ⌝ }
+{
+    let room = out.len();
+    build_object_in(names, values, out, room)
 }

@@ -16,7 +16,7 @@ ghost use Prim.Native.Nat.{_^_, _<_};
 ghost use lib.ListN.{length};
 ghost use Rattle.layout.specs.Read.{header};
 ghost use Rattle.layout.specs.Patch.{patch};
-ghost use Rattle.layout.specs.Ended.{Ended};
+ghost use Rattle.layout.specs.Room.{EndedIn};
 ghost use Rattle.builders.specs.Join.{«given-count» as givenCount, «given-start» as givenStart};
 ghost use Rattle.builders.specs.Join.{«given-entries» as givenEntries};
 ghost use Rattle.builders.specs.Join.{«as-one» as asOne, Lies, joined, «joined-length» as joinedLength};
@@ -97,7 +97,7 @@ fn put_joined(header: u32, left: &[u8], l: Given, right: &[u8], r: Given, out: &
     copy(right_payloads, out, start + left_payloads.len());
 }
 
-// Stores that container and gives its length, where there is room for it; else nothing is stored.
+// Stores that container and gives its length, where it goes into `room` bytes; else nothing is stored.
 pub fn write_joined(
     header: u32,
     left: &[u8],
@@ -105,13 +105,14 @@ pub fn write_joined(
     right: &[u8],
     r: Given,
     out: &mut [u8],
+    room: usize,
 ) -> Ending
     requires { ⌜ Lies (now left) l × Lies (now right) r ⌝ }
-    ensures { λ e. ⌜ Ended e (now (out .entry)) (now (out .exit))
-        (sized (length (now (out .entry))) (joined header (now (left .entry)) l (now (right .entry)) r)) ⌝ }
+    ensures { λ e. ⌜ EndedIn e (now (out .entry)) (now (out .exit))
+        (sized room (joined header (now (left .entry)) l (now (right .entry)) r)) ⌝ }
 {
     let len = joined_len(left, l, right, r);
-    if let Room::Refused(refusal) = check_room(len, out.len()) {
+    if let Room::Refused(refusal) = check_room(len, room) {
         return Ending::Refused(refusal);
     }
     put_joined(header, left, l, right, r, out);

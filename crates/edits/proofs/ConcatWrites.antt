@@ -8,7 +8,7 @@ use Rattle.layout.specs.Read.{header, nested, read}
 use Rattle.layout.specs.Answer.{gives}
 use Rattle.layout.specs.Tree.{Tree}
 use Rattle.layout.specs.Check.{checked, nesting}
-use Rattle.layout.specs.Ended.{Ended}
+use Rattle.layout.specs.Room.{EndedIn}
 use Rattle.layout.specs.declared.refusal.Refusal.{Refusal}
 use Rattle.layout.specs.declared.ending.Ending.the-variants.{Refused}
 use Rattle.layout.specs.declared.util.Header.{Header}
@@ -35,16 +35,16 @@ object-ready s n o c h =
     no-scalar : (k : ℕ) → Object n ≡ Scalar k → ⊥
     no-scalar k e = let z : _≡_ {A = ℕ} 0 1 = cc in omega arith
 
-module _ (l r o : Bytes) (ol : Octets l) (or : Octets r) (x : Nesting) (hx : x ≡ nesting (read l)) where
-  pub left-refused : (y : Refusal) → x ≡ NotNested y → Ended (Refused y) o o (on-two concat l r (length o))
-  left-refused y q = two-left concat l r o y (nested-refused (read l) x y hx q)
+module _ (l r o : Bytes) (room : ℕ) (ol : Octets l) (or : Octets r) (x : Nesting) (hx : x ≡ nesting (read l)) where
+  pub left-refused : (y : Refusal) → x ≡ NotNested y → EndedIn (Refused y) o o (on-two concat l r room)
+  left-refused y q = two-left concat l r o room y (nested-refused (read l) x y hx q)
 
   module _ (nx : (y : Refusal) → x ≡ NotNested y → ⊥) (z : Nesting) (hz : z ≡ nesting (read r)) where
     left-gives : (t : Tree) × (read l ≡ gives t)
     left-gives = nested-gives (read l) x hx nx
 
-    pub right-refused : (y : Refusal) → z ≡ NotNested y → Ended (Refused y) o o (on-two concat l r (length o))
-    right-refused y q = two-right concat l r o (left-gives .0) (left-gives .1) y (nested-refused (read r) z y hz q)
+    pub right-refused : (y : Refusal) → z ≡ NotNested y → EndedIn (Refused y) o o (on-two concat l r room)
+    right-refused y q = two-right concat l r o room (left-gives .0) (left-gives .1) y (nested-refused (read r) z y hz q)
 
     module _ (nz : (y : Refusal) → z ≡ NotNested y → ⊥) (g : Header) (hg : g ≡ header l) where
       left-readable : checked (read l) ≡ Readable

@@ -13,7 +13,8 @@ use Rattle.layout.specs.Tree.{Tree, null, boolean, number, string, extension, a
 use Rattle.layout.specs.Encode.{part, encode, payload, scalar}
 use Rattle.layout.specs.Read.{header, nested, read}
 use Rattle.layout.specs.Check.{checked}
-use Rattle.layout.specs.Ended.{Ended, into}
+use Rattle.layout.specs.Ended.{into}
+use Rattle.layout.specs.Room.{EndedIn}
 use Rattle.layout.specs.Place.{parts-at}
 use Rattle.layout.specs.declared.refusal.Refusal.{Refusal}
 use Rattle.layout.specs.declared.refusal.Refusal.the-variants.{Path, Kind}
@@ -30,7 +31,7 @@ use Rattle.layout.proofs.Encoding.{items-fit}
 use Rattle.layout.proofs.Readables.{record-of-length}
 use Rattle.layout.proofs.Fields.{code-entry}
 use Rattle.layout.proofs.Nestings.{head-of, readable-gives, refused-as}
-use Rattle.layout.proofs.Patches.{ended-as}
+use Rattle.layout.proofs.Patches.{in-as}
 use Rattle.builders.proofs.Knowns.{Known, known}
 use Rattle.builders.specs.declared.search.ItemAt.{ItemAt}
 use Rattle.edits.specs.Path.{Step, path-of}
@@ -118,12 +119,12 @@ left-encoded s (q ∷ p) t v e z f =
     let d : delete (q ∷ p) t ≡ anew (step-into q t then left p) q t = rw f in
     rw (e, d) (sym (container-encode (anew (step-into q t then left p) q t) (payload (anew (step-into q t then left p) q t)) (rw k)))
 
-module _ (a path o : Bytes) (c : Check) (hc : c ≡ checked (read a)) where
+module _ (a path o : Bytes) (room : ℕ) (c : Check) (hc : c ≡ checked (read a)) where
   abbrev On : Ending → Bytes → Type 0
-  On e o′ = Ended e o o′ (on-path delete-by a path (length o))
+  On e o′ = EndedIn e o o′ (on-path delete-by a path room)
 
   pub delete-left : (x : Refusal) → c ≡ NotReadable x → On (Refused x) o
-  delete-left x q = path-left delete-by a path o x (refused-as (read a) c x hc q)
+  delete-left x q = path-left delete-by a path o room x (refused-as (read a) c x hc q)
 
   module _ (oa : Octets a) (op : Octets path) (qc : c ≡ Readable) (k : Steps) (hk : k ≡ steps-told (path-of path)) where
     target : (t : Tree) × Known a t
@@ -133,17 +134,17 @@ module _ (a path o : Bytes) (c : Check) (hc : c ≡ checked (read a)) where
     t = target .0
 
     pub delete-path : k ≡ NoPath → On (Refused Path) o
-    delete-path q = path-path delete-by a path o t (target .1 .reads) (steps-refused path (sym q ∙ hk))
+    delete-path q = path-path delete-by a path o room t (target .1 .reads) (steps-refused path (sym q ∙ hk))
 
     module _ (n : ℕ) (qk : k ≡ Count n) (h : Header) (hh : h ≡ header a) where
       path-is : path-of path ≡ gives (steps-in path n)
       path-is = steps-counted path n op (sym qk ∙ hk) .2
 
       -- The record as it came.
-      stays : (u : Tree) → deletable t ≡ gives u → delete (steps-in path n) u ≡ t → (e : Ending) (o′ : Bytes) → Ended e o o′ (into (length o) a) → On e o′
+      stays : (u : Tree) → deletable t ≡ gives u → delete (steps-in path n) u ≡ t → (e : Ending) (o′ : Bytes) → EndedIn e o o′ (into room a) → On e o′
       stays u d q e o′ w =
-          path-done delete-by a path o t (target .1 .reads) (steps-in path n) path-is t (delete-is (steps-in path n) t u d ∙ ap (λ (x : Tree). gives (some x)) q)
-          e o′ (ended-as _ a (encode t) (sym (target .1 .bytes)) w)
+          path-done delete-by a path o room t (target .1 .reads) (steps-in path n) path-is t (delete-is (steps-in path n) t u d ∙ ap (λ (x : Tree). gives (some x)) q)
+          e o′ (in-as _ a (encode t) (sym (target .1 .bytes)) w)
 
       -- A scalar.
       module _ (m : ℕ) (q : h ≡ Scalar m) (w v : ℕ) (hw : w ≡ entry-at a 0) (hv : v ≡ code-of w) where
@@ -156,14 +157,14 @@ module _ (a path o : Bytes) (c : Check) (hc : c ≡ checked (read a)) where
             let l : length (payload t) < 2 ^ 28 = omega (arith, ap length e, target .1 .short, record-of-length (2 ^ 29) (part t ∷ []), length-append (payload t) []) in
             hv ∙ ap code-of hw ∙ ap (λ (x : Bytes). code-of (entry-at x 0)) (sym e) ∙ scalar-entry t l
 
-        pub delete-extension : v ≡ 6 → (e : Ending) (o′ : Bytes) → Ended e o o′ (into (length o) a) → On e o′
+        pub delete-extension : v ≡ 6 → (e : Ending) (o′ : Bytes) → EndedIn e o o′ (into room a) → On e o′
         delete-extension z e o′ r =
             let x = an-extension t m head (sym code-is ∙ z) in
             stays t (ap deletable (x .1) ∙ ap gives (sym (x .1))) (ap (delete (steps-in path n)) (x .1) ∙ extension-stays (steps-in path n) (x .0) ∙ sym (x .1)) e o′ r
 
         pub delete-kind : (v ≡ 6 → ⊥) → On (Refused Kind) o
         delete-kind z =
-            path-edit delete-by a path o t (target .1 .reads) (steps-in path n) path-is Kind
+            path-edit delete-by a path o room t (target .1 .reads) (steps-in path n) path-is Kind
             (delete-refused (steps-in path n) t Kind (not-deletable t m head (λ e. z (code-is ∙ e))))
 
       -- A container.
@@ -174,7 +175,7 @@ module _ (a path o : Bytes) (c : Check) (hc : c ≡ checked (read a)) where
         allowed : deletable t ≡ gives t
         allowed = container-deletable t (λ m e. container m (target .1 .head ∙ e))
 
-        pub delete-whole : n ≡ 0 → (e : Ending) (o′ : Bytes) → Ended e o o′ (into (length o) a) → On e o′
+        pub delete-whole : n ≡ 0 → (e : Ending) (o′ : Bytes) → EndedIn e o o′ (into room a) → On e o′
         unfolding parts-at
         delete-whole z = stays t allowed (rw z (deleted-whole t))
 
@@ -184,7 +185,7 @@ module _ (a path o : Bytes) (c : Check) (hc : c ≡ checked (read a)) where
             (w .0, w .1, steps-counted path n op (sym qk ∙ hk) .1)
 
         module _ (r : Item) (hr : Finds a (steps-in path n) r) where
-          pub delete-none : r ≡ Nothing → (e : Ending) (o′ : Bytes) → Ended e o o′ (into (length o) a) → On e o′
+          pub delete-none : r ≡ Nothing → (e : Ending) (o′ : Bytes) → EndedIn e o o′ (into room a) → On e o′
           delete-none e = stays t allowed (deleted-missing (steps-in path n) t (finds-none a t (target .1) container (steps-in path n) r hr e))
 
           module _ (x : ItemAt) (e : r ≡ At x) where
@@ -197,8 +198,8 @@ module _ (a path o : Bytes) (c : Check) (hc : c ≡ checked (read a)) where
             pub delete-finds : (v : Tree) × (finding a (steps-in path n) ≡ some v)
             delete-finds = (what .0, finding-is a t (steps-in path n) reads ∙ what .1)
 
-            pub delete-found : (n ≡ 0 → ⊥) → (e : Ending) (o′ : Bytes) → Ended e o o′ (into (length o) (left-of a (steps-in path n))) → On e o′
+            pub delete-found : (n ≡ 0 → ⊥) → (e : Ending) (o′ : Bytes) → EndedIn e o o′ (into room (left-of a (steps-in path n))) → On e o′
             delete-found z e o′ w =
-                path-done delete-by a path o t (target .1 .reads) (steps-in path n) path-is (delete (steps-in path n) t) (delete-is (steps-in path n) t t allowed) e o′
-                (ended-as _ (left-of a (steps-in path n)) (encode (delete (steps-in path n) t))
+                path-done delete-by a path o room t (target .1 .reads) (steps-in path n) path-is (delete (steps-in path n) t) (delete-is (steps-in path n) t t allowed) e o′
+                (in-as _ (left-of a (steps-in path n)) (encode (delete (steps-in path n) t))
                 (left-encoded a (steps-in path n) t (what .0) reads (λ y. z (sym (steps-length path n) ∙ y)) (what .1)) w)

@@ -15,7 +15,8 @@ use Rattle.layout.specs.Tree.{Tree, null, boolean, number, string, extension, a
 use Rattle.layout.specs.Encode.{Part, entry-word, payload, part, scalar, encode}
 use Rattle.layout.specs.Read.{header, nested}
 use Rattle.layout.specs.Patch.{patch}
-use Rattle.layout.specs.Ended.{Ended, into}
+use Rattle.layout.specs.Ended.{into}
+use Rattle.layout.specs.Room.{EndedIn}
 use Rattle.layout.specs.declared.ending.Ending.the-variants.{Done, Refused}
 use Rattle.layout.specs.declared.refusal.Refusal.the-variants.{Buffer}
 use Rattle.layout.specs.declared.item.Kind.{Kind}
@@ -24,7 +25,7 @@ use Rattle.layout.proofs.Fields.{code-entry, length-entry}
 use Rattle.layout.proofs.Words.{length-be32}
 use Rattle.layout.proofs.Level.{code-small}
 use Rattle.layout.proofs.Readables.{nested-reads}
-use Rattle.layout.proofs.Patches.{ended-short, ended-full}
+use Rattle.layout.proofs.Patches.{in-short, in-full}
 use Rattle.builders.specs.Search.{bytes-at}
 use Rattle.builders.specs.declared.search.ItemAt.{ItemAt}
 use Rattle.builders.proofs.Weaves.{patch-then}
@@ -186,7 +187,7 @@ stored-scalar o o₁ o₂ o₃ w j b e₁ e₂ e₃ =
 
 -- A scalar item that is written, or too long for the buffer.
 module _ (s : Bytes) (x : ItemAt) (c : ℕ) (hc : c ≡ code-of (x .jentry)) (q : c ≡ 5 → ⊥) (b : Bytes) (hb : b ≡ bytes-at s x)
-    (o : Bytes) where
+    (o : Bytes) (room : ℕ) where
   item-written : written s x ≡ be32 (2 ^ 29) ++ (be32 (x .jentry) ++ b)
   item-written = rw hb (written-scalar s x c hc q)
 
@@ -201,14 +202,14 @@ module _ (s : Bytes) (x : ItemAt) (c : ℕ) (hc : c ≡ code-of (x .jentry)) (q 
         length-be32 (x .jentry),
       )
 
-  pub item-short : length o < 8 + length b → Ended (Refused Buffer) o o (into (length o) (written s x))
-  item-short h = ended-short (written s x) o (omega (arith, item-length))
+  pub item-short : room < 8 + length b → EndedIn (Refused Buffer) o o (into room (written s x))
+  item-short h = in-short (written s x) o room (omega (arith, item-length))
 
-  pub item-stored : (o₁ o₂ o₃ : Bytes) → 8 + length b ≤ length o
+  pub item-stored : (o₁ o₂ o₃ : Bytes) → 8 + length b ≤ room
       → o₁ ≡ patch o 0 (be32 (2 ^ 29)) → o₂ ≡ patch o₁ 4 (be32 (x .jentry)) → o₃ ≡ patch o₂ 8 b
-      → Ended (Done (8 + length b)) o o₃ (into (length o) (written s x))
+      → EndedIn (Done (8 + length b)) o o₃ (into room (written s x))
   item-stored o₁ o₂ o₃ h e₁ e₂ e₃ =
-      ended-full (written s x) o o₃ (8 + length b) (omega (arith, item-length)) (sym item-length)
+      in-full (written s x) o room o₃ (8 + length b) (omega (arith, item-length)) (sym item-length)
       (stored-scalar o o₁ o₂ o₃ (2 ^ 29) (x .jentry) b e₁ e₂ e₃ ∙ ap (patch o 0) (sym item-written))
 
 -- The record of an item is the record of its tree.

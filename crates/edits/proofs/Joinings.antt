@@ -15,7 +15,7 @@ use Rattle.layout.specs.Tree.{Tree, null, boolean, number, string, extension, a
 use Rattle.layout.specs.Read.{header, read}
 use Rattle.layout.specs.Limits.{depth, depth-items}
 use Rattle.layout.specs.Check.{checked, nesting}
-use Rattle.layout.specs.Ended.{Ended}
+use Rattle.layout.specs.Room.{EndedIn}
 use Rattle.layout.specs.declared.refusal.Refusal.the-variants.{Result}
 use Rattle.layout.specs.declared.ending.Ending.{Ending}
 use Rattle.layout.specs.declared.ending.Ending.the-variants.{Refused}
@@ -99,7 +99,7 @@ fits-items (array ts) d e = omega arith
 fits-items (object ms) d e = omega (arith, whole-fits (object ms) e)
 
 -- Two readable records, not both objects.
-module _ (l r o : Bytes) (ol : Octets l) (or : Octets r) (hl : checked (read l) ≡ Readable) (hr : checked (read r) ≡ Readable)
+module _ (l r o : Bytes) (room : ℕ) (ol : Octets l) (or : Octets r) (hl : checked (read l) ≡ Readable) (hr : checked (read r) ≡ Readable)
     (np : NoPair (header l) (header r)) where
   left : (t : Tree) × Known l t
   left = let w = readable-gives (read l) Readable (sym hl) refl in (w .0, known l (w .0) ol (w .1))
@@ -139,24 +139,24 @@ module _ (l r o : Bytes) (ol : Octets l) (or : Octets r) (hl : checked (read l) 
       left-test : (b : Bool) → d ≡ b → is-deep (as-given (head-of (left .0))) (nesting (gives (left .0))) ≡ b
       left-test b q = ap₂ is-deep (sym left-head) (ap nesting (sym (left .1 .reads)) ∙ sym hx) ∙ sym hd ∙ q
 
-      pub left-deep : d ≡ true → Ended (Refused Result) o o (on-two concat l r (length o))
+      pub left-deep : d ≡ true → EndedIn (Refused Result) o o (on-two concat l r room)
       left-deep q =
-          two-deep concat l r o (left .0) (left .1 .reads) (right .0) (right .1 .reads) both gives-both
+          two-deep concat l r o room (left .0) (left .1 .reads) (right .0) (right .1 .reads) both gives-both
           (omega (arith, deep-items (left .0) (left-test true q), depth-join (as-items (left .0)) (as-items (right .0))))
 
       module _ (y : Nesting) (hy : y ≡ nesting (read r)) (d₂ : Bool) (hd₂ : d₂ ≡ is-deep h y) where
         right-test : (b : Bool) → d₂ ≡ b → is-deep (as-given (head-of (right .0))) (nesting (gives (right .0))) ≡ b
         right-test b q = ap₂ is-deep (sym right-head) (ap nesting (sym (right .1 .reads)) ∙ sym hy) ∙ sym hd₂ ∙ q
 
-        pub right-deep : d₂ ≡ true → Ended (Refused Result) o o (on-two concat l r (length o))
+        pub right-deep : d₂ ≡ true → EndedIn (Refused Result) o o (on-two concat l r room)
         right-deep q =
-            two-deep concat l r o (left .0) (left .1 .reads) (right .0) (right .1 .reads) both gives-both
+            two-deep concat l r o room (left .0) (left .1 .reads) (right .0) (right .1 .reads) both gives-both
             (omega (arith, deep-items (right .0) (right-test true q), depth-join (as-items (left .0)) (as-items (right .0))))
 
         pub items-end : d ≡ false → d₂ ≡ false → (m n : ℕ) → m ≡ given-count g → n ≡ given-count h → (e : Ending) (o′ : Bytes)
-            → Ended e o o′ (sized (length o) (joined (bitOr (2 ^ 31) (m + n)) l g r h)) → Ended e o o′ (on-two concat l r (length o))
+            → EndedIn e o o′ (sized room (joined (bitOr (2 ^ 31) (m + n)) l g r h)) → EndedIn e o o′ (on-two concat l r room)
         items-end q q₂ m n em en e o′ w =
-            two-sized concat l r o (left .0) (left .1 .reads) (right .0) (right .1 .reads) both gives-both e o′
+            two-sized concat l r o room (left .0) (left .1 .reads) (right .0) (right .1 .reads) both gives-both e o′
             (joined (bitOr (2 ^ 31) (m + n)) l g r h)
             (omega (
               arith,

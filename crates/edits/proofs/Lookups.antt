@@ -14,7 +14,8 @@ use Rattle.layout.specs.Encode.{encode}
 use Rattle.layout.specs.Read.{header, container-in, root-in, nested, read}
 use Rattle.layout.specs.Place.{parts-at}
 use Rattle.layout.specs.Check.{checked}
-use Rattle.layout.specs.Ended.{Ended, into}
+use Rattle.layout.specs.Ended.{into}
+use Rattle.layout.specs.Room.{EndedIn}
 use Rattle.layout.specs.declared.refusal.Refusal.{Refusal}
 use Rattle.layout.specs.declared.refusal.Refusal.the-variants.{Path}
 use Rattle.layout.specs.declared.ending.Ending.{Ending}
@@ -27,7 +28,7 @@ use Rattle.layout.proofs.Answers.{from-require}
 use Rattle.layout.proofs.Decoding.{read-is}
 use Rattle.layout.proofs.Places.{length-parts}
 use Rattle.layout.proofs.Nestings.{head-of, readable-gives, refused-as}
-use Rattle.layout.proofs.Patches.{ended-as}
+use Rattle.layout.proofs.Patches.{in-as}
 use Rattle.builders.specs.declared.search.ItemAt.{ItemAt}
 use Rattle.builders.proofs.Knowns.{Known, known}
 use Rattle.edits.specs.Path.{Step, path-of}
@@ -150,36 +151,36 @@ pub get-is : (p : List Step) (t : Tree) → get-by p t ≡ gives (look-up p t)
 unfolding get-by
 get-is p t = refl
 
-module _ (a path o : Bytes) (c : Check) (hc : c ≡ checked (read a)) where
-  pub get-left : (x : Refusal) → c ≡ NotReadable x → Ended (Refused x) o o (on-path get-by a path (length o))
-  get-left x q = path-left get-by a path o x (refused-as (read a) c x hc q)
+module _ (a path o : Bytes) (room : ℕ) (c : Check) (hc : c ≡ checked (read a)) where
+  pub get-left : (x : Refusal) → c ≡ NotReadable x → EndedIn (Refused x) o o (on-path get-by a path room)
+  get-left x q = path-left get-by a path o room x (refused-as (read a) c x hc q)
 
   module _ (oa : Octets a) (op : Octets path) (qc : c ≡ Readable) (k : Steps) (hk : k ≡ steps-told (path-of path)) where
     target : (t : Tree) × Known a t
     target = let w = readable-gives (read a) c hc qc in (w .0, known a (w .0) oa (w .1))
 
-    pub get-path : k ≡ NoPath → Ended (Refused Path) o o (on-path get-by a path (length o))
-    get-path q = path-path get-by a path o (target .0) (target .1 .reads) (steps-refused path (sym q ∙ hk))
+    pub get-path : k ≡ NoPath → EndedIn (Refused Path) o o (on-path get-by a path room)
+    get-path q = path-path get-by a path o room (target .0) (target .1 .reads) (steps-refused path (sym q ∙ hk))
 
     module _ (n : ℕ) (qk : k ≡ Count n) where
       path-is : path-of path ≡ gives (steps-in path n)
       path-is = steps-counted path n op (sym qk ∙ hk) .2
 
-      get-absent : look-up (steps-in path n) (target .0) ≡ nothing → Ended Absent o o (on-path get-by a path (length o))
-      get-absent q = path-absent get-by a path o (target .0) (target .1 .reads) (steps-in path n) path-is (get-is _ _ ∙ ap gives q)
+      get-absent : look-up (steps-in path n) (target .0) ≡ nothing → EndedIn Absent o o (on-path get-by a path room)
+      get-absent q = path-absent get-by a path o room (target .0) (target .1 .reads) (steps-in path n) path-is (get-is _ _ ∙ ap gives q)
 
       get-done : (v : Tree) → look-up (steps-in path n) (target .0) ≡ some v → (e : Ending) (o′ : Bytes)
-          → Ended e o o′ (into (length o) (encode v)) → Ended e o o′ (on-path get-by a path (length o))
-      get-done v q = path-done get-by a path o (target .0) (target .1 .reads) (steps-in path n) path-is v (get-is _ _ ∙ ap gives q)
+          → EndedIn e o o′ (into room (encode v)) → EndedIn e o o′ (on-path get-by a path room)
+      get-done v q = path-done get-by a path o room (target .0) (target .1 .reads) (steps-in path n) path-is v (get-is _ _ ∙ ap gives q)
 
       -- An empty path gives the record.
-      pub get-whole : n ≡ 0 → (e : Ending) (o′ : Bytes) → Ended e o o′ (into (length o) a)
-          → Ended e o o′ (on-path get-by a path (length o))
+      pub get-whole : n ≡ 0 → (e : Ending) (o′ : Bytes) → EndedIn e o o′ (into room a)
+          → EndedIn e o o′ (on-path get-by a path room)
       unfolding parts-at
-      get-whole z e o′ h = get-done (target .0) (rw z) e o′ (ended-as _ a (encode (target .0)) (sym (target .1 .bytes)) h)
+      get-whole z e o′ h = get-done (target .0) (rw z) e o′ (in-as _ a (encode (target .0)) (sym (target .1 .bytes)) h)
 
       module _ (z : n ≡ 0 → ⊥) (h : Header) (hh : h ≡ header a) where
-        pub get-scalar : (m : ℕ) → h ≡ Scalar m → Ended Absent o o (on-path get-by a path (length o))
+        pub get-scalar : (m : ℕ) → h ≡ Scalar m → EndedIn Absent o o (on-path get-by a path room)
         get-scalar m q =
             get-absent
             (scalar-look-up (steps-in path n) (target .0) m (sym (target .1 .head) ∙ sym hh ∙ q) (λ e. z (sym (steps-length path n) ∙ e)))
@@ -194,7 +195,7 @@ module _ (a path o : Bytes) (c : Check) (hc : c ≡ checked (read a)) where
               (w .0, w .1, steps-counted path n op (sym qk ∙ hk) .1)
 
           module _ (r : Item) (hr : Finds a (steps-in path n) r) where
-            pub get-none : r ≡ Nothing → Ended Absent o o (on-path get-by a path (length o))
+            pub get-none : r ≡ Nothing → EndedIn Absent o o (on-path get-by a path room)
             get-none e = get-absent (finds-none a (target .0) (target .1) container (steps-in path n) r hr e)
 
             module _ (x : ItemAt) (e : r ≡ At x) where
@@ -204,8 +205,8 @@ module _ (a path o : Bytes) (c : Check) (hc : c ≡ checked (read a)) where
               pub get-stands : Stands a x
               get-stands = (item .0, item .2)
 
-              pub get-item : (e : Ending) (o′ : Bytes) → Ended e o o′ (into (length o) (written a x))
-                  → Ended e o o′ (on-path get-by a path (length o))
+              pub get-item : (e : Ending) (o′ : Bytes) → EndedIn e o o′ (into room (written a x))
+                  → EndedIn e o o′ (on-path get-by a path room)
               get-item e o′ h =
                   get-done (item .0) (item .1) e o′
-                  (ended-as _ (written a x) (encode (item .0)) (held-written a x (item .0) (item .2)) h)
+                  (in-as _ (written a x) (encode (item .0)) (held-written a x (item .0) (item .2)) h)

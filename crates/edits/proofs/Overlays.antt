@@ -14,7 +14,7 @@ use Rattle.layout.specs.Encode.{payload}
 use Rattle.layout.specs.Read.{read}
 use Rattle.layout.specs.Place.{parts-at}
 use Rattle.layout.specs.Patch.{patch}
-use Rattle.layout.specs.Ended.{Ended}
+use Rattle.layout.specs.Room.{EndedIn}
 use Rattle.layout.specs.declared.refusal.Refusal.{Refusal}
 use Rattle.layout.specs.declared.refusal.Refusal.the-variants.{Repeated}
 use Rattle.layout.specs.declared.ending.Ending.{Ending}
@@ -142,13 +142,13 @@ module _ (l : Bytes) (m : ℕ) (r : Bytes) (n : ℕ) (ol : Octets l) (or : Octet
     untouched o = ap (λ (x : Bytes). x ++ o) (he .1 ∙ woven-empty (name-in (r ++ l)) (value-in (r ++ l)) own-entry 0 0 0 0 (merged l m r n))
 
   -- The numbers, in their order.
-  module _ (o : Bytes) (d : Bool) (hd : d ≡ distinct (texts (parts-at r 0 (4 + 4 * (n + n)) n))) where
+  module _ (o : Bytes) (room : ℕ) (d : Bool) (hd : d ≡ distinct (texts (parts-at r 0 (4 + 4 * (n + n)) n))) where
     told : (b : Bool) → d ≡ b → distinct (names rs) ≡ b
     told b q = ap distinct (sym right-names) ∙ sym hd ∙ q
 
-    pub overlay-repeated : d ≡ false → Ended (Refused Repeated) o o (on-two concat l r (length o))
+    pub overlay-repeated : d ≡ false → EndedIn (Refused Repeated) o o (on-two concat l r room)
     overlay-repeated q =
-        two-edit concat l r o (object ls) (object-reads l m ol left) (object rs) (object-reads r n or right) Repeated
+        two-edit concat l r o room (object ls) (object-reads l m ol left) (object rs) (object-reads r n or right) Repeated
         (concat-refused ls rs (told false q))
 
     module _ (q : d ≡ true) (end : Places) (e : Bytes)
@@ -157,20 +157,17 @@ module _ (l : Bytes) (m : ℕ) (r : Bytes) (n : ℕ) (ol : Octets l) (or : Octet
       abbrev len : ℕ
       len = 4 + 4 * (end .«key_jentry» / 4 + end .«key_jentry» / 4) + end .key + end .val
 
-      sized-ends : (x : Ending) (o′ : Bytes) → Ended x o o′ (sized (length o) result) → Ended x o o′ (on-two concat l r (length o))
+      sized-ends : (x : Ending) (o′ : Bytes) → EndedIn x o o′ (sized room result) → EndedIn x o o′ (on-two concat l r room)
       sized-ends x o′ w =
-          two-sized concat l r o (object ls) (object-reads l m ol left) (object rs) (object-reads r n or right) (object all)
+          two-sized concat l r o room (object ls) (object-reads l m ol left) (object rs) (object-reads r n or right) (object all)
           (concat-given ls rs (told true q)) x o′ result
           (concat-depth ls rs 64 (left .contained .deep) (right .contained .deep)) refl w
 
-      module _ (x : Room) (hx : x ≡ room-for len (length (e ++ o))) where
-        room : x ≡ room-for len (length o)
-        room = hx ∙ ap (λ (b : Bytes). room-for len (length b)) (untouched end e he o)
-
-        pub overlay-refused : (y : Refusal) → x ≡ NoRoom y → Ended (Refused y) o (e ++ o) (on-two concat l r (length o))
+      module _ (x : Room) (hx : x ≡ room-for len room) where
+        pub overlay-refused : (y : Refusal) → x ≡ NoRoom y → EndedIn (Refused y) o (e ++ o) (on-two concat l r room)
         overlay-refused y p =
             rw (untouched end e he o)
-            (sized-ends (Refused y) o (sized-refused result o len (measured end e he) x room y p))
+            (sized-ends (Refused y) o (sized-refused result o room len (measured end e he) x hx y p))
 
         module _ (v : ℕ) (to after : Places) (o₁ o₂ : Bytes) (ev : v ≡ bitOr (2 ^ 30) (end .«key_jentry» / 4)) (e₁ : o₁ ≡ patch (e ++ o) 0 (be32 v))
             (et : to ≡ places-for (record { count = end .«key_jentry» / 4; keys = end .key; vals = end .val }) 0)
@@ -187,5 +184,5 @@ module _ (l : Bytes) (m : ℕ) (r : Bytes) (n : ℕ) (ol : Octets l) (or : Octet
           pub overlay-length : length o₂ ≡ length o
           overlay-length = ap length written ∙ length-patch o 0 result
 
-          pub overlay-done : x ≡ Serves → Ended (Done len) o o₂ (on-two concat l r (length o))
-          overlay-done p = sized-ends (Done len) o₂ (sized-done result o len (measured end e he) x room o₂ p written)
+          pub overlay-done : x ≡ Serves → EndedIn (Done len) o o₂ (on-two concat l r room)
+          overlay-done p = sized-ends (Done len) o₂ (sized-done result o room len (measured end e he) x hx o₂ p written)

@@ -13,7 +13,8 @@ use Rattle.layout.specs.Encode.{payload}
 use Rattle.layout.specs.Read.{header, nested, read}
 use Rattle.layout.specs.Check.{checked}
 use Rattle.layout.specs.Patch.{patch}
-use Rattle.layout.specs.Ended.{Ended, refusal, into}
+use Rattle.layout.specs.Ended.{refusal, into}
+use Rattle.layout.specs.Room.{EndedIn, Fits}
 use Rattle.layout.specs.declared.check.Check.{Check}
 use Rattle.layout.specs.declared.check.Check.the-variants.{Readable, Refused as NotReadable}
 use Rattle.layout.specs.declared.refusal.Refusal.{Refusal}
@@ -26,8 +27,9 @@ use Rattle.layout.specs.declared.ending.Ending.the-variants.{Done, Refused}
 use Rattle.layout.proofs.Answers.{gives-inj}
 use Rattle.layout.proofs.Decoding.{container-encode}
 use Rattle.layout.proofs.Nestings.{head-of, readable-gives, refused-as}
-use Rattle.layout.proofs.Patches.{patch-empty, ended-short, ended-full}
+use Rattle.layout.proofs.Patches.{patch-empty, in-short, in-full}
 use Rattle.builders.specs.Build.{written}
+use Rattle.builders.proofs.Twos.{written-fits}
 use Rattle.builders.proofs.Knowns.{Known, known}
 use Rattle.edits.specs.Strip.{stripped, unrepeated, strip, on-one}
 use Rattle.edits.specs.Stripping.{stripped-of, unrepeated-of, Strippable, Strips, strip-out}
@@ -46,8 +48,8 @@ no-bytes [] h = refl
 no-bytes (x ∷ e) h = let z : ⊥ = omega arith in absurd z
 
 -- What was measured on no bytes.
-module _ (s o e : Bytes) (r : Stripped) (d : Strips r (unrepeated-of s) (stripped-of s) e (patch [] 0 (stripped-of s))) where
-  pub strip-repeated : r ≡ Repeated → length (e ++ o) ≡ length o → Ended (Refused RepeatedName) o (e ++ o) (strip-out s (length o))
+module _ (s o : Bytes) (room : ℕ) (e : Bytes) (r : Stripped) (d : Strips r (unrepeated-of s) (stripped-of s) e (patch [] 0 (stripped-of s))) where
+  pub strip-repeated : r ≡ Repeated → length (e ++ o) ≡ length o → EndedIn (Refused RepeatedName) o (e ++ o) (strip-out s room)
   unfolding strip-out
   strip-repeated q l =
       let f : unrepeated-of s ≡ false = rw q at d in
@@ -61,14 +63,14 @@ module _ (s o e : Bytes) (r : Stripped) (d : Strips r (unrepeated-of s) (strippe
     untouched : e ++ o ≡ o
     untouched = rw (told .2, patch-empty)
 
-    pub strip-no-room : length (e ++ o) < len → Ended (Refused Buffer) o (e ++ o) (strip-out s (length o))
+    pub strip-no-room : room < len → EndedIn (Refused Buffer) o (e ++ o) (strip-out s room)
     unfolding strip-out
-    strip-no-room h = rw (told .0, untouched) (ended-short (stripped-of s) o (omega (arith, told .1, ap length untouched, h)))
+    strip-no-room h = rw (told .0, untouched) (in-short (stripped-of s) o room (omega (arith, told .1, h)))
 
-    pub strip-has-room : (r₂ : Stripped) (o′ : Bytes) → len ≤ length (e ++ o) → Strips r₂ (unrepeated-of s) (stripped-of s) o′ (patch (e ++ o) 0 (stripped-of s))
-        → Ended (Done len) o o′ (strip-out s (length o))
+    pub strip-has-room : (r₂ : Stripped) (o′ : Bytes) → len ≤ room → Strips r₂ (unrepeated-of s) (stripped-of s) o′ (patch (e ++ o) 0 (stripped-of s))
+        → EndedIn (Done len) o o′ (strip-out s room)
     unfolding strip-out
-    strip-has-room r₂ o′ h st = rw (told .0) (ended-full (stripped-of s) o o′ len (omega (arith, told .1, ap length untouched, h)) (told .1) (again r₂ st ∙ rw untouched))
+    strip-has-room r₂ o′ h st = rw (told .0) (in-full (stripped-of s) o room o′ len (omega (arith, told .1, h)) (told .1) (again r₂ st ∙ rw untouched))
       where
         again : (r₂ : Stripped) → Strips r₂ (unrepeated-of s) (stripped-of s) o′ (patch (e ++ o) 0 (stripped-of s)) → o′ ≡ patch (e ++ o) 0 (stripped-of s)
         again (Len n) st = st .2
@@ -85,9 +87,9 @@ scalar-strip t m h = own-strip t (λ k. neither t (Scalar m) k (sym h) no-array 
     no-object n e = let z : _≡_ {A = ℕ} 0 1 = cc in omega arith
 
 -- The numbers of strip.
-module _ (a o : Bytes) (c : Check) (hc : c ≡ checked (read a)) where
+module _ (a o : Bytes) (room : ℕ) (c : Check) (hc : c ≡ checked (read a)) where
   abbrev On : Ending → Bytes → Type 0
-  On e o′ = Ended e o o′ (on-one strip a (length o))
+  On e o′ = EndedIn e o o′ (on-one strip a room)
 
   pub strip-left : (x : Refusal) → c ≡ NotReadable x → On (Refused x) o
   unfolding on-one _>>=_
@@ -101,7 +103,7 @@ module _ (a o : Bytes) (c : Check) (hc : c ≡ checked (read a)) where
     t = target .0
 
     -- A root scalar comes back as it is.
-    pub strip-scalar : (m : ℕ) → h ≡ Scalar m → (e : Ending) (o′ : Bytes) → Ended e o o′ (into (length o) a) → On e o′
+    pub strip-scalar : (m : ℕ) → h ≡ Scalar m → (e : Ending) (o′ : Bytes) → EndedIn e o o′ (into room a) → On e o′
     unfolding on-one _>>=_
     strip-scalar m q e o′ w =
         let s = scalar-strip t m (sym (target .1 .head) ∙ sym hh ∙ q) in
@@ -116,7 +118,7 @@ module _ (a o : Bytes) (c : Check) (hc : c ≡ checked (read a)) where
       strip-ready = let w = container-ready a t (target .1) container in (w .1, w .0)
 
       -- A container: 8, then 10.
-      out-is : on-one strip a (length o) ≡ strip-out a (length o)
+      out-is : on-one strip a room ≡ strip-out a room
       unfolding on-one strip-out stripped-of unrepeated-of _>>=_
       out-is =
           let n : nested 64 a ≡ gives t = nested-read a t (target .1 .reads) container in
@@ -126,9 +128,13 @@ module _ (a o : Bytes) (c : Check) (hc : c ≡ checked (read a)) where
           rw (target .1 .reads, n) (go (unrepeated t) refl kc)
         where
           go : (b : Bool) → unrepeated t ≡ b → kind (stripped t) ≡ Container
-              → written (length o) (strip t) ≡ cond b (into (length o) (payload (stripped t))) (refusal RepeatedName)
-          go true u kc = rw (strip-given t u) (ap (into (length o)) (container-encode (stripped t) (payload (stripped t)) (rw kc)))
+              → written room (strip t) ≡ cond b (into room (payload (stripped t))) (refusal RepeatedName)
+          go true u kc = rw (strip-given t u) (ap (into room) (container-encode (stripped t) (payload (stripped t)) (rw kc)))
           go false u kc = rw (strip-refused t u)
 
-      pub strip-ends : (e : Ending) (o′ : Bytes) → Ended e o o′ (strip-out a (length o)) → On e o′
+      pub strip-ends : (e : Ending) (o′ : Bytes) → EndedIn e o o′ (strip-out a room) → On e o′
       strip-ends e o′ w = rw out-is w
+
+pub strip-fits : (a : Bytes) (room : ℕ) → Fits room (on-one strip a room)
+unfolding on-one
+strip-fits a room = written-fits room (read a >>= strip)

@@ -11,12 +11,13 @@ use Rattle.layout.specs.Tree.{Tree}
 use Rattle.layout.specs.Read.{nested}
 use Rattle.layout.specs.Check.{checked}
 use Rattle.layout.specs.Patch.{patch}
-use Rattle.layout.specs.Ended.{Ended, into}
+use Rattle.layout.specs.Ended.{into}
+use Rattle.layout.specs.Room.{EndedIn}
 use Rattle.layout.specs.Place.{parts-at}
 use Rattle.layout.specs.declared.check.Check.the-variants.{Readable}
 use Rattle.layout.specs.declared.refusal.Refusal.the-variants.{Buffer}
 use Rattle.layout.specs.declared.ending.Ending.the-variants.{Done, Refused}
-use Rattle.layout.proofs.Patches.{patch-empty, ended-short, ended-full}
+use Rattle.layout.proofs.Patches.{patch-empty, in-short, in-full}
 use Rattle.edits.specs.Steps.{part-steps}
 use Rattle.edits.specs.Held.{finding}
 use Rattle.edits.specs.Cut.{Left, Cuts, left-of, steps-from}
@@ -44,18 +45,18 @@ whole-cuts s path n c l few more f =
     }
 
 -- A buffer that is as long as the record has room.
-pub room-enough : (s path : Bytes) (n : ℕ) (o o′ : Bytes) (len : ℕ) → Octets s → Cuts s path (whole-way n) 64 → length s ≤ length o
+pub room-enough : (s path : Bytes) (n : ℕ) (o : Bytes) (room : ℕ) (o′ : Bytes) (len : ℕ) → Octets s → Cuts s path (whole-way n) 64 → length s ≤ room
     → Left len o o′ 0 (left-of s (steps-from path (whole-way n)))
-    → Ended (Done len) o o′ (into (length o) (left-of s (part-steps (parts-at path 0 (4 + 4 * n) n))))
-room-enough s path n o o′ len b c h l =
+    → EndedIn (Done len) o o′ (into room (left-of s (part-steps (parts-at path 0 (4 + 4 * n) n))))
+room-enough s path n o room o′ len b c h l =
     let e = ap (left-of s) (steps-whole path n) in
     let q : len ≡ length (left-of s (part-steps (parts-at path 0 (4 + 4 * n) n))) = l .length-is ∙ ap length e in
-    let k : length (left-of s (part-steps (parts-at path 0 (4 + 4 * n) n))) ≤ length o =
+    let k : length (left-of s (part-steps (parts-at path 0 (4 + 4 * n) n))) ≤ room =
     omega (arith, q, l .length-is, cuts-shorter s path (whole-way n) 64 b c, h) in
-    ended-full _ o o′ len k q (l .stored ∙ ap (patch o 0) e)
+    in-full _ o room o′ len k q (l .stored ∙ ap (patch o 0) e)
 
 -- What was measured on no bytes.
-module _ (s path : Bytes) (n : ℕ) (o e : Bytes) (len : ℕ) (d : Left len [] e 0 (left-of s (steps-from path (whole-way n)))) where
+module _ (s path : Bytes) (n : ℕ) (o : Bytes) (room : ℕ) (e : Bytes) (len : ℕ) (d : Left len [] e 0 (left-of s (steps-from path (whole-way n)))) where
   abbrev result : Bytes
   result = left-of s (part-steps (parts-at path 0 (4 + 4 * n) n))
 
@@ -68,10 +69,10 @@ module _ (s path : Bytes) (n : ℕ) (o e : Bytes) (len : ℕ) (d : Left len [] e
   untouched : e ++ o ≡ o
   untouched = rw (d .stored, patch-empty)
 
-  pub no-room : length (e ++ o) < len → Ended (Refused Buffer) o (e ++ o) (into (length o) result)
-  no-room h = rw untouched (ended-short result o (omega (arith, measured, ap length untouched, h)))
+  pub no-room : room < len → EndedIn (Refused Buffer) o (e ++ o) (into room result)
+  no-room h = rw untouched (in-short result o room (omega (arith, measured, h)))
 
-  pub has-room : (len₂ : ℕ) (o′ : Bytes) → len ≤ length (e ++ o) → Left len₂ (e ++ o) o′ 0 (left-of s (steps-from path (whole-way n)))
-      → Ended (Done len) o o′ (into (length o) result)
+  pub has-room : (len₂ : ℕ) (o′ : Bytes) → len ≤ room → Left len₂ (e ++ o) o′ 0 (left-of s (steps-from path (whole-way n)))
+      → EndedIn (Done len) o o′ (into room result)
   has-room len₂ o′ h l =
-      ended-full result o o′ len (omega (arith, measured, ap length untouched, h)) measured (l .stored ∙ rw (untouched, as-steps))
+      in-full result o room o′ len (omega (arith, measured, h)) measured (l .stored ∙ rw (untouched, as-steps))

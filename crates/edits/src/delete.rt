@@ -46,7 +46,8 @@ ghost use Rattle.layout.specs.Encode.{«record-of» as recordOf};
 ghost use Rattle.layout.specs.Read.{header, nested};
 ghost use Rattle.layout.specs.Check.{checked};
 ghost use Rattle.layout.specs.Patch.{patch};
-ghost use Rattle.layout.specs.Ended.{Ended, into};
+ghost use Rattle.layout.specs.Ended.{into};
+ghost use Rattle.layout.specs.Room.{EndedIn};
 ghost use Rattle.layout.specs.Place.{«parts-at» as partsAt};
 ghost use Rattle.layout.specs.declared.check.Check.the-variants.{Readable};
 ghost use Rattle.layout.specs.Order.{«same-bytes» as sameBytes};
@@ -376,11 +377,11 @@ fn put_deleted(s: &[u8], path: &[u8], way: Way, out: &mut [u8], at: usize, allow
 
 // Stores a container without the item that a path of n steps finds in it, where there is room for it. It is never longer than before,
 // so only a buffer that is shorter than that has it measured first, on no bytes.
-pub(crate) fn write_deleted(s: &[u8], path: &[u8], n: usize, out: &mut [u8]) -> Ending
+pub(crate) fn write_deleted(s: &[u8], path: &[u8], n: usize, out: &mut [u8], room: usize) -> Ending
     requires { ⌜ (checked (nested 64 (now s)) ≡ Readable) × (length (now s) ≤ 65536) × (n < 2 ^ 29) × (0 < n)
         × ((t : Tree) × (finding (now s) (partSteps (partsAt (now path) 0 (4 + 4 * n) n)) ≡ some t)) ⌝ }
-    ensures { λ e. ⌜ Ended e (now (out .entry)) (now (out .exit))
-        (into (length (now (out .entry))) (leftOf (now (s .entry)) (partSteps (partsAt (now (path .entry)) 0 (4 + 4 * n) n)))) ⌝ }
+    ensures { λ e. ⌜ EndedIn e (now (out .entry)) (now (out .exit))
+        (into room (leftOf (now (s .entry)) (partSteps (partsAt (now (path .entry)) 0 (4 + 4 * n) n)))) ⌝ }
 {
     let way = Way {
         step: PartAt {
@@ -389,12 +390,12 @@ pub(crate) fn write_deleted(s: &[u8], path: &[u8], n: usize, out: &mut [u8]) -> 
         },
         count: n,
     };
-    if s.len() <= out.len() {
+    if s.len() <= room {
         let len = put_deleted(s, path, way, out, 0, DEPTH_LIMIT);
         return Ending::Done(len);
     }
     let len = put_deleted(s, path, way, &mut out[0..0], 0, DEPTH_LIMIT);
-    if out.len() < len {
+    if room < len {
         return Ending::Refused(Refusal::Buffer);
     }
     put_deleted(s, path, way, out, 0, DEPTH_LIMIT);

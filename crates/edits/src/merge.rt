@@ -31,7 +31,7 @@ ghost use mathlib.Core.Bool.{true, _&&_};
 ghost use mathlib.Core.List.{_++_};
 ghost use Prim.Native.Nat.{_<_, _^_};
 ghost use lib.ListN.{length};
-ghost use Rattle.layout.specs.Ended.{Ended};
+ghost use Rattle.layout.specs.Room.{EndedIn};
 ghost use Rattle.builders.specs.Build.{«on-two» as onTwo};
 ghost use Rattle.builders.specs.Search.{«members-at» as membersAt, «name-in» as nameIn, «value-in» as valueIn};
 ghost use Rattle.builders.specs.Weave.{«own-entry» as ownEntry, woven};
@@ -207,10 +207,17 @@ fn put_both(
 
 // Writes two objects, of m and n members, as one, where no name is repeated on the right and there is room for it. It is measured
 // first, on no bytes.
-pub(crate) fn write_merged(left: &[u8], m: usize, right: &[u8], n: usize, out: &mut [u8]) -> Ending
+pub(crate) fn write_merged(
+    left: &[u8],
+    m: usize,
+    right: &[u8],
+    n: usize,
+    out: &mut [u8],
+    room: usize,
+) -> Ending
     requires { ⌜ Objects (now left) m (now right) n ⌝ }
-    ensures { λ e. ⌜ Ended e (now (out .entry)) (now (out .exit))
-        (onTwo concat (now (left .entry)) (now (right .entry)) (length (now (out .entry)))) ⌝ }
+    ensures { λ e. ⌜ EndedIn e (now (out .entry)) (now (out .exit))
+        (onTwo concat (now (left .entry)) (now (right .entry)) room) ⌝ }
 {
     if is_distinct(right, n, HEADER_SIZE + JENTRY_SIZE * (n + n)) {
         let nowhere = Places {
@@ -228,7 +235,7 @@ pub(crate) fn write_merged(left: &[u8], m: usize, right: &[u8], n: usize, out: &
             vals: end.val,
         };
         let len = HEADER_SIZE + JENTRY_SIZE * (sizes.count + sizes.count) + sizes.keys + sizes.vals;
-        if let Room::Refused(refusal) = check_room(len, out.len()) {
+        if let Room::Refused(refusal) = check_room(len, room) {
             return Ending::Refused(refusal);
         }
         put_u32(out, 0, OBJECT_CONTAINER_TAG | sizes.count as u32);

@@ -20,6 +20,7 @@ ghost use lib.ListN.{length};
 ghost use Rattle.layout.specs.Read.{header, read};
 ghost use Rattle.layout.specs.Check.{checked, nesting as nestingOf};
 ghost use Rattle.layout.specs.Ended.{Ended};
+ghost use Rattle.layout.specs.Room.{EndedIn};
 ghost use Rattle.layout.specs.declared.check.Check.the-variants.{Readable};
 ghost use Rattle.builders.specs.Build.{«on-two» as onTwo};
 ghost use Rattle.edits.specs.Concat.{concat as concatOf};
@@ -57,12 +58,13 @@ fn write_items(
     right: &[u8],
     right_nesting: Nesting,
     out: &mut [u8],
+    room: usize,
 ) -> Ending
     requires { ⌜ (checked (read (now left)) ≡ Readable) × (checked (read (now right)) ≡ Readable)
         × («left_nesting» ≡ nestingOf (read (now left))) × («right_nesting» ≡ nestingOf (read (now right)))
         × NoPair (header (now left)) (header (now right)) ⌝ }
-    ensures { λ e. ⌜ Ended e (now (out .entry)) (now (out .exit))
-        (onTwo concatOf (now (left .entry)) (now (right .entry)) (length (now (out .entry)))) ⌝ }
+    ensures { λ e. ⌜ EndedIn e (now (out .entry)) (now (out .exit))
+        (onTwo concatOf (now (left .entry)) (now (right .entry)) room) ⌝ }
 {
     let l = items_of(left);
     let r = items_of(right);
@@ -73,13 +75,14 @@ fn write_items(
         return Ending::Refused(Refusal::Result);
     }
     let header = ARRAY_CONTAINER_TAG | (given_count(l) + given_count(r)) as u32;
-    write_joined(header, left, l, right, r, out)
+    write_joined(header, left, l, right, r, out, room)
 }
 
-// Overlays the left record with the right one: two objects become one, anything else an array.
-pub fn concat(left: &[u8], right: &[u8], out: &mut [u8]) -> Ending
-    ensures { λ e. ⌜ Ended e (now (out .entry)) (now (out .exit))
-        (onTwo concatOf (now (left .entry)) (now (right .entry)) (length (now (out .entry)))) ⌝ }
+// Overlays the left record with the right one: two objects become one, anything else an array; where that goes into `room`
+// bytes.
+pub fn concat_in(left: &[u8], right: &[u8], out: &mut [u8], room: usize) -> Ending
+    ensures { λ e. ⌜ EndedIn e (now (out .entry)) (now (out .exit))
+        (onTwo concatOf (now (left .entry)) (now (right .entry)) room) ⌝ }
 {
     let left_nesting = check_nesting(left);
     if let Nesting::Refused(refusal) = left_nesting {
@@ -90,12 +93,35 @@ pub fn concat(left: &[u8], right: &[u8], out: &mut [u8]) -> Ending
         return Ending::Refused(refusal);
     }
     let Header::Object(m) = read_header(left) else {
-        return write_items(left, left_nesting, right, right_nesting, out);
+        return write_items(left, left_nesting, right, right_nesting, out, room);
     };
     let Header::Object(n) = read_header(right) else {
-        return write_items(left, left_nesting, right, right_nesting, out);
+        return write_items(left, left_nesting, right, right_nesting, out, room);
     };
-    write_merged(left, m, right, n, out)
+    write_merged(left, m, right, n, out, room)
+}
+
+// Takes the members whose value is null out of a record, at every level, where what is left goes into `room` bytes.
+pub fn strip_nulls_in(target: &[u8], out: &mut [u8], room: usize) -> Ending
+    ensures { λ e. ⌜ EndedIn e (now (out .entry)) (now (out .exit))
+        (onOne strip (now (target .entry)) room) ⌝ }
+{
+    if let Check::Refused(refusal) = check_record(target) {
+        return Ending::Refused(refusal);
+    }
+    if let Header::Scalar(_) = read_header(target) {
+        return write_copy(target, out, room);
+    }
+    write_stripped(target, out, room)
+}
+
+// Overlays the left record with the right one: two objects become one, anything else an array.
+pub fn concat(left: &[u8], right: &[u8], out: &mut [u8]) -> Ending
+    ensures { λ e. ⌜ Ended e (now (out .entry)) (now (out .exit))
+        (onTwo concatOf (now (left .entry)) (now (right .entry)) (length (now (out .entry)))) ⌝ }
+{
+    let room = out.len();
+    concat_in(left, right, out, room)
 }
 
 // Takes the members whose value is null out of a record, at every level.
@@ -103,11 +129,6 @@ pub fn strip_nulls(target: &[u8], out: &mut [u8]) -> Ending
     ensures { λ e. ⌜ Ended e (now (out .entry)) (now (out .exit))
         (onOne strip (now (target .entry)) (length (now (out .entry)))) ⌝ }
 {
-    if let Check::Refused(refusal) = check_record(target) {
-        return Ending::Refused(refusal);
-    }
-    if let Header::Scalar(_) = read_header(target) {
-        return write_copy(target, out);
-    }
-    write_stripped(target, out)
+    let room = out.len();
+    strip_nulls_in(target, out, room)
 }

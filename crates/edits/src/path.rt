@@ -33,6 +33,7 @@ ghost use Rattle.layout.specs.Read.{nested};
 ghost use Rattle.layout.specs.Check.{checked};
 ghost use Rattle.layout.specs.Place.{«parts-at» as partsAt};
 ghost use Rattle.layout.specs.Ended.{Ended, into};
+ghost use Rattle.layout.specs.Room.{EndedIn};
 ghost use Rattle.layout.specs.declared.check.Check.the-variants.{Readable};
 ghost use Rattle.edits.specs.Steps.{«code-key» as codeKey, step, «part-steps» as partSteps};
 ghost use Rattle.edits.specs.Keypath.{«get-by» as getBy, «delete-by» as deleteBy, «on-path» as onPath};
@@ -86,28 +87,28 @@ fn find_path(s: &[u8], path: &[u8], n: usize) -> Item
     Item::At(item)
 }
 
-// Stores bytes as they are, where there is room for them.
-pub(crate) fn write_copy(s: &[u8], out: &mut [u8]) -> Ending
-    ensures { λ e. ⌜ Ended e (now (out .entry)) (now (out .exit)) (into (length (now (out .entry))) (now (s .entry))) ⌝ }
+// Stores bytes as they are, where they go into `room` bytes.
+pub(crate) fn write_copy(s: &[u8], out: &mut [u8], room: usize) -> Ending
+    ensures { λ e. ⌜ EndedIn e (now (out .entry)) (now (out .exit)) (into room (now (s .entry))) ⌝ }
 {
-    if out.len() < s.len() {
+    if room < s.len() {
         return Ending::Refused(Refusal::Buffer);
     }
     copy(s, out, 0);
     Ending::Done(s.len())
 }
 
-// Stores an item as a record, where there is room for it: a container as it is, anything else as a scalar record.
-fn write_item(s: &[u8], item: ItemAt, out: &mut [u8]) -> Ending
+// Stores an item as a record, where it goes into `room` bytes: a container as it is, anything else as a scalar record.
+fn write_item(s: &[u8], item: ItemAt, out: &mut [u8], room: usize) -> Ending
     requires { ⌜ Stands (now s) item ⌝ }
-    ensures { λ e. ⌜ Ended e (now (out .entry)) (now (out .exit)) (into (length (now (out .entry))) (written (now (s .entry)) item)) ⌝ }
+    ensures { λ e. ⌜ EndedIn e (now (out .entry)) (now (out .exit)) (into room (written (now (s .entry)) item)) ⌝ }
 {
     let payload = payload_at(s, item);
     if type_code(item.jentry) == CONTAINER_CODE {
-        return write_copy(payload, out);
+        return write_copy(payload, out, room);
     }
     let len = SCALAR_START + payload.len();
-    if out.len() < len {
+    if room < len {
         return Ending::Refused(Refusal::Buffer);
     }
     put_u32(out, 0, SCALAR_CONTAINER_TAG);
@@ -116,10 +117,10 @@ fn write_item(s: &[u8], item: ItemAt, out: &mut [u8]) -> Ending
     Ending::Done(len)
 }
 
-// Looks up what a path finds in a record.
-pub fn get_by_keypath(target: &[u8], path: &[u8], out: &mut [u8]) -> Ending
-    ensures { λ e. ⌜ Ended e (now (out .entry)) (now (out .exit))
-        (onPath getBy (now (target .entry)) (now (path .entry)) (length (now (out .entry)))) ⌝ }
+// Looks up what a path finds in a record, where it goes into `room` bytes.
+pub fn get_by_keypath_in(target: &[u8], path: &[u8], out: &mut [u8], room: usize) -> Ending
+    ensures { λ e. ⌜ EndedIn e (now (out .entry)) (now (out .exit))
+        (onPath getBy (now (target .entry)) (now (path .entry)) room) ⌝ }
 {
     if let Check::Refused(refusal) = check_record(target) {
         return Ending::Refused(refusal);
@@ -128,7 +129,7 @@ pub fn get_by_keypath(target: &[u8], path: &[u8], out: &mut [u8]) -> Ending
         return Ending::Refused(Refusal::Path);
     };
     if n == 0 {
-        return write_copy(target, out);
+        return write_copy(target, out, room);
     }
     if let Header::Scalar(_) = read_header(target) {
         return Ending::Absent;
@@ -136,13 +137,13 @@ pub fn get_by_keypath(target: &[u8], path: &[u8], out: &mut [u8]) -> Ending
     let Item::At(item) = find_path(target, path, n) else {
         return Ending::Absent;
     };
-    write_item(target, item, out)
+    write_item(target, item, out, room)
 }
 
-// Deletes what a path finds in a record.
-pub fn delete_by_keypath(target: &[u8], path: &[u8], out: &mut [u8]) -> Ending
-    ensures { λ e. ⌜ Ended e (now (out .entry)) (now (out .exit))
-        (onPath deleteBy (now (target .entry)) (now (path .entry)) (length (now (out .entry)))) ⌝ }
+// Deletes what a path finds in a record, where what is left goes into `room` bytes.
+pub fn delete_by_keypath_in(target: &[u8], path: &[u8], out: &mut [u8], room: usize) -> Ending
+    ensures { λ e. ⌜ EndedIn e (now (out .entry)) (now (out .exit))
+        (onPath deleteBy (now (target .entry)) (now (path .entry)) room) ⌝ }
 {
     if let Check::Refused(refusal) = check_record(target) {
         return Ending::Refused(refusal);
@@ -152,15 +153,33 @@ pub fn delete_by_keypath(target: &[u8], path: &[u8], out: &mut [u8]) -> Ending
     };
     if let Header::Scalar(_) = read_header(target) {
         if type_code(read_jentry(target, 0)) == EXTENSION_CODE {
-            return write_copy(target, out);
+            return write_copy(target, out, room);
         }
         return Ending::Refused(Refusal::Kind);
     }
     if n == 0 {
-        return write_copy(target, out);
+        return write_copy(target, out, room);
     }
     let Item::At(_) = find_path(target, path, n) else {
-        return write_copy(target, out);
+        return write_copy(target, out, room);
     };
-    write_deleted(target, path, n, out)
+    write_deleted(target, path, n, out, room)
+}
+
+// Looks up what a path finds in a record.
+pub fn get_by_keypath(target: &[u8], path: &[u8], out: &mut [u8]) -> Ending
+    ensures { λ e. ⌜ Ended e (now (out .entry)) (now (out .exit))
+        (onPath getBy (now (target .entry)) (now (path .entry)) (length (now (out .entry)))) ⌝ }
+{
+    let room = out.len();
+    get_by_keypath_in(target, path, out, room)
+}
+
+// Deletes what a path finds in a record.
+pub fn delete_by_keypath(target: &[u8], path: &[u8], out: &mut [u8]) -> Ending
+    ensures { λ e. ⌜ Ended e (now (out .entry)) (now (out .exit))
+        (onPath deleteBy (now (target .entry)) (now (path .entry)) (length (now (out .entry)))) ⌝ }
+{
+    let room = out.len();
+    delete_by_keypath_in(target, path, out, room)
 }

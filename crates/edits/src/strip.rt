@@ -42,7 +42,7 @@ ghost use Rattle.layout.specs.Entry.{«code-of» as codeOf};
 ghost use Rattle.layout.specs.Read.{header, nested};
 ghost use Rattle.layout.specs.Check.{checked};
 ghost use Rattle.layout.specs.Patch.{patch};
-ghost use Rattle.layout.specs.Ended.{Ended};
+ghost use Rattle.layout.specs.Room.{EndedIn};
 ghost use Rattle.layout.specs.declared.check.Check.the-variants.{Readable};
 ghost use Rattle.builders.specs.Search.{«bytes-at» as bytesAt, «name-in» as nameIn, «value-in» as valueIn};
 ghost use Rattle.builders.specs.Weave.{stored};
@@ -245,14 +245,14 @@ fn put_stripped(s: &[u8], out: &mut [u8], at: usize, allowance: u32) -> Stripped
 
 // Stores a container stripped, where no name is repeated among the members kept and there is room for it. It is measured first, on
 // no bytes.
-pub(crate) fn write_stripped(s: &[u8], out: &mut [u8]) -> Ending
+pub(crate) fn write_stripped(s: &[u8], out: &mut [u8], room: usize) -> Ending
     requires { ⌜ (checked (nested 64 (now s)) ≡ Readable) × (length (now s) ≤ 65536) ⌝ }
-    ensures { λ e. ⌜ Ended e (now (out .entry)) (now (out .exit)) (stripOut (now (s .entry)) (length (now (out .entry)))) ⌝ }
+    ensures { λ e. ⌜ EndedIn e (now (out .entry)) (now (out .exit)) (stripOut (now (s .entry)) room) ⌝ }
 {
     let Stripped::Len(len) = put_stripped(s, &mut out[0..0], 0, DEPTH_LIMIT) else {
         return Ending::Refused(Refusal::Repeated);
     };
-    if out.len() < len {
+    if room < len {
         return Ending::Refused(Refusal::Buffer);
     }
     put_stripped(s, out, 0, DEPTH_LIMIT);

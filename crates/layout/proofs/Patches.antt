@@ -6,15 +6,19 @@ use native.Mathlib.Decide.{decLe}
 use native.Mathlib.Nat.{add-zero, zero-add, add-suc, suc-add}
 use native.Mathlib.Numerals.{add-one, add-two, add-three}
 use native.Mathlib.Omega.{arith}
+use mathlib.Core.Bool.{cond}
 use mathlib.Core.List.{List, [], _∷_, _++_, append-assoc}
+use lib.Dec.{ltb}
 use lib.ListN.{length, take, drop, set, length-set, take-append-drop}
 use lib.Seq.{sets, sets-eq, set-comm, set-out, take-all, length-take-le}
 use borrow.Author.Tests.{lt-ltb, le-ltb}
 use Rattle.layout.specs.Bytes.{Bytes, be32}
 use Rattle.layout.specs.Patch.{patch}
-use Rattle.layout.specs.Ended.{Ended, into}
+use Rattle.layout.specs.Ended.{Ended, Outcome, result, absence, refusal, into}
+use Rattle.layout.specs.Room.{EndedIn, Fits}
 use Rattle.layout.specs.declared.ending.Ending.{Ending}
 use Rattle.layout.specs.declared.ending.Ending.the-variants.{Done, Refused}
+use Rattle.layout.specs.declared.refusal.Refusal.{Refusal}
 use Rattle.layout.specs.declared.refusal.Refusal.the-variants.{Buffer}
 
 pub length-patch : (o : List ℕ) (at : ℕ) (bs : List ℕ) → length (patch o at bs) ≡ length o
@@ -114,3 +118,41 @@ ended-full b before after n h e p =
 pub ended-as : {r : Ending} {before after : Bytes} (n : ℕ) (a b : Bytes) → a ≡ b → Ended r before after (into n a)
     → Ended r before after (into n b)
 ended-as n a b e h = rw e at h
+
+-- ---- the same with room beside the buffer
+
+-- A refusal leaves the buffer.
+pub in-refused : (o : Bytes) (p : Outcome) (x : Refusal) → p ≡ refusal x → EndedIn (Refused x) o o p
+in-refused o p x e = rw e (record { answer = refl; bytes = refl })
+
+-- So does a room that is too short.
+pub in-short : (b before : Bytes) (room : ℕ) → room < length b → EndedIn (Refused Buffer) before before (into room b)
+unfolding into
+in-short b before room h = rw (lt-ltb room (length b) h) (record { answer = refl; bytes = refl })
+
+-- Otherwise the result was stored, as far as it has a place.
+pub in-full : (b before : Bytes) (room : ℕ) (after : Bytes) (n : ℕ) → length b ≤ room → n ≡ length b → after ≡ patch before 0 b
+    → EndedIn (Done n) before after (into room b)
+unfolding into
+in-full b before room after n h e p = rw (le-ltb room (length b) h) (record { answer = ap Done e; bytes = p })
+
+-- The same result in other words.
+pub in-as : {r : Ending} {before after : Bytes} (n : ℕ) (a b : Bytes) → a ≡ b → EndedIn r before after (into n a)
+    → EndedIn r before after (into n b)
+in-as n a b e h = rw e at h
+
+-- A result goes into the room.
+pub into-fits : (room : ℕ) (b : Bytes) → Fits room (into room b)
+unfolding into
+into-fits room b = by-room (decLe (length b) room)
+  where
+    by-room : Dec (length b ≤ room) → Fits room (cond (ltb room (length b)) (refusal Buffer) (result b))
+    by-room (yes h) = rw (le-ltb room (length b) h) h
+    by-room (no h) = rw (lt-ltb room (length b) (omega arith)) tt
+
+-- With the buffer's length as room the two promises are one.
+pub ended-in : {r : Ending} {before after : Bytes} (o : Outcome) → Fits (length before) o → EndedIn r before after o
+    → Ended r before after o
+ended-in {before = before} (result b) h e = record { answer = e .answer; bytes = e .bytes ∙ patch-zero before b h }
+ended-in absence h e = record { answer = e .answer; bytes = e .bytes }
+ended-in (refusal x) h e = record { answer = e .answer; bytes = e .bytes }

@@ -21,3 +21,4 @@ pub mod Order
 pub mod Place
 pub mod Pass
 pub mod Patch
+pub mod Room

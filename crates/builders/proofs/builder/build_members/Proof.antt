@@ -23,7 +23,7 @@ write-joined-requires : tie.Need-write-joined-requires
 write-joined-requires c κs = pairs-lie (c .before .before .before .before .before .before .args .names .now) (c .before .before .before .before .before .before .args .values .now) (octets-of (c .before .before .before .before .before .before .args .names .now) (λ i. omega (arith, c .before .before .before .before .before .shared-slice-known .given i))) (octets-of (c .before .before .before .before .before .before .args .values .now) (λ i. omega (arith, c .before .before .before .before .shared-slice-known2 .given i))) _ (c .before .before .before .before .before .before .pre)
 
 returns : tie.Need-returns
-returns c = pairs-rising (c .before .before .before .before .before .before .before .before .before .args .names .now) (c .before .before .before .before .before .before .before .before .before .args .values .now) (octets-of (c .before .before .before .before .before .before .before .before .before .args .names .now) (λ i. omega (arith, c .before .before .before .before .before .before .before .before .shared-slice-known .given i))) (octets-of (c .before .before .before .before .before .before .before .before .before .args .values .now) (λ i. omega (arith, c .before .before .before .before .before .before .before .shared-slice-known2 .given i))) _ (c .before .before .before .before .before .before .before .before .before .pre) _ (sym (c .before .before .before .before .before .is-rising .ensures) ∙ c .before .before .before .before .if1 .taken) _ _ (c .before .before .write-joined .ensures)
+returns c = pairs-rising (c .before .before .before .before .before .before .before .before .before .args .names .now) (c .before .before .before .before .before .before .before .before .before .args .values .now) (octets-of (c .before .before .before .before .before .before .before .before .before .args .names .now) (λ i. omega (arith, c .before .before .before .before .before .before .before .before .shared-slice-known .given i))) (octets-of (c .before .before .before .before .before .before .before .before .before .args .values .now) (λ i. omega (arith, c .before .before .before .before .before .before .before .shared-slice-known2 .given i))) _ (c .before .before .before .before .before .before .before .before .before .pre) _ _ (sym (c .before .before .before .before .before .is-rising .ensures) ∙ c .before .before .before .before .if1 .taken) _ _ (c .before .before .write-joined .ensures)
 
 is-distinct-requires : tie.Need-is-distinct-requires
 is-distinct-requires c κs = let b = pairs-bounds (c .before .before .before .before .before .args .names .now) (c .before .before .before .before .before .args .values .now) (octets-of (c .before .before .before .before .before .args .names .now) (λ i. omega (arith, c .before .before .before .before .shared-slice-known .given i))) (octets-of (c .before .before .before .before .before .args .values .now) (λ i. omega (arith, c .before .before .before .shared-slice-known2 .given i))) _ (c .before .before .before .before .before .pre) in (omega (arith, b .few), omega (arith, b .few))
@@ -32,7 +32,7 @@ write-sorted-requires : tie.Need-write-sorted-requires
 write-sorted-requires c κs = (c .before .before .before .before .before .before .before .before .pre, sym (c .before .before .is-distinct .ensures) ∙ c .before .if2 .taken)
 
 returns-3 : tie.Need-returns-3
-returns-3 c = pairs-repeated (c .before .before .before .before .before .before .before .args .names .now) (c .before .before .before .before .before .before .before .args .values .now) (octets-of (c .before .before .before .before .before .before .before .args .names .now) (λ i. omega (arith, c .before .before .before .before .before .before .shared-slice-known .given i))) (octets-of (c .before .before .before .before .before .before .before .args .values .now) (λ i. omega (arith, c .before .before .before .before .before .shared-slice-known2 .given i))) _ (c .before .before .before .before .before .before .before .pre) _ (sym (c .before .is-distinct .ensures) ∙ c .if2 .left)
+returns-3 c = pairs-repeated (c .before .before .before .before .before .before .before .args .names .now) (c .before .before .before .before .before .before .before .args .values .now) (octets-of (c .before .before .before .before .before .before .before .args .names .now) (λ i. omega (arith, c .before .before .before .before .before .before .shared-slice-known .given i))) (octets-of (c .before .before .before .before .before .before .before .args .values .now) (λ i. omega (arith, c .before .before .before .before .before .shared-slice-known2 .given i))) _ (c .before .before .before .before .before .before .before .pre) _ _ (sym (c .before .is-distinct .ensures) ∙ c .if2 .left)
 
 pub build-members-spec : {M : Type 1} → statement M
 build-members-spec =

@@ -11,7 +11,7 @@ sub-len : tie.Need-sub-len
 sub-len c = let b = pairs-bounds (c .before .before .before .args .names .now) (c .before .before .before .args .values .now) (octets-of (c .before .before .before .args .names .now) (λ i. omega (arith, c .before .before .shared-slice-known .given i))) (octets-of (c .before .before .before .args .values .now) (λ i. omega (arith, c .before .shared-slice-known2 .given i))) _ (c .before .before .before .pre .0) in omega (arith, b .few, b .keys-table, b .keys, b .vals-table, b .vals)
 
 returns : tie.Need-returns
-returns c = pairs-refused (c .before .before .before .before .before .before .before .args .names .now) (c .before .before .before .before .before .before .before .args .values .now) (octets-of (c .before .before .before .before .before .before .before .args .names .now) (λ i. omega (arith, c .before .before .before .before .before .before .shared-slice-known .given i))) (octets-of (c .before .before .before .before .before .before .before .args .values .now) (λ i. omega (arith, c .before .before .before .before .before .shared-slice-known2 .given i))) _ (c .before .before .before .before .before .before .before .pre .0) _ (c .before .before .before .before .before .before .before .pre .1) _ refl _ (c .before .before .before .check-room .ensures) _ (c .before .refusal .given .1)
+returns c = pairs-refused (c .before .before .before .before .before .before .before .args .names .now) (c .before .before .before .before .before .before .before .args .values .now) (octets-of (c .before .before .before .before .before .before .before .args .names .now) (λ i. omega (arith, c .before .before .before .before .before .before .shared-slice-known .given i))) (octets-of (c .before .before .before .before .before .before .before .args .values .now) (λ i. omega (arith, c .before .before .before .before .before .shared-slice-known2 .given i))) _ (c .before .before .before .before .before .before .before .pre .0) _ _ (c .before .before .before .before .before .before .before .pre .1) _ refl _ (c .before .before .before .check-room .ensures) _ (c .before .refusal .given .1)
 
 mul-start : tie.Need-mul-start
 mul-start c = let b = pairs-bounds (c .before .before .before .before .before .before .args .names .now) (c .before .before .before .before .before .before .args .values .now) (octets-of (c .before .before .before .before .before .before .args .names .now) (λ i. omega (arith, c .before .before .before .before .before .shared-slice-known .given i))) (octets-of (c .before .before .before .before .before .before .args .values .now) (λ i. omega (arith, c .before .before .before .before .shared-slice-known2 .given i))) _ (c .before .before .before .before .before .before .pre .0) in omega (arith, b .few, b .keys-table, b .keys, b .vals-table, b .vals)
@@ -19,17 +19,17 @@ mul-start c = let b = pairs-bounds (c .before .before .before .before .before .b
 add-start : tie.Need-add-start
 add-start c = let b = pairs-bounds (c .before .before .before .before .before .before .args .names .now) (c .before .before .before .before .before .before .args .values .now) (octets-of (c .before .before .before .before .before .before .args .names .now) (λ i. omega (arith, c .before .before .before .before .before .shared-slice-known .given i))) (octets-of (c .before .before .before .before .before .before .args .values .now) (λ i. omega (arith, c .before .before .before .before .shared-slice-known2 .given i))) _ (c .before .before .before .before .before .before .pre .0) in omega (arith, b .few, b .keys-table, b .keys, b .vals-table, b .vals)
 
-mul-t10 : tie.Need-mul-t10
-mul-t10 c = let b = pairs-bounds (c .before .before .before .before .before .before .args .names .now) (c .before .before .before .before .before .before .args .values .now) (octets-of (c .before .before .before .before .before .before .args .names .now) (λ i. omega (arith, c .before .before .before .before .before .shared-slice-known .given i))) (octets-of (c .before .before .before .before .before .before .args .values .now) (λ i. omega (arith, c .before .before .before .before .shared-slice-known2 .given i))) _ (c .before .before .before .before .before .before .pre .0) in omega (arith, b .few, b .keys-table, b .keys, b .vals-table, b .vals)
+mul-t13 : tie.Need-mul-t13
+mul-t13 c = let b = pairs-bounds (c .before .before .before .before .before .before .args .names .now) (c .before .before .before .before .before .before .args .values .now) (octets-of (c .before .before .before .before .before .before .args .names .now) (λ i. omega (arith, c .before .before .before .before .before .shared-slice-known .given i))) (octets-of (c .before .before .before .before .before .before .args .values .now) (λ i. omega (arith, c .before .before .before .before .shared-slice-known2 .given i))) _ (c .before .before .before .before .before .before .pre .0) in omega (arith, b .few, b .keys-table, b .keys, b .vals-table, b .vals)
 
-add-t12 : tie.Need-add-t12
-add-t12 c = let b = pairs-bounds (c .before .before .before .before .before .before .args .names .now) (c .before .before .before .before .before .before .args .values .now) (octets-of (c .before .before .before .before .before .before .args .names .now) (λ i. omega (arith, c .before .before .before .before .before .shared-slice-known .given i))) (octets-of (c .before .before .before .before .before .before .args .values .now) (λ i. omega (arith, c .before .before .before .before .shared-slice-known2 .given i))) _ (c .before .before .before .before .before .before .pre .0) in omega (arith, b .few, b .keys-table, b .keys, b .vals-table, b .vals)
+add-t11 : tie.Need-add-t11
+add-t11 c = let b = pairs-bounds (c .before .before .before .before .before .before .args .names .now) (c .before .before .before .before .before .before .args .values .now) (octets-of (c .before .before .before .before .before .before .args .names .now) (λ i. omega (arith, c .before .before .before .before .before .shared-slice-known .given i))) (octets-of (c .before .before .before .before .before .before .args .values .now) (λ i. omega (arith, c .before .before .before .before .shared-slice-known2 .given i))) _ (c .before .before .before .before .before .before .pre .0) in omega (arith, b .few, b .keys-table, b .keys, b .vals-table, b .vals)
 
-mul-t14 : tie.Need-mul-t14
-mul-t14 c = let b = pairs-bounds (c .before .before .before .before .before .before .args .names .now) (c .before .before .before .before .before .before .args .values .now) (octets-of (c .before .before .before .before .before .before .args .names .now) (λ i. omega (arith, c .before .before .before .before .before .shared-slice-known .given i))) (octets-of (c .before .before .before .before .before .before .args .values .now) (λ i. omega (arith, c .before .before .before .before .shared-slice-known2 .given i))) _ (c .before .before .before .before .before .before .pre .0) in omega (arith, b .few, b .keys-table, b .keys, b .vals-table, b .vals)
+mul-t15 : tie.Need-mul-t15
+mul-t15 c = let b = pairs-bounds (c .before .before .before .before .before .before .args .names .now) (c .before .before .before .before .before .before .args .values .now) (octets-of (c .before .before .before .before .before .before .args .names .now) (λ i. omega (arith, c .before .before .before .before .before .shared-slice-known .given i))) (octets-of (c .before .before .before .before .before .before .args .values .now) (λ i. omega (arith, c .before .before .before .before .shared-slice-known2 .given i))) _ (c .before .before .before .before .before .before .pre .0) in omega (arith, b .few, b .keys-table, b .keys, b .vals-table, b .vals)
 
-add-t15 : tie.Need-add-t15
-add-t15 c = let b = pairs-bounds (c .before .before .before .before .before .before .args .names .now) (c .before .before .before .before .before .before .args .values .now) (octets-of (c .before .before .before .before .before .before .args .names .now) (λ i. omega (arith, c .before .before .before .before .before .shared-slice-known .given i))) (octets-of (c .before .before .before .before .before .before .args .values .now) (λ i. omega (arith, c .before .before .before .before .shared-slice-known2 .given i))) _ (c .before .before .before .before .before .before .pre .0) in omega (arith, b .few, b .keys-table, b .keys, b .vals-table, b .vals)
+add-t16 : tie.Need-add-t16
+add-t16 c = let b = pairs-bounds (c .before .before .before .before .before .before .args .names .now) (c .before .before .before .before .before .before .args .values .now) (octets-of (c .before .before .before .before .before .before .args .names .now) (λ i. omega (arith, c .before .before .before .before .before .shared-slice-known .given i))) (octets-of (c .before .before .before .before .before .before .args .values .now) (λ i. omega (arith, c .before .before .before .before .shared-slice-known2 .given i))) _ (c .before .before .before .before .before .before .pre .0) in omega (arith, b .few, b .keys-table, b .keys, b .vals-table, b .vals)
 
 cast-put-u32 : tie.Need-cast-put-u32
 cast-put-u32 c = let b = pairs-bounds (c .before .before .before .before .before .before .before .args .names .now) (c .before .before .before .before .before .before .before .args .values .now) (octets-of (c .before .before .before .before .before .before .before .args .names .now) (λ i. omega (arith, c .before .before .before .before .before .before .shared-slice-known .given i))) (octets-of (c .before .before .before .before .before .before .before .args .values .now) (λ i. omega (arith, c .before .before .before .before .before .shared-slice-known2 .given i))) _ (c .before .before .before .before .before .before .before .pre .0) in omega (arith, b .few, b .keys-table, b .keys, b .vals-table, b .vals)
@@ -41,7 +41,7 @@ put-members-requires c κs = let b = pairs-bounds (c .before .before .before .be
 )
 
 returns-2 : tie.Need-returns-2
-returns-2 c = pairs-done (c .before .before .before .before .before .before .before .before .before .before .before .before .before .before .args .names .now) (c .before .before .before .before .before .before .before .before .before .before .before .before .before .before .args .values .now) (octets-of (c .before .before .before .before .before .before .before .before .before .before .before .before .before .before .args .names .now) (λ i. omega (arith, c .before .before .before .before .before .before .before .before .before .before .before .before .before .shared-slice-known .given i))) (octets-of (c .before .before .before .before .before .before .before .before .before .before .before .before .before .before .args .values .now) (λ i. omega (arith, c .before .before .before .before .before .before .before .before .before .before .before .before .shared-slice-known2 .given i))) _ (c .before .before .before .before .before .before .before .before .before .before .before .before .before .before .pre .0) _ (c .before .before .before .before .before .before .before .before .before .before .before .before .before .before .pre .1) _ refl _ (c .before .before .before .before .before .before .before .before .before .before .check-room .ensures) _ _ _ (c .before .before .before .before .before .before .before .before .enum-told .given .1) refl (c .before .before .before .before .before .before .put-u32 .ensures) (c .before .before .put-members .ensures)
+returns-2 c = pairs-done (c .before .before .before .before .before .before .before .before .before .before .before .before .before .before .args .names .now) (c .before .before .before .before .before .before .before .before .before .before .before .before .before .before .args .values .now) (octets-of (c .before .before .before .before .before .before .before .before .before .before .before .before .before .before .args .names .now) (λ i. omega (arith, c .before .before .before .before .before .before .before .before .before .before .before .before .before .shared-slice-known .given i))) (octets-of (c .before .before .before .before .before .before .before .before .before .before .before .before .before .before .args .values .now) (λ i. omega (arith, c .before .before .before .before .before .before .before .before .before .before .before .before .shared-slice-known2 .given i))) _ (c .before .before .before .before .before .before .before .before .before .before .before .before .before .before .pre .0) _ _ (c .before .before .before .before .before .before .before .before .before .before .before .before .before .before .pre .1) _ refl _ (c .before .before .before .before .before .before .before .before .before .before .check-room .ensures) _ _ _ (c .before .before .before .before .before .before .before .before .enum-told .given .1) refl (c .before .before .before .before .before .before .put-u32 .ensures) (c .before .before .put-members .ensures)
 
 pub write-sorted-spec : {M : Type 1} → statement M
 write-sorted-spec =
@@ -55,10 +55,10 @@ write-sorted-spec =
     (λ c. search needs)
     mul-start
     add-start
-    mul-t10
-    add-t12
-    mul-t14
-    add-t15
+    mul-t13
+    add-t11
+    mul-t15
+    add-t16
     cast-put-u32
     (λ c κs. search needs)
     put-members-requires

@@ -6,10 +6,10 @@ use Rattle.builders.proofs.join.write_joined.Statement.{statement}
 use Rattle.builders.proofs.join.write_joined.Tie as tie
 
 returns : tie.Need-returns
-returns c = sized-refused _ _ _ (length-joined _ _ _ _ (c .before .before .before .before .before .before .before .before .pre .0) (c .before .before .before .before .before .before .before .before .pre .1) _ _ (c .before .before .before .before .joined-len .ensures)) _ (c .before .before .before .check-room .ensures) _ (c .before .refusal .given .1)
+returns c = sized-refused _ _ _ _ (length-joined _ _ _ _ (c .before .before .before .before .before .before .before .before .pre .0) (c .before .before .before .before .before .before .before .before .pre .1) _ _ (c .before .before .before .before .joined-len .ensures)) _ (c .before .before .before .check-room .ensures) _ (c .before .refusal .given .1)
 
 returns-2 : tie.Need-returns-2
-returns-2 c = sized-done _ _ _ (length-joined _ _ _ _ (c .before .before .before .before .before .before .before .before .before .before .before .pre .0) (c .before .before .before .before .before .before .before .before .before .before .before .pre .1) _ _ (c .before .before .before .before .before .before .before .joined-len .ensures)) _ (c .before .before .before .before .before .before .check-room .ensures) _ (c .before .before .before .before .enum-told .given .1) (c .before .before .put-joined .ensures)
+returns-2 c = sized-done _ _ _ _ (length-joined _ _ _ _ (c .before .before .before .before .before .before .before .before .before .before .before .pre .0) (c .before .before .before .before .before .before .before .before .before .before .before .pre .1) _ _ (c .before .before .before .before .before .before .before .joined-len .ensures)) _ (c .before .before .before .before .before .before .check-room .ensures) _ (c .before .before .before .before .enum-told .given .1) (c .before .before .put-joined .ensures)
 
 pub write-joined-spec : {M : Type 1} → statement M
 write-joined-spec =
