@@ -45,10 +45,11 @@ use Rattle.builders.specs.Room.{room-for, sized}
 use Rattle.builders.specs.declared.search.Kept.the-variants.{All}
 use Rattle.builders.specs.declared.room.Room.{Room}
 use Rattle.builders.specs.declared.room.Room.the-variants.{Serves, Refused as NoRoom}
-use Rattle.builders.specs.Search.{texts, strings-at, name-in, value-in, members-at, kept-of, sorted, Pairs}
+use Rattle.layout.specs.Parts.{texts, name-in, value-in, members-at}
+use Rattle.builders.specs.Search.{strings-at, kept-of, sorted, Pairs}
 use Rattle.builders.specs.Weave.{own-entry, woven}
 use Rattle.builders.specs.declared.join.Given.the-variants.{Table}
-use Rattle.builders.specs.declared.search.Places.{Places}
+use Rattle.layout.specs.declared.parts.Places.{Places}
 use Rattle.builders.proofs.InOrders.{rising-in-order, rising-distinct, in-order-count, in-order-names, in-order-size, in-order-depth}
 use Rattle.builders.proofs.Searches.{kept-all}
 use Rattle.builders.proofs.Stands.{Stand, stand-sorted, stand-from}

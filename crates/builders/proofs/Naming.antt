@@ -15,7 +15,8 @@ use Rattle.layout.specs.Order.{before, rising, same-bytes}
 use Rattle.layout.proofs.Checks.{one-less, parts-step}
 use Rattle.layout.proofs.Sounds.{rising-test}
 use Rattle.builders.specs.Order.{has, distinct}
-use Rattle.builders.specs.Search.{texts, strings-at}
+use Rattle.layout.specs.Parts.{texts}
+use Rattle.builders.specs.Search.{strings-at}
 use Rattle.builders.proofs.InOrders.{rising-distinct}
 
 -- Strings.

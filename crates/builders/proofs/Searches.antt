@@ -12,10 +12,11 @@ use Rattle.layout.specs.Order.{order, is-less, before}
 use Rattle.layout.specs.declared.order.Ordering.{Ordering}
 use Rattle.layout.specs.declared.order.Ordering.the-variants.{Less, Equal, Greater}
 use Rattle.builders.specs.Order.{by}
-use Rattle.builders.specs.Search.{bytes-at, members-from, is-kept, kept-of, Bound, start, after, over, better, step, least, put-in, put-all, sorted, nth}
+use Rattle.layout.specs.Parts.{bytes-at, members-from}
+use Rattle.builders.specs.Search.{is-kept, kept-of, Bound, start, after, over, better, step, least, put-in, put-all, sorted, nth}
 use Rattle.layout.proofs.Fields.{length-lt}
-use Rattle.builders.specs.declared.search.ItemAt.{ItemAt}
-use Rattle.builders.specs.declared.search.MemberAt.{MemberAt}
+use Rattle.layout.specs.declared.parts.ItemAt.{ItemAt}
+use Rattle.layout.specs.declared.parts.MemberAt.{MemberAt}
 use Rattle.builders.specs.declared.search.Kept.{Kept}
 use Rattle.builders.specs.declared.search.Kept.the-variants.{All}
 use Rattle.builders.specs.declared.search.Found.{Found}

@@ -16,9 +16,10 @@ use Rattle.layout.proofs.Words.{word-be32, drop-be32}
 use Rattle.layout.proofs.Fields.{length-entry}
 use Rattle.layout.proofs.Level.{Fits, AllFit, code-small}
 use Rattle.builders.specs.Order.{by, insert, insert-all, in-order}
-use Rattle.builders.specs.Search.{name-in, value-in, members-from, put-in, put-all, sorted}
+use Rattle.layout.specs.Parts.{name-in, value-in, members-from}
+use Rattle.builders.specs.Search.{put-in, put-all, sorted}
 use Rattle.builders.specs.Weave.{own-entry, column}
-use Rattle.builders.specs.declared.search.MemberAt.{MemberAt}
+use Rattle.layout.specs.declared.parts.MemberAt.{MemberAt}
 
 module _ (name value : MemberAt → Bytes) (entry : MemberAt → ℕ) where
   -- A member by its places that has the entries, the name and the value of a member of a tree.

@@ -10,18 +10,15 @@ use lib.ListN.{take, drop}
 use Rattle.layout.specs.Bytes.{Bytes}
 use Rattle.layout.specs.Entry.{code-of, length-of}
 use Rattle.layout.specs.Order.{before}
-use Rattle.builders.specs.Search.{bytes-at, name-in, member-at, members-from, members-at, is-kept, kept-of, Bound, bound, over, better, step, turn, least}
-use Rattle.builders.specs.declared.search.ItemAt.{ItemAt}
-use Rattle.builders.specs.declared.search.MemberAt.{MemberAt}
-use Rattle.builders.specs.declared.search.Places.{Places}
+use Rattle.layout.specs.Parts.{name-in, member-at, members-from, members-at, behind-member}
+use Rattle.builders.specs.Search.{is-kept, kept-of, Bound, bound, over, better, step, turn, least}
+use Rattle.layout.specs.declared.parts.ItemAt.{ItemAt}
+use Rattle.layout.specs.declared.parts.MemberAt.{MemberAt}
+use Rattle.layout.specs.declared.parts.Places.{Places}
 use Rattle.builders.specs.declared.search.Kept.{Kept}
 use Rattle.builders.specs.declared.search.Kept.the-variants.{All, But, NonNull}
 use Rattle.builders.specs.declared.search.Found.{Found}
 use Rattle.builders.specs.declared.search.Found.the-variants.{Nothing, At}
-
-pub payload-is : (r s : Bytes) (x : ItemAt) (n : ℕ) → n ≡ length-of (x .jentry) → r ≡ take n (drop (x .place) s)
-    → r ≡ bytes-at s x
-payload-is r s x n e h = rw (h, e)
 
 module _ (g : Bool) (l n : Bytes) where
   pub over-first : g ≡ true → true ≡ over (bound g l) n
@@ -97,19 +94,11 @@ module _ (ks vs : Bytes) (kept : Kept) (last : Bound) (best : Found) (at : Place
     unfolding members-at members-from kept-of least
     search-ends h = let z : n - i ≡ 0 = omega arith in rw z
 
-    pub search-turns : (m : MemberAt) (g : Bool) (next : Found) (kl vl : ℕ) → i < n
+    pub search-turns : (m : MemberAt) (g : Bool) (next : Found) (at′ : Places) → i < n
         → m ≡ member-at ks vs (at .«key_jentry») (at .«val_jentry») (at .key) (at .val)
-        → g ≡ is-kept kept i m → next ≡ turn (name-in ks) last g best m
-        → kl ≡ length-of (m .key .jentry) → vl ≡ length-of (m .val .jentry)
-        → from-here i (n - i)
-        ≡ least (name-in ks) last next
-        (kept-of kept (i + 1) (members-at ks vs (record {
-          «key_jentry» = at .«key_jentry» + 4;
-          «val_jentry» = at .«val_jentry» + 4;
-          key = at .key + kl;
-          val = at .val + vl;
-        }) (n - (i + 1))))
+        → g ≡ is-kept kept i m → next ≡ turn (name-in ks) last g best m → at′ ≡ behind-member at m
+        → from-here i (n - i) ≡ least (name-in ks) last next (kept-of kept (i + 1) (members-at ks vs at′ (n - (i + 1))))
     unfolding members-at members-from kept-of
-    search-turns m g next kl vl h e t s k v =
+    search-turns m g next at′ h e t s b =
         let q : n - i ≡ suc (n - (i + 1)) = omega arith in
-        rw (q, s, k, v, t, e) (least-kept (name-in ks) last best (is-kept kept i _) _ _)
+        rw (q, s, b, t, e) (least-kept (name-in ks) last best (is-kept kept i _) _ _)

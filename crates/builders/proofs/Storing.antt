@@ -15,11 +15,12 @@ use Rattle.layout.specs.declared.order.Ordering.{Ordering}
 use Rattle.layout.specs.declared.order.Ordering.the-variants.{Less, Equal, Greater}
 use Rattle.layout.proofs.Patches.{length-patch}
 use Rattle.builders.specs.Order.{by}
-use Rattle.builders.specs.Search.{bytes-at, name-in, value-in, members-at, kept-of, bound, least, put-in, put-all, sorted, nth}
+use Rattle.layout.specs.Parts.{bytes-at, name-in, value-in, members-at, past}
+use Rattle.builders.specs.Search.{kept-of, bound, least, put-in, put-all, sorted, nth}
 use Rattle.builders.specs.Weave.{behind, own-entry, stored, woven, column}
-use Rattle.builders.specs.declared.search.ItemAt.{ItemAt}
-use Rattle.builders.specs.declared.search.MemberAt.{MemberAt}
-use Rattle.builders.specs.declared.search.Places.{Places}
+use Rattle.layout.specs.declared.parts.ItemAt.{ItemAt}
+use Rattle.layout.specs.declared.parts.MemberAt.{MemberAt}
+use Rattle.layout.specs.declared.parts.Places.{Places}
 use Rattle.builders.specs.declared.search.Kept.{Kept}
 use Rattle.builders.specs.declared.search.Found.{Found}
 use Rattle.builders.specs.declared.search.Found.the-variants.{Nothing, At}
@@ -29,10 +30,8 @@ pub payload-short : (s r : Bytes) (x : ItemAt) → r ≡ bytes-at s x → length
 payload-short s r x e = rw e (bytes-short s x)
 
 module _ (ks vs : Bytes) (m : MemberAt) (n v : Bytes) (hn : n ≡ bytes-at ks (m .key)) (hv : v ≡ bytes-at vs (m .val)) (at : Places) where
-  pub places-behind :
-      record { «key_jentry» = at .«key_jentry» + 4; «val_jentry» = at .«val_jentry» + 4; key = at .key + length n; val = at .val + length v }
-      ≡ behind (name-in ks m) (value-in vs m) at
-  places-behind = rw (hn, hv)
+  pub places-behind : (r : Places) → r ≡ past at (length n) (length v) → r ≡ behind (name-in ks m) (value-in vs m) at
+  places-behind r e = e ∙ rw (hn, hv)
 
   pub member-stored : (o o₁ o₂ o₃ o₄ : Bytes) → o₁ ≡ patch o (at .«key_jentry») (be32 (m .key .jentry))
       → o₂ ≡ patch o₁ (at .«val_jentry») (be32 (m .val .jentry)) → o₃ ≡ patch o₂ (at .key) n → o₄ ≡ patch o₃ (at .val) v

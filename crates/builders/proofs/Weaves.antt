@@ -14,7 +14,7 @@ use Rattle.layout.proofs.Level.{entries-length}
 use Rattle.layout.proofs.Decoding.{payloads-append}
 use Rattle.layout.proofs.Encoding.{names-count}
 use Rattle.builders.specs.Weave.{stored, woven, column}
-use Rattle.builders.specs.declared.search.MemberAt.{MemberAt}
+use Rattle.layout.specs.declared.parts.MemberAt.{MemberAt}
 use Rattle.builders.proofs.Stands.{Stand, stand-key-entries, stand-val-entries, stand-names, stand-values}
 
 -- What is stored next, behind what was stored.

@@ -6,59 +6,24 @@ use mathlib.Core.Path.{_≡_}
 use mathlib.Core.Bool.{Bool, true, false, not, cond, _&&_}
 use mathlib.Core.List.{List, [], _∷_}
 use lib.Dec.{eqb}
-use lib.ListN.{take, drop}
-use Rattle.layout.specs.Bytes.{Bytes, word-at}
-use Rattle.layout.specs.Entry.{code-of, length-of, entry-at}
-use Rattle.layout.specs.Encode.{Part}
+use Rattle.layout.specs.Bytes.{Bytes}
+use Rattle.layout.specs.Entry.{code-of, entry-at}
 use Rattle.layout.specs.Read.{header, read}
 use Rattle.layout.specs.Check.{checked}
 use Rattle.layout.specs.Order.{order, before}
 use Rattle.layout.specs.declared.util.Header.the-variants.{Array}
 use Rattle.layout.specs.declared.check.Check.the-variants.{Readable}
 use Rattle.builders.specs.Order.{by}
-use Rattle.builders.specs.declared.search.ItemAt.{ItemAt}
-use Rattle.builders.specs.declared.search.MemberAt.{MemberAt}
-use Rattle.builders.specs.declared.search.Places.{Places}
+use Rattle.layout.specs.declared.parts.MemberAt.{MemberAt}
 use Rattle.builders.specs.declared.search.Kept.{Kept}
 use Rattle.builders.specs.declared.search.Kept.the-variants.{All, But, NonNull}
 use Rattle.builders.specs.declared.search.Found.{Found}
 use Rattle.builders.specs.declared.search.Found.the-variants.{Nothing, At}
 
--- The bytes of each of some parts.
-abbrev pub texts : List Part → List Bytes
-texts [] = []
-texts (p ∷ ps) = p .bytes ∷ texts ps
-
 -- Whether the `k` entries from the `i`th on are those of strings.
 unfoldable pub strings-at : Bytes → ℕ → ℕ → Bool
 strings-at s i zero = true
 strings-at s i (suc k) = eqb (code-of (entry-at s i)) 1 && strings-at s (i + 1) k
-
--- The payload of an item.
-abbrev pub bytes-at : Bytes → ItemAt → Bytes
-bytes-at s x = take (length-of (x .jentry)) (drop (x .place) s)
-
--- A member's name, which it is ordered by, and its value.
-abbrev pub name-in : Bytes → MemberAt → Bytes
-name-in keys m = bytes-at keys (m .key)
-
-abbrev pub value-in : Bytes → MemberAt → Bytes
-value-in vals m = bytes-at vals (m .val)
-
--- The member whose entries stand at `a` and `b`, and whose name and value at `p` and `q`; and the `k` members from there on.
--- Names are in `ks`, values in `vs`.
-abbrev pub member-at : Bytes → Bytes → ℕ → ℕ → ℕ → ℕ → MemberAt
-member-at ks vs a b p q =
-    record { key = record { jentry = word-at ks a; place = p }; val = record { jentry = word-at vs b; place = q } }
-
-unfoldable pub members-from : Bytes → Bytes → ℕ → ℕ → ℕ → ℕ → ℕ → List MemberAt
-members-from ks vs a b p q zero = []
-members-from ks vs a b p q (suc k) =
-    member-at ks vs a b p q
-    ∷ members-from ks vs (a + 4) (b + 4) (p + length-of (word-at ks a)) (q + length-of (word-at vs b)) k
-
-unfoldable pub members-at : Bytes → Bytes → Places → ℕ → List MemberAt
-members-at ks vs w k = members-from ks vs (w .«key_jentry») (w .«val_jentry») (w .key) (w .val) k
 
 -- Members some of which are left out, where the first of them stands behind `i` others.
 unfoldable pub is-kept : Kept → ℕ → MemberAt → Bool

@@ -5,18 +5,13 @@ use mathlib.Core.List.{List, [], _∷_, _++_}
 use lib.ListN.{length}
 use Rattle.layout.specs.Bytes.{Bytes, be32}
 use Rattle.layout.specs.Patch.{patch}
-use Rattle.builders.specs.declared.search.MemberAt.{MemberAt}
-use Rattle.builders.specs.declared.search.Places.{Places}
+use Rattle.layout.specs.Parts.{past}
+use Rattle.layout.specs.declared.parts.MemberAt.{MemberAt}
+use Rattle.layout.specs.declared.parts.Places.{Places}
 
 -- The places behind a member with this name and value.
 abbrev pub behind : Bytes → Bytes → Places → Places
-behind n v at =
-    record {
-      «key_jentry» = at .«key_jentry» + 4;
-      «val_jentry» = at .«val_jentry» + 4;
-      key = at .key + length n;
-      val = at .val + length v;
-    }
+behind n v at = past at (length n) (length v)
 
 -- The entry that a member's value has where it stands.
 abbrev pub own-entry : MemberAt → ℕ

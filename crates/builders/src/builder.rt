@@ -7,7 +7,6 @@ use crate::names::is_distinct;
 use crate::room::Room;
 use crate::room::check_room;
 use crate::search::Kept;
-use crate::search::Places;
 use crate::search::put_members;
 use layout::check::Check;
 use layout::check::Nesting;
@@ -18,6 +17,7 @@ use layout::constants::HEADER_SIZE;
 use layout::constants::JENTRY_SIZE;
 use layout::constants::OBJECT_CONTAINER_TAG;
 use layout::ending::Ending;
+use layout::parts::Places;
 use layout::refusal::Refusal;
 use layout::sound::is_rising;
 use layout::util::Header;
@@ -32,7 +32,8 @@ ghost use Rattle.layout.specs.Ended.{Ended};
 ghost use Rattle.layout.specs.Room.{EndedIn};
 ghost use Rattle.builders.specs.Order.{distinct};
 ghost use Rattle.builders.specs.Build.{append as appendOf, build, «on-two» as onTwo};
-ghost use Rattle.builders.specs.Search.{texts, Pairs};
+ghost use Rattle.layout.specs.Parts.{texts};
+ghost use Rattle.builders.specs.Search.{Pairs};
 
 // Puts a record, as one item, at the end of an array record, where the result goes into `room` bytes.
 pub fn append_in(array: &[u8], item: &[u8], out: &mut [u8], room: usize) -> Ending

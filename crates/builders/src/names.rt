@@ -10,7 +10,8 @@ ghost use mathlib.Core.Path.{_≡_};
 ghost use Prim.Native.Nat.{_-_, _^_, _≤_, _<_};
 ghost use Rattle.layout.specs.Place.{«parts-at» as partsAt};
 ghost use Rattle.builders.specs.Order.{has, distinct};
-ghost use Rattle.builders.specs.Search.{texts, «strings-at» as stringsAt};
+ghost use Rattle.layout.specs.Parts.{texts};
+ghost use Rattle.builders.specs.Search.{«strings-at» as stringsAt};
 
 // Whether the first n entries are those of strings.
 pub(crate) fn are_strings(s: &[u8], n: usize) -> bool

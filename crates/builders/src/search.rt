@@ -1,42 +1,25 @@
-// Members by their places, and the search for the next name in byte order. It stands in for the Rust's BTreeMap of members: no
+// The search for the next name in byte order. It stands in for the Rust's BTreeMap of members: no
 // work buffer is lent, so each name is searched for anew.
-use layout::constants::JENTRY_SIZE;
 use layout::constants::NULL_CODE;
-use layout::jentry::payload_len;
 use layout::jentry::type_code;
 use layout::order::is_before;
-use layout::util::read_u32;
+use layout::parts::MemberAt;
+use layout::parts::Places;
+use layout::parts::payload_at;
+use layout::parts::places_behind;
+use layout::parts::places_past;
+use layout::parts::read_member;
 use layout::util::slice;
 use layout::writer::copy;
 use layout::writer::put_u32;
 ghost use mathlib.Core.Path.{_≡_};
 ghost use mathlib.Core.Bool.{cond};
 ghost use Prim.Native.Nat.{_+_, _^_, _<_};
-ghost use Rattle.builders.specs.Search.{«bytes-at» as bytesAt, «member-at» as memberAt, «members-at» as membersAt};
+ghost use Rattle.layout.specs.Parts.{«bytes-at» as bytesAt, «member-at» as memberAt, «members-at» as membersAt};
 ghost use Rattle.builders.specs.Search.{bound, over, better, turn, least, sorted};
 ghost use Rattle.builders.specs.Search.{«is-kept» as isKept, «kept-of» as keptOf};
-ghost use Rattle.builders.specs.Search.{«name-in» as nameIn, «value-in» as valueIn};
+ghost use Rattle.layout.specs.Parts.{«name-in» as nameIn, «value-in» as valueIn};
 ghost use Rattle.builders.specs.Weave.{behind, «own-entry» as ownEntry, stored, woven};
-
-// An item as it stands in a record: its entry, and the place of its payload.
-pub struct ItemAt {
-    pub jentry: u32,
-    pub place: usize,
-}
-
-// A member as it stands in one record, or in an array of names and one of values.
-pub struct MemberAt {
-    pub key: ItemAt,
-    pub val: ItemAt,
-}
-
-// The places of a member's two entries, its name and its value, in records to read or in a buffer to write.
-pub struct Places {
-    pub key_jentry: usize,
-    pub val_jentry: usize,
-    pub key: usize,
-    pub val: usize,
-}
 
 // Which members are searched: all, all but one, told by how many stand before it, or those whose value is not null.
 pub enum Kept {
@@ -49,30 +32,6 @@ pub enum Kept {
 pub enum Found {
     Nothing,
     At(MemberAt),
-}
-
-// The payload of an item.
-pub fn payload_at(s: &[u8], item: ItemAt) -> &[u8]
-    ensures { λ r. ⌜ now r ≡ bytesAt (now (s .entry)) item ⌝ }
-{
-    slice(s, item.place, payload_len(item.jentry) as usize)
-}
-
-// The member at these places.
-pub fn read_member(keys: &[u8], vals: &[u8], at: Places) -> MemberAt
-    ensures { λ r. ⌜ r
-        ≡ memberAt (now (keys .entry)) (now (vals .entry)) (at .«key_jentry») (at .«val_jentry») (at .key) (at .val) ⌝ }
-{
-    MemberAt {
-        key: ItemAt {
-            jentry: read_u32(keys, at.key_jentry),
-            place: at.key,
-        },
-        val: ItemAt {
-            jentry: read_u32(vals, at.val_jentry),
-            place: at.val,
-        },
-    }
 }
 
 // Whether a name comes behind the last one taken; at first each does.
@@ -150,12 +109,7 @@ pub fn next_member(
         if is_taken(keys, is_kept(kept, i, member), is_first, last, best, member) {
             best = Found::At(member);
         }
-        at = Places {
-            key_jentry: at.key_jentry + JENTRY_SIZE,
-            val_jentry: at.val_jentry + JENTRY_SIZE,
-            key: at.key + payload_len(member.key.jentry) as usize,
-            val: at.val + payload_len(member.val.jentry) as usize,
-        };
+        at = places_behind(at, member);
         i += 1;
     }
     best
@@ -174,12 +128,7 @@ pub fn put_member(keys: &[u8], vals: &[u8], member: MemberAt, out: &mut [u8], at
     put_u32(out, at.val_jentry, member.val.jentry);
     copy(name, out, at.key);
     copy(value, out, at.val);
-    Places {
-        key_jentry: at.key_jentry + JENTRY_SIZE,
-        val_jentry: at.val_jentry + JENTRY_SIZE,
-        key: at.key + name.len(),
-        val: at.val + value.len(),
-    }
+    places_past(at, name.len(), value.len())
 }
 
 // Stores `count` members, those left out aside, in byte order of their names, of equal names the first, each behind the one

@@ -13,15 +13,17 @@ use Rattle.layout.specs.Order.{order}
 use Rattle.layout.specs.Sound.{Rising}
 use Rattle.layout.specs.declared.order.Ordering.the-variants.{Less}
 use Rattle.layout.proofs.Values.{In, rising-tail, rising-all}
-use Rattle.builders.specs.Search.{name-in, members-at, kept-of, Bound, start, after, over, least}
+use Rattle.layout.specs.Parts.{name-in, members-at}
+use Rattle.builders.specs.Search.{kept-of, Bound, start, after, over, least}
 use Rattle.builders.specs.declared.search.Kept.{Kept}
-use Rattle.builders.specs.declared.search.MemberAt.{MemberAt}
+use Rattle.layout.specs.declared.parts.MemberAt.{MemberAt}
 use Rattle.builders.specs.declared.search.Found.{Found}
 use Rattle.builders.specs.declared.search.Found.the-variants.{Nothing, At}
 use Rattle.builders.proofs.Orderings.{order-less}
 use Rattle.builders.proofs.Searches.{Above, Ascending, Passed, least-append, least-passed, least-first, passed-later, over-less, over-itself, ascending-kept}
 use Rattle.builders.proofs.Stands.{Stand}
-use Rattle.edits.specs.Members.{members-of, all-ahead, kept-ahead, Near, Standing, Searching, Next}
+use Rattle.layout.specs.Parts.{members-of}
+use Rattle.edits.specs.Members.{all-ahead, kept-ahead, Near, Standing, Searching, Next}
 use Rattle.edits.specs.declared.members.Ahead.{Ahead}
 use Rattle.edits.specs.declared.members.Taken.{Taken}
 use Rattle.edits.specs.declared.members.Taken.the-variants.{End, Member}

@@ -16,10 +16,10 @@ use Rattle.layout.specs.declared.item.Kind.the-variants.{Container}
 use Rattle.layout.proofs.Answers.{gives-inj}
 use Rattle.layout.proofs.Words.{word-be32}
 use Rattle.edits.specs.Delete.{anew}
-use Rattle.edits.specs.Spot.{behind}
+use Rattle.layout.specs.Parts.{next-part}
 use Rattle.edits.specs.Cut.{Left, Cuts, Onward, InRuns, left-of, step-at, steps-from, way-behind, run-entries, run-payloads, run-behind}
-use Rattle.edits.specs.declared.find.PartAt.{PartAt}
-use Rattle.edits.specs.declared.find.Cursor.{Cursor}
+use Rattle.layout.specs.declared.parts.PartAt.{PartAt}
+use Rattle.layout.specs.declared.parts.Cursor.{Cursor}
 use Rattle.edits.specs.declared.delete.Way.{Way}
 use Rattle.edits.proofs.Tables.{parted}
 use Rattle.edits.proofs.Cuts.{Part-at, at-part, anew-stored}
@@ -69,16 +69,16 @@ module _ (s path : Bytes) (n : ℕ) (a : PartAt) (w : Way) (allowance : ℕ) (o 
       ∙ rw (head-word, lefts, rights, new-is)
 
   -- The bytes that the nested call is given.
-  pub child-bytes : (next : PartAt) → next ≡ behind s a → take (next .place - a .place) (drop (a .place) s) ≡ payload (down .value)
+  pub child-bytes : (next : PartAt) → next ≡ next-part s a → take (next .place - a .place) (drop (a .place) s) ≡ payload (down .value)
   child-bytes next e =
       let z : next .place - a .place ≡ length-of (entry-at s (a .index)) = rw e (omega arith) in
       rw z (down .child)
 
-  pub child-cuts : (next : PartAt) (w′ : Way) → next ≡ behind s a → w′ ≡ way-behind path w
+  pub child-cuts : (next : PartAt) (w′ : Way) → next ≡ next-part s a → w′ ≡ way-behind path w
       → Cuts (take (next .place - a .place) (drop (a .place) s)) path w′ (allowance - 1)
   child-cuts next w′ e ew = rw (child-bytes next e, ew) (down .cuts)
 
-  module _ (next : PartAt) (w′ : Way) (en : next ≡ behind s a) (ew : w′ ≡ way-behind path w) where
+  module _ (next : PartAt) (w′ : Way) (en : next ≡ next-part s a) (ew : w′ ≡ way-behind path w) where
     pub child-left : left-of (take (next .place - a .place) (drop (a .place) s)) (steps-from path w′) ≡ payload (down .after)
     child-left = rw (child-bytes next en, ew) (down .inner)
 

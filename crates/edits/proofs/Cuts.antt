@@ -11,10 +11,10 @@ use Rattle.layout.specs.Patch.{patch}
 use Rattle.layout.proofs.Level.{AllFit}
 use Rattle.layout.proofs.Decoding.{payloads-append}
 use Rattle.layout.proofs.Readables.{record-of-length}
-use Rattle.edits.specs.Spot.{behind}
+use Rattle.layout.specs.Parts.{next-part}
 use Rattle.edits.specs.Cut.{Left, PartOf, parts-of, without, without-member, run-entries, run-payloads, run-behind}
-use Rattle.edits.specs.declared.find.PartAt.{PartAt}
-use Rattle.edits.specs.declared.find.Cursor.{Cursor}
+use Rattle.layout.specs.declared.parts.PartAt.{PartAt}
+use Rattle.layout.specs.declared.parts.Cursor.{Cursor}
 use Rattle.edits.proofs.Rows.{row-lengths, row-entry}
 use Rattle.edits.proofs.Tables.{Parted}
 use Rattle.edits.proofs.Runs.{laid, laid-append, laid-one, laid-record, Run, run-is, run-stored}
@@ -125,9 +125,9 @@ module _ (s : Bytes) (n : ℕ) (a : PartAt) (d : Part-at s n a) where
       run-is (d .word) [] xs (q ∷ ys) s (record { index = 0; place = 4 + 4 * n }) a (d .bytes) refl (omega (arith, d .nth .before))
       (omega (arith, d .total)) (d .place)
 
-  pub run-behind-it : Run s (behind s a) (record { index = n; place = length s }) ys
+  pub run-behind-it : Run s (next-part s a) (record { index = n; place = length s }) ys
   run-behind-it =
-      run-is (d .word) (xs ++ (q ∷ [])) ys [] s (behind s a) (record { index = n; place = length s })
+      run-is (d .word) (xs ++ (q ∷ [])) ys [] s (next-part s a) (record { index = n; place = length s })
       (rw (append-assoc xs (q ∷ []) (ys ++ []), append-nil ys) (d .bytes))
       (omega (arith, d .nth .before, length-append xs (q ∷ [])))
       (omega (arith, d .count))
@@ -140,7 +140,7 @@ module _ (s : Bytes) (n : ℕ) (a : PartAt) (d : Part-at s n a) (o o₁ o₂ o�
   pub without-stored : o₁ ≡ patch o at (be32 w) → start .jentry ≡ at + 4 → start .place ≡ at + 4 * n
       → (middle ≡ run-behind (record { index = 0; place = 4 + 4 * n }) a start)
       × (o₂ ≡ patch (patch o₁ (start .jentry) (run-entries s (record { index = 0; place = 4 + 4 * n }) a)) (start .place) (run-payloads s (record { index = 0; place = 4 + 4 * n }) a))
-      → next ≡ behind s a
+      → next ≡ next-part s a
       → (end ≡ run-behind next (record { index = n; place = length s }) middle)
       × (o₃ ≡ patch (patch o₂ (middle .jentry) (run-entries s next (record { index = n; place = length s }))) (middle .place) (run-payloads s next (record { index = n; place = length s })))
       → Left (end .place - at) o o₃ at (record-of w (without (a .index) (parts-of s n)))
@@ -166,7 +166,7 @@ module _ (s : Bytes) (n : ℕ) (a : PartAt) (d : Part-at s n a) (o o₁ o₂ o�
       → (here ≡ run-behind (record { index = 0; place = 4 + 4 * n }) a start)
       × (o₂ ≡ patch (patch o₁ (start .jentry) (run-entries s (record { index = 0; place = 4 + 4 * n }) a)) (start .place) (run-payloads s (record { index = 0; place = 4 + 4 * n }) a))
       → Left len o₂ o₃ (here .place) (z .bytes) → e ≡ entry-word z → o₄ ≡ patch o₃ (here .jentry) (be32 e)
-      → rest .jentry ≡ here .jentry + 4 → rest .place ≡ here .place + len → next ≡ behind s a
+      → rest .jentry ≡ here .jentry + 4 → rest .place ≡ here .place + len → next ≡ next-part s a
       → (end ≡ run-behind next (record { index = n; place = length s }) rest)
       × (o₅ ≡ patch (patch o₄ (rest .jentry) (run-entries s next (record { index = n; place = length s }))) (rest .place) (run-payloads s next (record { index = n; place = length s })))
       → Left (end .place - at) o o₅ at (record-of w (d .nth .left ++ (z ∷ d .nth .right)))
@@ -255,19 +255,19 @@ module _ (s : Bytes) (n w : ℕ) (l : List Part) (x : Part) (m : List Part) (y :
   run₁ : Run s first key l
   run₁ = run-is w [] l (x ∷ (m ++ (y ∷ r))) s first key e refl (omega (arith, ki)) (omega (arith, c)) key-place
 
-  run₂ : Run s (behind s key) val m
+  run₂ : Run s (next-part s key) val m
   run₂ =
       let q : (l ++ (x ∷ [])) ++ (m ++ (y ∷ r)) ≡ l ++ (x ∷ (m ++ (y ∷ r))) = simp append-assoc in
-      run-is w (l ++ (x ∷ [])) m (y ∷ r) s (behind s key) val (rw q e)
+      run-is w (l ++ (x ∷ [])) m (y ∷ r) s (next-part s key) val (rw q e)
       (omega (arith, ki, length-append l (x ∷ [])))
       (omega (arith, ki, vi))
       (rw q (omega (arith, key-place, key-size, c, ap length (payloads-append l (x ∷ [])), length-append (payloads l) (payloads (x ∷ [])), length-append (x .bytes) [])))
       (omega (arith, val-place, key-place, key-size))
 
-  run₃ : Run s (behind s val) last r
+  run₃ : Run s (next-part s val) last r
   run₃ =
       let q : ((l ++ (x ∷ m)) ++ (y ∷ [])) ++ (r ++ []) ≡ l ++ (x ∷ (m ++ (y ∷ r))) = simp (append-assoc, append-nil) in
-      run-is w ((l ++ (x ∷ m)) ++ (y ∷ [])) r [] s (behind s val) last (rw q e)
+      run-is w ((l ++ (x ∷ m)) ++ (y ∷ [])) r [] s (next-part s val) last (rw q e)
       (omega (arith, val-index, length-append (l ++ (x ∷ m)) (y ∷ [])))
       (omega (arith, vi, count-all))
       (rw q (omega (arith, val-place, val-size, c, size-left, ap length (payloads-append (l ++ (x ∷ m)) (y ∷ [])), length-append (payloads (l ++ (x ∷ m))) (payloads (y ∷ [])), length-append (y .bytes) [])))
@@ -277,10 +277,10 @@ module _ (s : Bytes) (n w : ℕ) (l : List Part) (x : Part) (m : List Part) (y :
     pub two-stored : o₁ ≡ patch o at (be32 v) → start .jentry ≡ at + 4 → start .place + 4 ≡ at + 4 * n
         → (keys ≡ run-behind first key start)
         × (o₂ ≡ patch (patch o₁ (start .jentry) (run-entries s first key)) (start .place) (run-payloads s first key))
-        → next ≡ behind s key
+        → next ≡ next-part s key
         → (vals ≡ run-behind next val keys)
         × (o₃ ≡ patch (patch o₂ (keys .jentry) (run-entries s next val)) (keys .place) (run-payloads s next val))
-        → after ≡ behind s val
+        → after ≡ next-part s val
         → (end ≡ run-behind after last vals)
         × (o₄ ≡ patch (patch o₃ (vals .jentry) (run-entries s after last)) (vals .place) (run-payloads s after last))
         → Left (end .place - at) o o₄ at (record-of v ((l ++ m) ++ r))

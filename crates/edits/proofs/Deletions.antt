@@ -33,7 +33,7 @@ use Rattle.layout.proofs.Fields.{code-entry}
 use Rattle.layout.proofs.Nestings.{head-of, readable-gives, refused-as}
 use Rattle.layout.proofs.Patches.{in-as}
 use Rattle.builders.proofs.Knowns.{Known, known}
-use Rattle.builders.specs.declared.search.ItemAt.{ItemAt}
+use Rattle.layout.specs.declared.parts.ItemAt.{ItemAt}
 use Rattle.edits.specs.Path.{Step, path-of}
 use Rattle.edits.specs.Find.{_then_, step-into, look-up}
 use Rattle.edits.specs.Delete.{anew, left, delete, deletable}

@@ -18,16 +18,17 @@ use Rattle.layout.specs.declared.util.Header.{Header}
 use Rattle.layout.specs.declared.util.Header.the-variants.{Array, Object, Scalar, Refused as NoHeader}
 use Rattle.layout.proofs.Places.{lengths-split}
 use Rattle.layout.proofs.Walks.{lengths-le}
-use Rattle.builders.specs.Search.{texts}
+use Rattle.layout.specs.Parts.{texts}
 use Rattle.edits.specs.Path.{Step, index-text}
 use Rattle.edits.specs.Find.{place, step-place, step-name}
 use Rattle.edits.specs.Steps.{step, key-place}
-use Rattle.edits.specs.Spot.{place-told, first, nth-part, spot-at, spot-member, spot}
+use Rattle.layout.specs.Parts.{nth-part}
+use Rattle.edits.specs.Spot.{place-told, first, spot-at, spot-member, spot}
 use Rattle.edits.specs.declared.keypath.KeyPath.{KeyPath}
 use Rattle.edits.specs.declared.keypath.KeyPath.the-variants.{Index, Name, Other}
 use Rattle.edits.specs.declared.find.Place.{Place}
 use Rattle.edits.specs.declared.find.Place.the-variants.{Nothing as NoPlace, At as AtPlace}
-use Rattle.edits.specs.declared.find.PartAt.{PartAt}
+use Rattle.layout.specs.declared.parts.PartAt.{PartAt}
 use Rattle.edits.specs.declared.find.Spot.{Spot}
 use Rattle.edits.specs.declared.find.Spot.the-variants.{Nothing, At}
 

@@ -26,14 +26,14 @@ use Rattle.layout.proofs.Words.{length-be32}
 use Rattle.layout.proofs.Level.{code-small}
 use Rattle.layout.proofs.Readables.{nested-reads}
 use Rattle.layout.proofs.Patches.{in-short, in-full}
-use Rattle.builders.specs.Search.{bytes-at}
-use Rattle.builders.specs.declared.search.ItemAt.{ItemAt}
+use Rattle.layout.specs.Parts.{bytes-at}
+use Rattle.layout.specs.declared.parts.ItemAt.{ItemAt}
 use Rattle.builders.proofs.Weaves.{patch-then}
 use Rattle.edits.specs.Path.{Step}
 use Rattle.edits.specs.Find.{step-into}
 use Rattle.edits.specs.Spot.{spot}
 use Rattle.edits.specs.Held.{Held, Stands, Agree, Leads, written}
-use Rattle.edits.specs.declared.find.PartAt.{PartAt}
+use Rattle.layout.specs.declared.parts.PartAt.{PartAt}
 use Rattle.edits.specs.declared.find.Spot.{Spot}
 use Rattle.edits.specs.declared.find.Spot.the-variants.{Nothing as NoSpot, At as AtSpot}
 use Rattle.edits.specs.declared.path.Item.{Item}

@@ -28,9 +28,10 @@ use Rattle.builders.proofs.Knowns.{an-array}
 use Rattle.edits.specs.Path.{Step}
 use Rattle.edits.specs.Find.{step-place, step-name, item-at, step-into}
 use Rattle.edits.specs.Delete.{change-member, anew}
-use Rattle.edits.specs.Spot.{spot, nth-part}
+use Rattle.layout.specs.Parts.{nth-part}
+use Rattle.edits.specs.Spot.{spot}
 use Rattle.edits.specs.Cut.{Left, InRuns, left-of, count-parts, Table, PartOf, parts-of, without, without-member, manner-of}
-use Rattle.edits.specs.declared.find.PartAt.{PartAt}
+use Rattle.layout.specs.declared.parts.PartAt.{PartAt}
 use Rattle.edits.specs.declared.find.Spot.the-variants.{At}
 use Rattle.edits.specs.declared.delete.Manner.the-variants.{Items as ByItems, Rising as ByRising, Unsorted, Neither}
 use Rattle.edits.proofs.Deletes.{change-rising}

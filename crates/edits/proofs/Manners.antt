@@ -13,7 +13,7 @@ use Rattle.layout.specs.declared.refusal.Refusal.{Refusal}
 use Rattle.layout.specs.declared.util.Header.{Header}
 use Rattle.layout.specs.declared.util.Header.the-variants.{Array, Object, Scalar, Refused}
 use Rattle.edits.specs.Cut.{manner-of, name-of}
-use Rattle.edits.specs.Members.{members-of}
+use Rattle.layout.specs.Parts.{members-of}
 use Rattle.edits.specs.declared.delete.Manner.the-variants.{Items, Rising, Unsorted, Neither}
 
 module _ (s : Bytes) (h : Header) (hh : h ≡ header s) where
@@ -42,8 +42,3 @@ two-stored o o₁ o₂ x x′ y y′ e p hx hy e₁ e₂ = rw (e₂, e₁, hx, h
 pub name-is : (s r : Bytes) (n k p e l : ℕ) → p ≡ 4 + 4 * (n + n) + lengths s 0 (k - 0) → e ≡ entry-at s k → l ≡ length-of e
     → r ≡ take l (drop p s) → r ≡ name-of s n k
 name-is s r n k p e l hp he hl hr = let z : k - 0 ≡ k = omega arith in rw (hr, hl, he, hp, z)
-
--- The places of the members of an object.
-pub members-places : (s : Bytes) (n p : ℕ) → p ≡ 4 + 4 * (n + n) + lengths s 0 (n - 0)
-    → record { «key_jentry» = 4; «val_jentry» = 4 + 4 * n; key = 4 + 4 * (n + n); val = p } ≡ members-of s n
-members-places s n p e = let z : n - 0 ≡ n = omega arith in rw (e, z)

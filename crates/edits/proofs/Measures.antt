@@ -7,9 +7,10 @@ use mathlib.Core.List.{List, _∷_}
 use lib.Dec.{eqb}
 use lib.ListN.{length, drop, drop-of-length-le}
 use Rattle.layout.specs.Bytes.{Bytes}
-use Rattle.builders.specs.Search.{name-in, value-in, bytes-at, bound, least, sorted}
+use Rattle.layout.specs.Parts.{name-in, value-in, bytes-at}
+use Rattle.builders.specs.Search.{bound, least, sorted}
 use Rattle.builders.specs.Weave.{column}
-use Rattle.builders.specs.declared.search.MemberAt.{MemberAt}
+use Rattle.layout.specs.declared.parts.MemberAt.{MemberAt}
 use Rattle.builders.specs.declared.search.Found.{Found}
 use Rattle.builders.specs.declared.search.Found.the-variants.{Nothing, At}
 use Rattle.builders.proofs.Searches.{bytes-short}

@@ -8,15 +8,17 @@ use lib.Dec.{eqb}
 use lib.ListN.{length, length-append}
 use borrow.Author.Tests.{ne-eqb}
 use Rattle.layout.specs.Bytes.{Bytes, Octets}
-use Rattle.builders.specs.Search.{bytes-at, name-in, value-in, members-at, start, after, bound, least}
+use Rattle.layout.specs.Parts.{bytes-at, name-in, value-in, members-at}
+use Rattle.builders.specs.Search.{start, after, bound, least}
 use Rattle.builders.specs.Weave.{behind, own-entry, stored, woven}
 use Rattle.builders.specs.declared.search.Kept.the-variants.{All}
-use Rattle.builders.specs.declared.search.MemberAt.{MemberAt}
-use Rattle.builders.specs.declared.search.Places.{Places}
+use Rattle.layout.specs.declared.parts.MemberAt.{MemberAt}
+use Rattle.layout.specs.declared.parts.Places.{Places}
 use Rattle.builders.specs.declared.search.Found.the-variants.{Nothing, At}
 use Rattle.builders.proofs.Searches.{length-members, bytes-short}
 use Rattle.builders.proofs.Storing.{Stored, begins, goes, ends-early, ends-full, ends-val, ends-key, ends-count, sought-end, sought-all}
-use Rattle.edits.specs.Members.{members-of, all-ahead, Next}
+use Rattle.layout.specs.Parts.{members-of}
+use Rattle.edits.specs.Members.{all-ahead, Next}
 use Rattle.edits.specs.Merge.{chosen, Objects, moved-member, moved-all, in-a-row, merged, behind-all}
 use Rattle.edits.specs.declared.members.Ahead.{Ahead}
 use Rattle.edits.specs.declared.members.Taken.{Taken}

@@ -13,10 +13,10 @@ use Rattle.layout.specs.Tree.{Tree, Members, empty, member}
 use Rattle.layout.specs.Encode.{Part, entry-word, name-part, part}
 use Rattle.layout.proofs.Fields.{length-entry}
 use Rattle.builders.specs.Order.{follow}
-use Rattle.builders.specs.Search.{bytes-at, name-in, value-in}
+use Rattle.layout.specs.Parts.{bytes-at, name-in, value-in}
 use Rattle.builders.specs.Weave.{own-entry}
-use Rattle.builders.specs.declared.search.ItemAt.{ItemAt}
-use Rattle.builders.specs.declared.search.MemberAt.{MemberAt}
+use Rattle.layout.specs.declared.parts.ItemAt.{ItemAt}
+use Rattle.layout.specs.declared.parts.MemberAt.{MemberAt}
 use Rattle.builders.proofs.Searches.{bytes-short}
 use Rattle.builders.proofs.Stands.{Stands, Stand}
 use Rattle.edits.specs.Merge.{moved, moved-member, moved-all}

@@ -27,7 +27,7 @@ use Rattle.edits.specs.Steps.{code-key, step}
 use Rattle.edits.specs.Spot.{spot}
 use Rattle.edits.specs.Held.{finding}
 use Rattle.edits.specs.Cut.{left-of, step-at, steps-from, way-behind, Cuts, Onward}
-use Rattle.edits.specs.declared.find.PartAt.{PartAt}
+use Rattle.layout.specs.declared.parts.PartAt.{PartAt}
 use Rattle.edits.specs.declared.find.Spot.{Spot}
 use Rattle.edits.specs.declared.find.Spot.the-variants.{Nothing, At}
 use Rattle.edits.specs.declared.delete.Way.{Way}

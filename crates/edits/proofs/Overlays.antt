@@ -22,19 +22,20 @@ use Rattle.layout.specs.declared.ending.Ending.the-variants.{Done, Refused}
 use Rattle.layout.proofs.Patches.{length-patch, patch-empty}
 use Rattle.layout.proofs.Readables.{reads, size-payload}
 use Rattle.builders.specs.Order.{distinct, in-order, follow}
-use Rattle.builders.specs.Search.{texts, name-in, value-in, members-at}
+use Rattle.layout.specs.Parts.{texts, name-in, value-in, members-at}
 use Rattle.builders.specs.Weave.{own-entry, woven, column}
 use Rattle.builders.specs.Build.{on-two}
 use Rattle.builders.specs.Room.{room-for, sized}
 use Rattle.builders.specs.declared.room.Room.{Room}
 use Rattle.builders.specs.declared.room.Room.the-variants.{Serves, Refused as NoRoom}
-use Rattle.builders.specs.declared.search.MemberAt.{MemberAt}
-use Rattle.builders.specs.declared.search.Places.{Places}
+use Rattle.layout.specs.declared.parts.MemberAt.{MemberAt}
+use Rattle.layout.specs.declared.parts.Places.{Places}
 use Rattle.builders.proofs.Stands.{Stand, stand-sorted}
 use Rattle.builders.proofs.Rooms.{sized-refused, sized-done}
 use Rattle.builders.proofs.Twos.{two-edit, two-sized}
 use Rattle.edits.specs.Concat.{concat}
-use Rattle.edits.specs.Members.{members-of, places-for}
+use Rattle.layout.specs.Parts.{members-of}
+use Rattle.edits.specs.Members.{places-for}
 use Rattle.edits.specs.Merge.{Objects, in-a-row, merged, behind-all}
 use Rattle.edits.proofs.Concats.{concat-given, concat-refused, concat-depth, concat-size}
 use Rattle.edits.proofs.Spots.{texts-names}

@@ -13,42 +13,13 @@ use Rattle.layout.specs.Place.{parts-at}
 use Rattle.layout.proofs.Checks.{parts-step, lengths-step}
 use Rattle.layout.proofs.Places.{lengths-split, length-parts}
 use Rattle.layout.specs.Order.{same-bytes}
-use Rattle.builders.specs.Search.{texts}
+use Rattle.layout.specs.Parts.{texts}
 use Rattle.builders.proofs.Builds.{length-texts}
 use Rattle.edits.specs.Find.{place}
-use Rattle.edits.specs.Spot.{first, one-more, behind, spot-at}
-use Rattle.edits.specs.declared.find.PartAt.{PartAt}
+use Rattle.layout.specs.Parts.{next-part}
+use Rattle.edits.specs.Spot.{first, one-more, spot-at}
+use Rattle.layout.specs.declared.parts.PartAt.{PartAt}
 use Rattle.edits.specs.declared.find.Spot.the-variants.{Nothing, At}
-
-pub part-behind-is : (s : Bytes) (p : PartAt) (e l : ℕ) → e ≡ entry-at s (p .index) → l ≡ length-of e
-    → record { index = p .index + 1; place = p .place + l } ≡ behind s p
-part-behind-is s p e l he hl = rw (hl, he)
-
--- Places one after another: `total` is where the last one stands.
-pub place-more : (s : Bytes) (i n p total e l : ℕ) → i < n → total ≡ p + lengths s i (n - i) → e ≡ entry-at s i → l ≡ length-of e
-    → total ≡ p + l + lengths s (i + 1) (n - (i + 1))
-place-more s i n p total e l lt inv he hl =
-    let le : l ≡ length-of (entry-at s i) = cc in
-    omega (arith, lengths-step s i n lt)
-
-pub place-end : (s : Bytes) (i n p total : ℕ) → n ≤ i → total ≡ p + lengths s i (n - i) → p ≡ total
-unfolding lengths
-place-end s i n p total h inv = let k : n - i ≡ 0 = omega arith in rw inv (rw k (omega arith))
-
-pub place-start : (s : Bytes) (p : ℕ) → p ≡ p + lengths s 0 0
-unfolding lengths
-place-start s p = sym (add-zero p)
-
--- One length more.
-lengths-snoc : (s : Bytes) (i : ℕ) → lengths s 0 (i + 1) ≡ lengths s 0 i + length-of (entry-at s i)
-unfolding lengths
-lengths-snoc s i = lengths-split s 0 i 1 ∙ rw (zero-add i, add-zero (length-of (entry-at s i)))
-
-pub place-next : (s : Bytes) (start i p e l : ℕ) → e ≡ entry-at s i → l ≡ length-of e → p ≡ start + lengths s 0 i
-    → p + l ≡ start + lengths s 0 (i + 1)
-place-next s start i p e l he hl at =
-    let le : l ≡ length-of (entry-at s i) = cc in
-    omega (arith, lengths-snoc s i)
 
 -- The first name that has equal bytes, counted from the `i`th on.
 abbrev pub moved : ℕ → Option ℕ → Option ℕ

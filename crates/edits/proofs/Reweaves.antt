@@ -11,10 +11,10 @@ use Rattle.layout.specs.Patch.{patch}
 use Rattle.layout.proofs.Words.{length-be32, octets-take, octets-drop}
 use Rattle.layout.proofs.Patches.{length-patch, patch-comm}
 use Rattle.layout.specs.Order.{same-bytes}
-use Rattle.builders.specs.Search.{bytes-at, name-in, value-in}
+use Rattle.layout.specs.Parts.{bytes-at, name-in, value-in}
 use Rattle.builders.specs.Weave.{behind, own-entry, stored}
-use Rattle.builders.specs.declared.search.MemberAt.{MemberAt}
-use Rattle.builders.specs.declared.search.Places.{Places}
+use Rattle.layout.specs.declared.parts.MemberAt.{MemberAt}
+use Rattle.layout.specs.declared.parts.Places.{Places}
 use Rattle.edits.specs.Path.{Step}
 use Rattle.edits.specs.Cut.{Left, Cuts, left-of, steps-from, anew-value, anew-entry}
 use Rattle.edits.specs.declared.delete.Way.{Way}

@@ -14,8 +14,8 @@ use Rattle.layout.proofs.Decoding.{payloads-append}
 use Rattle.layout.proofs.Patches.{patch-append, patch-comm}
 use Rattle.builders.proofs.Weaves.{patch-then, entries-append}
 use Rattle.edits.specs.Cut.{run-entries, run-payloads, run-behind}
-use Rattle.edits.specs.declared.find.PartAt.{PartAt}
-use Rattle.edits.specs.declared.find.Cursor.{Cursor}
+use Rattle.layout.specs.declared.parts.PartAt.{PartAt}
+use Rattle.layout.specs.declared.parts.Cursor.{Cursor}
 use Rattle.edits.proofs.Rows.{table-behind, payloads-behind}
 
 -- A buffer with the entries of some parts stored at one place and their payloads at another.

@@ -28,11 +28,12 @@ use Rattle.layout.proofs.Answers.{gives-inj}
 use Rattle.layout.proofs.Encoding.{object-fits}
 use Rattle.layout.proofs.Values.{In, rising-tail, rising-all, ≺-irrefl}
 use Rattle.builders.specs.Order.{by, find, in-order}
-use Rattle.builders.specs.Search.{name-in, value-in, members-at, kept-of, sorted, nth}
+use Rattle.layout.specs.Parts.{name-in, value-in, members-at}
+use Rattle.builders.specs.Search.{kept-of, sorted, nth}
 use Rattle.builders.specs.Weave.{own-entry, woven, column}
 use Rattle.builders.specs.declared.search.Kept.the-variants.{All}
-use Rattle.builders.specs.declared.search.MemberAt.{MemberAt}
-use Rattle.builders.specs.declared.search.Places.{Places}
+use Rattle.layout.specs.declared.parts.MemberAt.{MemberAt}
+use Rattle.layout.specs.declared.parts.Places.{Places}
 use Rattle.builders.specs.declared.search.Found.the-variants.{At as FoundAt}
 use Rattle.builders.proofs.Orderings.{order-equal, order-refl}
 use Rattle.builders.proofs.InOrders.{in-order-rising, find-in-order}
@@ -43,8 +44,9 @@ use Rattle.edits.specs.Path.{Step}
 use Rattle.edits.specs.Find.{step-name, step-into}
 use Rattle.edits.specs.Delete.{change-member, anew}
 use Rattle.edits.specs.Cut.{Left, Cuts, Onward, left-of, step-at, steps-from, way-behind, name-of, anew-value, anew-entry}
-use Rattle.edits.specs.Members.{members-of, places-for, in-turn, sizes-of}
-use Rattle.edits.specs.declared.find.PartAt.{PartAt}
+use Rattle.layout.specs.Parts.{members-of}
+use Rattle.edits.specs.Members.{places-for, in-turn, sizes-of}
+use Rattle.layout.specs.declared.parts.PartAt.{PartAt}
 use Rattle.edits.specs.declared.delete.Way.{Way}
 use Rattle.edits.specs.declared.members.Sizes.{Sizes}
 use Rattle.edits.proofs.Deletes.{some-inj, nothing-some, change-in-order}

@@ -27,20 +27,23 @@ use Rattle.layout.proofs.Encoding.{object-fits, names-count, pair-of}
 use Rattle.layout.proofs.Decoding.{payloads-append}
 use Rattle.layout.proofs.Readables.{record-of-length, size-payload}
 use Rattle.builders.specs.Order.{by, find, in-order}
-use Rattle.builders.specs.Search.{name-in, value-in, members-at, is-kept, kept-of}
+use Rattle.layout.specs.Parts.{name-in, value-in, members-at}
+use Rattle.builders.specs.Search.{is-kept, kept-of}
 use Rattle.builders.specs.Weave.{own-entry, woven, column}
 use Rattle.builders.specs.declared.search.Kept.the-variants.{But}
-use Rattle.builders.specs.declared.search.MemberAt.{MemberAt}
-use Rattle.builders.specs.declared.search.Places.{Places}
+use Rattle.layout.specs.declared.parts.MemberAt.{MemberAt}
+use Rattle.layout.specs.declared.parts.Places.{Places}
 use Rattle.builders.proofs.Stands.{Stand, stand-from, stand-names, stand-values, stand-sorted}
 use Rattle.builders.proofs.Weaves.{entries-append, woven-record}
 use Rattle.edits.specs.Path.{Step}
 use Rattle.edits.specs.Find.{step-name}
 use Rattle.edits.specs.Delete.{change-member, delete}
-use Rattle.edits.specs.Spot.{first, one-more, nth-part, spot}
+use Rattle.layout.specs.Parts.{nth-part}
+use Rattle.edits.specs.Spot.{first, one-more, spot}
 use Rattle.edits.specs.Cut.{Left, left-of}
-use Rattle.edits.specs.Members.{members-of, places-for, in-turn, sizes-of}
-use Rattle.edits.specs.declared.find.PartAt.{PartAt}
+use Rattle.layout.specs.Parts.{members-of}
+use Rattle.edits.specs.Members.{places-for, in-turn, sizes-of}
+use Rattle.layout.specs.declared.parts.PartAt.{PartAt}
 use Rattle.edits.specs.declared.find.Spot.the-variants.{At}
 use Rattle.edits.specs.declared.members.Sizes.{Sizes}
 use Rattle.edits.proofs.Tables.{Contains, contains, an-object}

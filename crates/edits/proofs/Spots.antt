@@ -22,12 +22,13 @@ use Rattle.layout.proofs.Readables.{record-of-length}
 use Rattle.layout.proofs.Nestings.{header-encode}
 use Rattle.builders.specs.Order.{find}
 use Rattle.builders.specs.Build.{count}
-use Rattle.builders.specs.Search.{texts}
+use Rattle.layout.specs.Parts.{texts}
 use Rattle.builders.proofs.Builds.{count-parts}
 use Rattle.edits.specs.Path.{Step}
 use Rattle.edits.specs.Find.{step-place, step-name, item-at, step-into}
-use Rattle.edits.specs.Spot.{first, nth-part, spot-at, spot-member, spot}
-use Rattle.edits.specs.declared.find.PartAt.{PartAt}
+use Rattle.layout.specs.Parts.{nth-part}
+use Rattle.edits.specs.Spot.{first, spot-at, spot-member, spot}
+use Rattle.layout.specs.declared.parts.PartAt.{PartAt}
 use Rattle.edits.specs.declared.find.Spot.the-variants.{Nothing, At}
 use Rattle.edits.proofs.Deletes.{nothing-some, found-or-not, step-below, item-there}
 use Rattle.edits.proofs.Finds.{key-part, spot-array, spot-object}

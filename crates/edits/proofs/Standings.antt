@@ -8,10 +8,11 @@ use mathlib.Core.List.{List, [], _∷_}
 use lib.ListN.{length}
 use Rattle.layout.specs.Bytes.{Bytes}
 use Rattle.layout.proofs.Fields.{length-lt}
-use Rattle.builders.specs.Search.{name-in, value-in, member-at, members-from, members-at, is-kept, kept-of, Bound, least}
+use Rattle.layout.specs.Parts.{name-in, value-in, member-at, members-from, members-at}
+use Rattle.builders.specs.Search.{is-kept, kept-of, Bound, least}
 use Rattle.builders.specs.Weave.{column}
 use Rattle.builders.specs.declared.search.Kept.{Kept}
-use Rattle.builders.specs.declared.search.MemberAt.{MemberAt}
+use Rattle.layout.specs.declared.parts.MemberAt.{MemberAt}
 use Rattle.builders.specs.declared.search.Found.{Found}
 use Rattle.builders.specs.declared.search.Found.the-variants.{Nothing, At}
 use Rattle.builders.proofs.Searches.{length-kept, length-members, bytes-short}

@@ -22,15 +22,15 @@ use Rattle.layout.proofs.Decoding.{payloads-append}
 use Rattle.layout.proofs.Encoding.{array-fits}
 use Rattle.layout.proofs.Readables.{record-of-length, size-payload}
 use Rattle.builders.specs.Build.{join}
-use Rattle.builders.specs.Search.{bytes-at}
-use Rattle.builders.specs.declared.search.ItemAt.{ItemAt}
+use Rattle.layout.specs.Parts.{bytes-at}
+use Rattle.layout.specs.declared.parts.ItemAt.{ItemAt}
 use Rattle.builders.proofs.Joins.{join-parts}
 use Rattle.builders.proofs.Knowns.{an-array}
-use Rattle.edits.specs.Spot.{behind}
+use Rattle.layout.specs.Parts.{next-part}
 use Rattle.edits.specs.Strip.{stripped, stripped-items, unrepeated, unrepeated-items}
 use Rattle.edits.specs.Stripping.{stripped-of, unrepeated-of, Strippable, strip-item, strip-entry, unrepeated-item, Strips}
-use Rattle.edits.specs.declared.find.PartAt.{PartAt}
-use Rattle.edits.specs.declared.find.Cursor.{Cursor}
+use Rattle.layout.specs.declared.parts.PartAt.{PartAt}
+use Rattle.layout.specs.declared.parts.Cursor.{Cursor}
 use Rattle.edits.specs.declared.strip.Stripped.{Stripped}
 use Rattle.edits.specs.declared.strip.Stripped.the-variants.{Len, Repeated}
 use Rattle.edits.proofs.Strips.{strip-shrinks}
@@ -320,7 +320,7 @@ module _ (s : Bytes) (n a at : ℕ) (w : Array-at s n a) (o : Bytes) where
             storing-len =
                 omega (arith, told .1, ap length (sa .0), strip-shrinks t .payload, size-payload t, size-payload (stripped t), item-at .short)
 
-            pub storing-on : (p′ : PartAt) → p′ ≡ behind s p
+            pub storing-on : (p′ : PartAt) → p′ ≡ next-part s p
                 → Storing s n a at w o out₁ (record { jentry = here .jentry + 4; place = here .place + len }) p′
             storing-on p′ ep =
                 let ln : len ≡ length (payload (stripped t)) = told .1 ∙ ap length (sa .0) in

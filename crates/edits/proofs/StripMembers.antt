@@ -27,11 +27,12 @@ use Rattle.layout.proofs.Readables.{size-payload}
 use Rattle.layout.proofs.Answers.{gives-inj}
 use Rattle.layout.proofs.Values.{rising-tail, rising-all, ≺-irrefl}
 use Rattle.builders.specs.Order.{by, insert, insert-all, in-order, find, distinct}
-use Rattle.builders.specs.Search.{name-in, value-in, members-at, is-kept, kept-of, Bound, bound, least, sorted, nth}
+use Rattle.layout.specs.Parts.{name-in, value-in, members-at}
+use Rattle.builders.specs.Search.{is-kept, kept-of, Bound, bound, least, sorted, nth}
 use Rattle.builders.specs.Weave.{own-entry, stored, woven, column}
 use Rattle.builders.specs.declared.search.Kept.the-variants.{NonNull}
-use Rattle.builders.specs.declared.search.MemberAt.{MemberAt}
-use Rattle.builders.specs.declared.search.Places.{Places}
+use Rattle.layout.specs.declared.parts.MemberAt.{MemberAt}
+use Rattle.layout.specs.declared.parts.Places.{Places}
 use Rattle.builders.specs.declared.search.Found.{Found}
 use Rattle.builders.specs.declared.search.Found.the-variants.{Nothing, At}
 use Rattle.builders.proofs.Orderings.{order-equal, order-refl}
@@ -42,7 +43,8 @@ use Rattle.builders.proofs.Twos.{and-false}
 use Rattle.builders.proofs.Stands.{Stands, Stand, stand-sorted, stand-names}
 use Rattle.edits.specs.Strip.{is-null, kept, stripped, stripped-members, unrepeated, unrepeated-members}
 use Rattle.edits.specs.Stripping.{stripped-of, unrepeated-of, Strippable, Prepared, strip-item, strip-value, value-entry, unrepeated-item, Strips}
-use Rattle.edits.specs.Members.{members-of, places-for, sizes-of, kept-ahead, all-ahead, Near}
+use Rattle.layout.specs.Parts.{members-of}
+use Rattle.edits.specs.Members.{places-for, sizes-of, kept-ahead, all-ahead, Near}
 use Rattle.edits.specs.declared.members.Ahead.{Ahead}
 use Rattle.edits.specs.declared.members.Sizes.{Sizes}
 use Rattle.edits.specs.declared.strip.Stripped.{Stripped}

@@ -11,11 +11,12 @@ use borrow.Author.Tests.{ne-eqb}
 use Rattle.layout.specs.Bytes.{Bytes, be32}
 use Rattle.layout.specs.Entry.{code-of}
 use Rattle.layout.specs.Patch.{patch}
-use Rattle.builders.specs.Search.{name-in, value-in, member-at, is-kept, bound, least}
+use Rattle.layout.specs.Parts.{name-in, value-in, member-at}
+use Rattle.builders.specs.Search.{is-kept, bound, least}
 use Rattle.builders.specs.Weave.{stored}
 use Rattle.builders.specs.declared.search.Kept.the-variants.{NonNull}
-use Rattle.builders.specs.declared.search.MemberAt.{MemberAt}
-use Rattle.builders.specs.declared.search.Places.{Places}
+use Rattle.layout.specs.declared.parts.MemberAt.{MemberAt}
+use Rattle.layout.specs.declared.parts.Places.{Places}
 use Rattle.builders.specs.declared.search.Found.the-variants.{Nothing, At}
 use Rattle.builders.proofs.Searches.{least-over}
 use Rattle.edits.specs.Stripping.{stripped-of, unrepeated-of, Strippable, strip-item, strip-value, value-entry, unrepeated-item, Strips}

@@ -26,16 +26,16 @@ use Rattle.layout.proofs.Words.{length-be32, octets-take, octets-drop}
 use Rattle.layout.proofs.Patches.{patch-comm}
 use Rattle.layout.proofs.Nestings.{head-of}
 use Rattle.layout.proofs.Readables.{nested-reads, size-payload}
-use Rattle.builders.specs.Search.{bytes-at, name-in}
+use Rattle.layout.specs.Parts.{bytes-at, name-in}
 use Rattle.builders.specs.Weave.{stored}
-use Rattle.builders.specs.declared.search.ItemAt.{ItemAt}
-use Rattle.builders.specs.declared.search.MemberAt.{MemberAt}
-use Rattle.builders.specs.declared.search.Places.{Places}
+use Rattle.layout.specs.declared.parts.ItemAt.{ItemAt}
+use Rattle.layout.specs.declared.parts.MemberAt.{MemberAt}
+use Rattle.layout.specs.declared.parts.Places.{Places}
 use Rattle.edits.specs.Strip.{stripped, unrepeated}
 use Rattle.edits.specs.Stripping.{stripped-in, stripped-of, unrepeated-of, Strippable, strip-item, strip-entry, strip-value, value-entry, unrepeated-item, Strips}
 use Rattle.edits.specs.declared.strip.Stripped.{Stripped}
 use Rattle.edits.specs.declared.strip.Stripped.the-variants.{Len, Repeated}
-use Rattle.edits.specs.declared.find.Cursor.{Cursor}
+use Rattle.layout.specs.declared.parts.Cursor.{Cursor}
 use Rattle.edits.proofs.Strips.{kind-stripped, strip-shrinks}
 use Rattle.edits.proofs.Helds.{entry-code}
 use Rattle.edits.proofs.Tables.{Contains, contains, contains-more}

@@ -10,14 +10,16 @@ use Rattle.layout.specs.Order.{order, is-less, before}
 use Rattle.layout.specs.declared.order.Ordering.{Ordering}
 use Rattle.layout.specs.declared.order.Ordering.the-variants.{Less, Equal, Greater}
 use Rattle.builders.specs.Order.{by}
-use Rattle.builders.specs.Search.{bytes-at, name-in, value-in, members-at, Bound, after, bound, over, least}
+use Rattle.layout.specs.Parts.{bytes-at, name-in, value-in, members-at}
+use Rattle.builders.specs.Search.{Bound, after, bound, over, least}
 use Rattle.builders.specs.declared.search.Kept.the-variants.{All}
-use Rattle.builders.specs.declared.search.MemberAt.{MemberAt}
+use Rattle.layout.specs.declared.parts.MemberAt.{MemberAt}
 use Rattle.builders.specs.declared.search.Found.{Found}
 use Rattle.builders.specs.declared.search.Found.the-variants.{Nothing, At}
 use Rattle.builders.proofs.Orderings.{turned, order-turn, order-equal}
 use Rattle.builders.proofs.Searches.{least-over, kept-all}
-use Rattle.edits.specs.Members.{members-of, Next}
+use Rattle.layout.specs.Parts.{members-of}
+use Rattle.edits.specs.Members.{Next}
 use Rattle.edits.specs.Merge.{chosen, moved-member, moved-all, in-a-row}
 use Rattle.edits.specs.declared.members.Ahead.{Ahead}
 use Rattle.edits.specs.declared.members.Taken.{Taken}

@@ -16,14 +16,16 @@ use Rattle.layout.specs.declared.order.Ordering.the-variants.{Less, Equal, Grea
 use Rattle.layout.proofs.Fields.{length-lt}
 use Rattle.layout.proofs.Patches.{length-patch}
 use Rattle.layout.proofs.Places.{and-both}
-use Rattle.builders.specs.Search.{bytes-at, name-in, value-in, member-at, members-from, members-at, is-kept, Bound, start, bound}
+use Rattle.layout.specs.Parts.{bytes-at, name-in, value-in, member-at, members-from, members-at}
+use Rattle.builders.specs.Search.{is-kept, Bound, start, bound}
 use Rattle.builders.specs.Weave.{behind, own-entry, stored, woven, column}
 use Rattle.builders.specs.declared.search.Kept.the-variants.{All}
-use Rattle.builders.specs.declared.search.MemberAt.{MemberAt}
-use Rattle.builders.specs.declared.search.Places.{Places}
+use Rattle.layout.specs.declared.parts.MemberAt.{MemberAt}
+use Rattle.layout.specs.declared.parts.Places.{Places}
 use Rattle.builders.proofs.Searches.{length-members, bytes-short}
 use Rattle.builders.proofs.Storing.{column-cons, column-none}
-use Rattle.edits.specs.Members.{members-of, behind-member, all-ahead, Near, Standing, Next}
+use Rattle.layout.specs.Parts.{members-of, behind-member}
+use Rattle.edits.specs.Members.{all-ahead, Near, Standing, Next}
 use Rattle.edits.specs.Merge.{chosen, merged, behind-members, behind-all, rises}
 use Rattle.edits.specs.declared.members.Ahead.{Ahead}
 use Rattle.edits.specs.declared.members.Taken.{Taken}

@@ -10,10 +10,10 @@ use Rattle.layout.specs.Entry.{length-of, entry-at, lengths}
 use Rattle.layout.specs.Encode.{record-of}
 use Rattle.layout.specs.Patch.{patch}
 use Rattle.layout.proofs.Level.{AllFit}
-use Rattle.edits.specs.Spot.{nth-part, behind}
+use Rattle.layout.specs.Parts.{nth-part, next-part}
 use Rattle.edits.specs.Cut.{Left, PartOf, parts-of, without, without-member, run-entries, run-payloads, run-behind}
-use Rattle.edits.specs.declared.find.PartAt.{PartAt}
-use Rattle.edits.specs.declared.find.Cursor.{Cursor}
+use Rattle.layout.specs.declared.parts.PartAt.{PartAt}
+use Rattle.layout.specs.declared.parts.Cursor.{Cursor}
 use Rattle.edits.proofs.Tables.{Parted}
 use Rattle.edits.proofs.Cuts.{Part-at, without-stored, Member-at, at-member, two-stored, key-size, key-place, val-place, val-size, two-end}
 
@@ -28,7 +28,7 @@ module _ (s : Bytes) (n : ℕ) (a : PartAt) (d : Part-at s n a) (o o₁ o₂ o�
   pub array-gone : w ≡ bitOr (2 ^ 31) (n - 1) → o₁ ≡ patch o at (be32 w) → start .jentry ≡ at + 4 → start .place ≡ at + 4 * n
       → (middle ≡ run-behind (record { index = 0; place = 4 + 4 * n }) a start)
       × (o₂ ≡ patch (patch o₁ (start .jentry) (run-entries s (record { index = 0; place = 4 + 4 * n }) a)) (start .place) (run-payloads s (record { index = 0; place = 4 + 4 * n }) a))
-      → next ≡ behind s a
+      → next ≡ next-part s a
       → (end ≡ run-behind next (record { index = n; place = length s }) middle)
       × (o₃ ≡ patch (patch o₂ (middle .jentry) (run-entries s next (record { index = n; place = length s }))) (middle .place) (run-payloads s next (record { index = n; place = length s })))
       → Left (end .place - at) o o₃ at (record-of (2 ^ 31 + (n - 1)) (without (a .index) (parts-of s n)))
@@ -98,10 +98,10 @@ module _ (s : Bytes) (n : ℕ) (p : Parted s (n + n)) (val : PartAt) (h : PartOf
         → start .jentry ≡ at + 4 → start .place ≡ at + 4 + 4 * (n - 1 + (n - 1))
         → (keys ≡ run-behind first name start)
         × (o₂ ≡ patch (patch o₁ (start .jentry) (run-entries s first name)) (start .place) (run-payloads s first name))
-        → next ≡ behind s name
+        → next ≡ next-part s name
         → (vals ≡ run-behind next val keys)
         × (o₃ ≡ patch (patch o₂ (keys .jentry) (run-entries s next val)) (keys .place) (run-payloads s next val))
-        → after ≡ behind s val
+        → after ≡ next-part s val
         → (end ≡ run-behind after last vals)
         × (o₄ ≡ patch (patch o₃ (vals .jentry) (run-entries s after last)) (vals .place) (run-payloads s after last))
         → Left (end .place - at) o o₄ at (record-of (2 ^ 30 + (n - 1)) (without-member n (val .index - n) (parts-of s (n + n))))

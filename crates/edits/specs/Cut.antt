@@ -20,16 +20,17 @@ use Rattle.layout.specs.declared.check.Check.the-variants.{Readable}
 use Rattle.layout.specs.declared.util.Header.{Header}
 use Rattle.layout.specs.declared.util.Header.the-variants.{Array, Object, Scalar, Refused}
 use Rattle.layout.specs.Order.{same-bytes}
-use Rattle.builders.specs.Search.{name-in, value-in}
-use Rattle.builders.specs.declared.search.MemberAt.{MemberAt}
+use Rattle.layout.specs.Parts.{name-in, value-in}
+use Rattle.layout.specs.declared.parts.MemberAt.{MemberAt}
 use Rattle.edits.specs.Path.{Step}
 use Rattle.edits.specs.Delete.{left}
 use Rattle.edits.specs.Steps.{part-step, part-steps}
-use Rattle.edits.specs.Spot.{spot, nth-part, behind}
+use Rattle.layout.specs.Parts.{nth-part, next-part}
+use Rattle.edits.specs.Spot.{spot}
 use Rattle.edits.specs.Held.{finding}
-use Rattle.edits.specs.declared.find.PartAt.{PartAt}
+use Rattle.layout.specs.declared.parts.PartAt.{PartAt}
 use Rattle.edits.specs.declared.find.Spot.the-variants.{At}
-use Rattle.edits.specs.declared.find.Cursor.{Cursor}
+use Rattle.layout.specs.declared.parts.Cursor.{Cursor}
 use Rattle.edits.specs.declared.delete.Way.{Way}
 use Rattle.edits.specs.declared.delete.Manner.{Manner}
 use Rattle.edits.specs.declared.delete.Manner.the-variants.{Items, Rising, Unsorted, Neither}
@@ -51,7 +52,7 @@ abbrev pub step-at : Bytes → PartAt → Step
 step-at path p = part-step (part-at path (p .index) (p .place))
 
 abbrev pub way-behind : Bytes → Way → Way
-way-behind path w = record { step = behind path (w .step); count = w .count }
+way-behind path w = record { step = next-part path (w .step); count = w .count }
 
 abbrev pub steps-from : Bytes → Way → List Step
 steps-from path w = part-steps (parts-at path (w .step .index) (w .step .place) (w .count - w .step .index))

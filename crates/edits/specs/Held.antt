@@ -13,8 +13,8 @@ use Rattle.layout.specs.Entry.{code-of}
 use Rattle.layout.specs.Tree.{Tree}
 use Rattle.layout.specs.Encode.{entry-word, payload, part}
 use Rattle.layout.specs.Read.{nested}
-use Rattle.builders.specs.Search.{bytes-at}
-use Rattle.builders.specs.declared.search.ItemAt.{ItemAt}
+use Rattle.layout.specs.Parts.{bytes-at}
+use Rattle.layout.specs.declared.parts.ItemAt.{ItemAt}
 use Rattle.edits.specs.Path.{Step}
 use Rattle.edits.specs.Find.{step-into, look-up}
 use Rattle.edits.specs.declared.path.Item.{Item}

@@ -6,13 +6,13 @@ use mathlib.Core.Bool.{true, false}
 use mathlib.Core.List.{List, [], _∷_}
 use lib.ListN.{length}
 use Rattle.layout.specs.Bytes.{Bytes}
-use Rattle.layout.specs.Entry.{length-of, lengths}
 use Rattle.layout.specs.Place.{parts-at, rising-parts}
-use Rattle.builders.specs.Search.{name-in, value-in, members-at, kept-of, Bound, least, sorted}
+use Rattle.layout.specs.Parts.{name-in, value-in, members-at, members-of, behind-member}
+use Rattle.builders.specs.Search.{kept-of, Bound, least, sorted}
 use Rattle.builders.specs.Weave.{column}
 use Rattle.builders.specs.declared.search.Kept.{Kept}
-use Rattle.builders.specs.declared.search.MemberAt.{MemberAt}
-use Rattle.builders.specs.declared.search.Places.{Places}
+use Rattle.layout.specs.declared.parts.MemberAt.{MemberAt}
+use Rattle.layout.specs.declared.parts.Places.{Places}
 use Rattle.builders.specs.declared.search.Found.the-variants.{Nothing, At}
 use Rattle.edits.specs.declared.members.Sizes.{Sizes}
 use Rattle.edits.specs.declared.members.Ahead.{Ahead}
@@ -27,16 +27,7 @@ abbrev pub sizes-of : Bytes → List MemberAt → Sizes
 sizes-of s xs =
     record { count = length xs; keys = length (column (name-in s) xs); vals = length (column (value-in s) xs) }
 
--- The places of the members of an object, in its record and in one that is written anew.
-abbrev pub members-of : Bytes → ℕ → Places
-members-of s n =
-    record {
-      «key_jentry» = 4;
-      «val_jentry» = 4 + 4 * n;
-      key = 4 + 4 * (n + n);
-      val = 4 + 4 * (n + n) + lengths s 0 n;
-    }
-
+-- The places of the members of an object that is written anew.
 abbrev pub places-for : Sizes → ℕ → Places
 places-for z at =
     record {
@@ -44,16 +35,6 @@ places-for z at =
       «val_jentry» = at + 4 + 4 * z .count;
       key = at + 4 + 4 * z .count + 4 * z .count;
       val = at + 4 + 4 * z .count + 4 * z .count + z .keys;
-    }
-
--- The places of the member behind one.
-abbrev pub behind-member : Places → MemberAt → Places
-behind-member at m =
-    record {
-      «key_jentry» = at .«key_jentry» + 4;
-      «val_jentry» = at .«val_jentry» + 4;
-      key = at .key + length-of (m .key .jentry);
-      val = at .val + length-of (m .val .jentry);
     }
 
 -- All members of an object of `n`, and those of some that are kept.

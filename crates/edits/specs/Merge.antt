@@ -12,12 +12,13 @@ use Rattle.layout.specs.Order.{order}
 use Rattle.layout.specs.declared.check.Check.the-variants.{Readable}
 use Rattle.layout.specs.declared.util.Header.the-variants.{Object}
 use Rattle.builders.specs.Order.{by}
-use Rattle.builders.specs.Search.{name-in, value-in, members-at, sorted}
+use Rattle.layout.specs.Parts.{name-in, value-in, members-at}
+use Rattle.builders.specs.Search.{sorted}
 use Rattle.builders.specs.Weave.{column}
-use Rattle.builders.specs.declared.search.ItemAt.{ItemAt}
-use Rattle.builders.specs.declared.search.MemberAt.{MemberAt}
-use Rattle.builders.specs.declared.search.Places.{Places}
-use Rattle.edits.specs.Members.{members-of}
+use Rattle.layout.specs.declared.parts.ItemAt.{ItemAt}
+use Rattle.layout.specs.declared.parts.MemberAt.{MemberAt}
+use Rattle.layout.specs.declared.parts.Places.{Places}
+use Rattle.layout.specs.Parts.{members-of}
 use Rattle.edits.specs.declared.members.Taken.{Taken}
 use Rattle.edits.specs.declared.members.Taken.the-variants.{End as NoMember, Member}
 use Rattle.edits.specs.declared.merge.Turn.{Turn}

@@ -6,15 +6,14 @@ use mathlib.Core.Option.{Option, none as nothing, some}
 use lib.Dec.{ltb}
 use lib.IntN.{ℤ, pos, negsuc}
 use Rattle.layout.specs.Bytes.{Bytes}
-use Rattle.layout.specs.Entry.{length-of, entry-at, lengths}
 use Rattle.layout.specs.Place.{parts-at}
 use Rattle.layout.specs.declared.util.Header.{Header}
 use Rattle.layout.specs.declared.util.Header.the-variants.{Array, Object, Scalar, Refused}
 use Rattle.layout.specs.Order.{same-bytes}
-use Rattle.builders.specs.Search.{texts}
+use Rattle.layout.specs.Parts.{texts, nth-part}
 use Rattle.edits.specs.Path.{Step}
 use Rattle.edits.specs.Find.{step-place, step-name}
-use Rattle.edits.specs.declared.find.PartAt.{PartAt}
+use Rattle.layout.specs.declared.parts.PartAt.{PartAt}
 use Rattle.edits.specs.declared.find.Place.{Place}
 use Rattle.edits.specs.declared.find.Place.the-variants.{Nothing as NoPlace, At as AtPlace}
 use Rattle.edits.specs.declared.find.Spot.{Spot}
@@ -37,14 +36,6 @@ one-more (some k) = some (suc k)
 unfoldable pub first : Bytes → List Bytes → Option ℕ
 first n [] = nothing
 first n (m ∷ ns) = cond (same-bytes n m) (some 0) (one-more (first n ns))
-
--- The part behind this one.
-abbrev pub behind : Bytes → PartAt → PartAt
-behind s p = record { index = p .index + 1; place = p .place + length-of (entry-at s (p .index)) }
-
--- Part `k` of a container of `n`.
-abbrev pub nth-part : Bytes → ℕ → ℕ → PartAt
-nth-part s n k = record { index = k; place = 4 + 4 * n + lengths s 0 k }
 
 unfoldable pub spot-at : Bytes → ℕ → Option ℕ → Spot
 spot-at s n nothing = Nothing

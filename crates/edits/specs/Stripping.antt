@@ -17,9 +17,9 @@ use Rattle.layout.specs.Ended.{Outcome, refusal, into}
 use Rattle.layout.specs.declared.check.Check.the-variants.{Readable}
 use Rattle.layout.specs.declared.util.Header.the-variants.{Object}
 use Rattle.layout.specs.declared.refusal.Refusal.the-variants.{Repeated as RepeatedName}
-use Rattle.builders.specs.Search.{bytes-at}
-use Rattle.builders.specs.declared.search.ItemAt.{ItemAt}
-use Rattle.builders.specs.declared.search.MemberAt.{MemberAt}
+use Rattle.layout.specs.Parts.{bytes-at}
+use Rattle.layout.specs.declared.parts.ItemAt.{ItemAt}
+use Rattle.layout.specs.declared.parts.MemberAt.{MemberAt}
 use Rattle.builders.specs.declared.search.Kept.the-variants.{NonNull}
 use Rattle.edits.specs.Strip.{stripped, unrepeated}
 use Rattle.edits.specs.Members.{sizes-of, all-ahead, kept-ahead}

@@ -7,6 +7,8 @@ use layout::constants::JENTRY_SIZE;
 use layout::jentry::payload_len;
 use layout::jentry::read_jentry;
 use layout::order::is_same_bytes;
+use layout::parts::PartAt;
+use layout::parts::place_after;
 use layout::util::Header;
 use layout::util::read_header;
 use layout::util::slice;
@@ -15,27 +17,14 @@ ghost use Prim.Native.Nat.{_+_, _-_, _*_, _^_, _≤_, _<_};
 ghost use Rattle.layout.specs.Entry.{«code-of» as codeOf, lengths};
 ghost use Rattle.layout.specs.Place.{«parts-at» as partsAt};
 ghost use Rattle.layout.specs.Read.{header};
-ghost use Rattle.builders.specs.Search.{texts};
+ghost use Rattle.layout.specs.Parts.{texts};
 ghost use Rattle.edits.specs.Steps.{«code-key» as codeKey, «key-place» as keyPlace, step};
-ghost use Rattle.edits.specs.Spot.{«place-told» as placeTold, inside, first, behind, «spot-at» as spotAt};
+ghost use Rattle.edits.specs.Spot.{«place-told» as placeTold, inside, first, «spot-at» as spotAt};
 ghost use Rattle.edits.specs.Spot.{«spot-member» as spotMember, spot};
 ghost use Rattle.edits.specs.Find.{place, «step-name» as stepName};
 
 // Room for the decimal text of an index: a sign and ten digits.
 const INDEX_ROOM: usize = 11;
-
-// A part of a container: the number of its entry, and the place of its payload. An object of n members has 2n parts, the names
-// and then the values.
-pub struct PartAt {
-    pub index: usize,
-    pub place: usize,
-}
-
-// The places of the entry and of the payload that are stored next.
-pub struct Cursor {
-    pub jentry: usize,
-    pub place: usize,
-}
 
 // Where a step leads.
 pub enum Spot {
@@ -72,31 +61,6 @@ fn place_of(i: i32, n: usize) -> Place
         return place_in((n as i64) + (i as i64), n);
     }
     place_in(i as i64, n)
-}
-
-// Where the payload of part `to` stands: behind those from `from` on.
-pub(crate) fn place_after(s: &[u8], from: PartAt, to: usize) -> usize
-    requires { ⌜ (from .index ≤ to) × (to < 2 ^ 30) × (from .place < 2 ^ 60) ⌝ }
-    ensures { λ r. ⌜ r ≡ from .place + lengths (now (s .entry)) (from .index) (to - from .index) ⌝ }
-{
-    let mut place = from.place;
-    let mut i = from.index;
-    while i < to {
-        place += payload_len(read_jentry(s, i)) as usize;
-        i += 1;
-    }
-    place
-}
-
-// The part behind this one.
-pub(crate) fn part_behind(s: &[u8], part: PartAt) -> PartAt
-    requires { ⌜ (part .index ≤ 2 ^ 30) × (part .place < 2 ^ 60) ⌝ }
-    ensures { λ r. ⌜ r ≡ behind (now (s .entry)) part ⌝ }
-{
-    PartAt {
-        index: part.index + 1,
-        place: part.place + payload_len(read_jentry(s, part.index)) as usize,
-    }
 }
 
 // The first of n names that has equal bytes.

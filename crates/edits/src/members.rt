@@ -1,27 +1,26 @@
 // The members of an object, taken one by one in byte order of their names: as they stand where the names rise, else by the search.
-use crate::find::PartAt;
-use crate::find::place_after;
 use builders::search::Found;
 use builders::search::Kept;
-use builders::search::MemberAt;
-use builders::search::Places;
 use builders::search::is_kept;
 use builders::search::next_member;
-use builders::search::payload_at;
-use builders::search::read_member;
 use layout::constants::HEADER_SIZE;
 use layout::constants::JENTRY_SIZE;
-use layout::jentry::payload_len;
+use layout::parts::MemberAt;
+use layout::parts::Places;
+use layout::parts::members_of;
+use layout::parts::payload_at;
+use layout::parts::places_behind;
+use layout::parts::read_member;
 use layout::sound::is_rising;
 use layout::util::slice;
 ghost use mathlib.Core.Path.{_≡_};
 ghost use mathlib.Core.Bool.{false};
 ghost use Prim.Native.Nat.{_+_, _^_, _≤_, _<_};
 ghost use Rattle.builders.specs.Search.{bound};
-ghost use Rattle.edits.specs.Members.{«members-of» as membersOf, «places-for» as placesFor};
+ghost use Rattle.edits.specs.Members.{«places-for» as placesFor};
 ghost use Rattle.edits.specs.Members.{«in-turn» as inTurn, «sizes-of» as sizesOf, «all-ahead» as allAhead};
 ghost use Rattle.edits.specs.Members.{«kept-ahead» as keptAhead};
-ghost use Rattle.edits.specs.Members.{«behind-member» as behindMember, «behind-ahead» as behindAhead};
+ghost use Rattle.edits.specs.Members.{«behind-ahead» as behindAhead};
 ghost use Rattle.edits.specs.Members.{Near, Standing, Next};
 
 // How many members are written anew, and how long their names and values are.
@@ -44,23 +43,6 @@ pub struct Ahead {
 pub enum Taken {
     Member(MemberAt, Ahead),
     End,
-}
-
-// The places of the members of an object.
-pub(crate) fn members_of(s: &[u8], n: usize) -> Places
-    requires { ⌜ n < 2 ^ 29 ⌝ }
-    ensures { λ r. ⌜ r ≡ membersOf (now (s .entry)) n ⌝ }
-{
-    let first = PartAt {
-        index: 0,
-        place: HEADER_SIZE + JENTRY_SIZE * (n + n),
-    };
-    Places {
-        key_jentry: HEADER_SIZE,
-        val_jentry: HEADER_SIZE + JENTRY_SIZE * n,
-        key: first.place,
-        val: place_after(s, first, n),
-    }
 }
 
 // The sizes of the members in byte order, those left out aside, of equal names the first.
@@ -115,19 +97,6 @@ pub(crate) fn members_ahead(s: &[u8], n: usize) -> Ahead
         index: 0,
         count: n,
         is_rising: is_rising(s, n, HEADER_SIZE + JENTRY_SIZE * (n + n)),
-    }
-}
-
-// The places of the member behind one.
-pub(crate) fn places_behind(at: Places, member: MemberAt) -> Places
-    requires { ⌜ (at .«key_jentry» < 2 ^ 60) × (at .«val_jentry» < 2 ^ 60) × (at .key < 2 ^ 60) × (at .val < 2 ^ 60) ⌝ }
-    ensures { λ r. ⌜ r ≡ behindMember at member ⌝ }
-{
-    Places {
-        key_jentry: at.key_jentry + JENTRY_SIZE,
-        val_jentry: at.val_jentry + JENTRY_SIZE,
-        key: at.key + payload_len(member.key.jentry) as usize,
-        val: at.val + payload_len(member.val.jentry) as usize,
     }
 }
 

@@ -15,6 +15,7 @@ pub mod Sames
 pub mod Places
 pub mod Texts
 pub mod Checks
+pub mod Pieces
 pub mod Passes
 pub mod Nestings
 pub mod Orders

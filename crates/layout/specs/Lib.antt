@@ -19,6 +19,7 @@ pub mod Walk
 -- Forms that follow the code, for the contracts inside the crate; theorems of proofs/ tie each to the definitions above.
 pub mod Order
 pub mod Place
+pub mod Parts
 pub mod Pass
 pub mod Patch
 pub mod Room

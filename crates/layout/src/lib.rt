@@ -7,6 +7,7 @@ pub mod iterator;
 pub mod jentry;
 pub mod number;
 pub mod order;
+pub mod parts;
 pub mod refusal;
 pub mod sound;
 pub mod utf8;

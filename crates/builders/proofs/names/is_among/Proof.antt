@@ -6,7 +6,7 @@ use mathlib.Core.Path.{_≡_, refl}
 use Rattle.layout.specs.Place.{parts-at}
 use Rattle.layout.proofs.Fields.{length-lt}
 use Rattle.builders.specs.Order.{has}
-use Rattle.builders.specs.Search.{texts}
+use Rattle.layout.specs.Parts.{texts}
 use Rattle.builders.proofs.Naming.{among-found, among-more, among-end}
 use Rattle.builders.proofs.names.is_among.Statement.{statement}
 use Rattle.builders.proofs.names.is_among.Tie as tie

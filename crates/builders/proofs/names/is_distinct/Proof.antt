@@ -6,7 +6,7 @@ use borrow.Author.Needs.{needs}
 use Rattle.layout.specs.Place.{parts-at}
 use Rattle.layout.proofs.Fields.{length-lt}
 use Rattle.builders.specs.Order.{distinct}
-use Rattle.builders.specs.Search.{texts}
+use Rattle.layout.specs.Parts.{texts}
 use Rattle.builders.proofs.Naming.{distinct-rising, distinct-start, distinct-twice, distinct-more, distinct-end}
 use Rattle.builders.proofs.names.is_distinct.Statement.{statement}
 use Rattle.builders.proofs.names.is_distinct.Tie as tie

@@ -4,8 +4,9 @@ use native.Mathlib.Omega.{arith}
 use mathlib.Core.Path.{_≡_, sym, _∙_}
 use mathlib.Core.Logic.{⊎-elim}
 use borrow.Author.Needs.{needs}
-use Rattle.layout.proofs.Fields.{length-lt}
-use Rattle.builders.specs.Search.{name-in, bound, least, members-at, kept-of}
+use Rattle.layout.specs.Parts.{name-in, members-at}
+use Rattle.layout.proofs.Pieces.{behind-further}
+use Rattle.builders.specs.Search.{bound, least, kept-of}
 use Rattle.builders.specs.declared.search.Found.the-variants.{Nothing}
 use Rattle.builders.proofs.Steps.{taken-on, passed-on, search-starts, search-turns, search-ends}
 use Rattle.builders.proofs.search.next_member.Statement.{statement}
@@ -29,17 +30,23 @@ loop-holds c = (omega arith, omega arith, omega arith, omega arith, omega arith,
 
 loop-again : tie.Need-loop-again Inv-loop μ-loop
 loop-again c =
-    let l = c .before .before .before .before .before .before .before .before .before .before .before in
-    let m = c .before .before .before .before .before .before .before .before .before in
-    let k = c .before .before .before .before .before .before .before in (
+    let test = c .before in
+    let taken = test .before in
+    let kept = taken .before in
+    let read = kept .before in
+    let more = read .before in
+    let here = more .before in
+    let b = behind-further (here .loop .at) _ (read .read-member .result) (c .places-behind .ensures) in (
       omega arith,
-      omega arith,
-      omega arith,
-      omega (arith, c .before .before .before .payload-len .ensures, length-lt (m .read-member .result .key .jentry)),
-      omega (arith, c .before .payload-len2 .ensures, length-lt (m .read-member .result .val .jentry)),
-      l .loop .inv .5 ∙ search-turns _ _ _ _ _ _ _ _ _ _ _ _ _ (c .before .before .before .before .before .before .before .before .before .before .loop-test .taken) (m .read-member .ensures) (c .before .before .before .before .before .before .before .before .is-kept .ensures)
-          (⊎-elim (λ w. taken-on _ _ _ _ _ _ _ (k .is-taken .ensures) (w .0 .taken) (w .1)) (λ w. passed-on _ _ _ _ _ _ _ (k .is-taken .ensures) (w .0 .left) (w .1)) (c .before .before .before .before .before .before .if1 .came))
-          (c .before .before .before .payload-len .ensures) (c .before .payload-len2 .ensures),
+      omega (arith, b .key-jentry),
+      omega (arith, b .val-jentry),
+      omega (arith, b .key),
+      omega (arith, b .val),
+      here .loop .inv .5
+          ∙ search-turns _ _ _ _ _ _ _ _ _ _ _ _ (more .loop-test .taken) (read .read-member .ensures) (kept .is-kept .ensures)
+          (⊎-elim (λ w. taken-on _ _ _ _ _ _ _ (taken .is-taken .ensures) (w .0 .taken) (w .1))
+          (λ w. passed-on _ _ _ _ _ _ _ (taken .is-taken .ensures) (w .0 .left) (w .1)) (test .if1 .came))
+          (c .places-behind .ensures),
     )
 
 returns : tie.Need-returns Inv-loop μ-loop
@@ -55,14 +62,7 @@ next-member-spec =
     (λ c κs. search needs)
     (λ c κs. search needs)
     (λ c κs. search needs)
-    (λ c. search needs)
-    (λ c. search needs)
     (λ c κs. search needs)
-    (λ c. search needs)
-    (λ c. search needs)
-    (λ c κs. search needs)
-    (λ c. search needs)
-    (λ c. search needs)
     (λ c. search needs)
     (λ c. search needs)
     loop-again

@@ -5,14 +5,32 @@ use borrow.Author.Needs.{needs}
 use Rattle.builders.proofs.search.put_member.Statement.{statement}
 use Rattle.builders.proofs.search.put_member.Tie as tie
 
-add-t22 : tie.Need-add-t22
-add-t22 c = omega (arith, c .before .before .before .before .before .before .before .before .before .before .before .before .before .before .before .before .before .before .before .before .before .before .before .before .before .pre, payload-short _ _ (c .before .before .before .before .before .before .before .before .before .before .before .before .before .before .before .before .before .before .before .before .before .before .before .before .before .args .member .val) (c .before .before .before .before .before .before .before .before .before .before .before .before .before .before .before .before .before .before .before .before .payload-at2 .ensures))
+places-past-requires : tie.Need-places-past-requires
+places-past-requires c κs =
+    let values = c .before .before in
+    let names = values .before .before .before .before in
+    let value-entry = names .before .before .before .before in
+    let key-entry = value-entry .before .before .before .before in
+    let value = key-entry .before .before in
+    let start = value .before .before .before .before .before in
+    let n = payload-short _ _ (start .args .member .key) (value .before .payload-at .ensures) in
+    let v = payload-short _ _ (start .args .member .val) (value .payload-at2 .ensures) in
+    let p = start .pre in (omega arith, omega arith, omega arith, omega arith)
 
 returns : tie.Need-returns
-returns c = (
-  places-behind (c .before .before .before .before .before .before .before .before .before .before .before .before .before .before .before .before .before .before .before .before .before .before .before .before .before .args .keys .now) (c .before .before .before .before .before .before .before .before .before .before .before .before .before .before .before .before .before .before .before .before .before .before .before .before .before .args .vals .now) (c .before .before .before .before .before .before .before .before .before .before .before .before .before .before .before .before .before .before .before .before .before .before .before .before .before .args .member) _ _ (c .before .before .before .before .before .before .before .before .before .before .before .before .before .before .before .before .before .before .before .before .before .payload-at .ensures) (c .before .before .before .before .before .before .before .before .before .before .before .before .before .before .before .before .before .before .before .before .payload-at2 .ensures) (c .before .before .before .before .before .before .before .before .before .before .before .before .before .before .before .before .before .before .before .before .before .before .before .before .before .args .at),
-  member-stored (c .before .before .before .before .before .before .before .before .before .before .before .before .before .before .before .before .before .before .before .before .before .before .before .before .before .args .keys .now) (c .before .before .before .before .before .before .before .before .before .before .before .before .before .before .before .before .before .before .before .before .before .before .before .before .before .args .vals .now) (c .before .before .before .before .before .before .before .before .before .before .before .before .before .before .before .before .before .before .before .before .before .before .before .before .before .args .member) _ _ (c .before .before .before .before .before .before .before .before .before .before .before .before .before .before .before .before .before .before .before .before .before .payload-at .ensures) (c .before .before .before .before .before .before .before .before .before .before .before .before .before .before .before .before .before .before .before .before .payload-at2 .ensures) (c .before .before .before .before .before .before .before .before .before .before .before .before .before .before .before .before .before .before .before .before .before .before .before .before .before .args .at) _ _ _ _ _ (c .before .before .before .before .before .before .before .before .before .before .before .before .before .before .before .before .before .before .put-u32 .ensures) (c .before .before .before .before .before .before .before .before .before .before .before .before .before .before .put-u322 .ensures) (c .before .before .before .before .before .before .before .before .before .before .copy .ensures) (c .before .before .before .before .before .before .copy2 .ensures),
-)
+returns c =
+    let values = c .before .before .before in
+    let names = values .before .before .before .before in
+    let value-entry = names .before .before .before .before in
+    let key-entry = value-entry .before .before .before .before in
+    let value = key-entry .before .before in
+    let start = value .before .before .before .before .before in
+    let a = start .args in (
+      places-behind (a .keys .now) (a .vals .now) (a .member) _ _ (value .before .payload-at .ensures) (value .payload-at2 .ensures)
+          (a .at) _ (c .places-past .ensures),
+      member-stored (a .keys .now) (a .vals .now) (a .member) _ _ (value .before .payload-at .ensures) (value .payload-at2 .ensures)
+          (a .at) _ _ _ _ _ (key-entry .put-u32 .ensures) (value-entry .put-u322 .ensures) (names .copy .ensures) (values .copy2 .ensures),
+    )
 
 pub put-member-spec : {M : Type 1} → statement M
 put-member-spec =
@@ -24,9 +42,6 @@ put-member-spec =
     (λ c κs. search needs)
     (λ c κs. search needs)
     (λ c κs. search needs)
-    (λ c. search needs)
-    (λ c. search needs)
-    (λ c. search needs)
-    add-t22
+    places-past-requires
     (λ c. search needs)
     returns)

@@ -2,7 +2,8 @@
 use Prim.Native.Nat.{_-_}
 use native.Mathlib.Omega.{arith}
 use borrow.Author.Needs.{needs}
-use Rattle.builders.specs.Search.{name-in, value-in, members-at, kept-of}
+use Rattle.layout.specs.Parts.{name-in, value-in, members-at}
+use Rattle.builders.specs.Search.{kept-of}
 use Rattle.builders.specs.Weave.{own-entry}
 use Rattle.builders.proofs.Storing.{Stored, begins, goes, ends-early, ends-full, few-searched}
 use Rattle.builders.proofs.Searches.{bytes-short}

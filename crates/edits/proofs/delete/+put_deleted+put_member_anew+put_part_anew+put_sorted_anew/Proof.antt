@@ -9,16 +9,17 @@ use Rattle.edits.proofs.SortedAnews.{at-value, allows, anew-room, anew-
 use Rattle.edits.specs.Cut.{steps-from, anew-value, anew-entry}
 use Rattle.builders.proofs.Storing.{sought-nth, sought-end, sought-all, Stored, begins, goes, ends-early, ends-full, ends-val, few-searched}
 use Rattle.builders.proofs.Searches.{bytes-short}
-use Rattle.builders.specs.declared.search.Places.{Places}
+use Rattle.layout.specs.declared.parts.Places.{Places}
 use Rattle.builders.specs.declared.search.Kept.the-variants.{All}
-use Rattle.builders.specs.Search.{name-in, members-at, kept-of}
+use Rattle.layout.specs.Parts.{name-in, members-at}
+use Rattle.builders.specs.Search.{kept-of}
 use Prim.Native.Nat.{_-_}
 use Rattle.edits.proofs.Reweaves.{value-cuts, value-short, named-stored, other-stored, stored-length}
 use Rattle.builders.proofs.Storing.{payload-short}
 use Rattle.edits.proofs.Leds.{left-length}
 use Rattle.edits.proofs.Anews.{here, down, child-cuts, child-short, part-anew-stored}
-use Rattle.edits.specs.declared.find.Cursor.{Cursor}
-use Rattle.edits.specs.declared.find.PartAt.{PartAt}
+use Rattle.layout.specs.declared.parts.Cursor.{Cursor}
+use Rattle.layout.specs.declared.parts.PartAt.{PartAt}
 use Rattle.layout.proofs.Words.{octets-of}
 use borrow.Author.Needs.{needs}
 use mathlib.Core.Path.{refl, ap}
@@ -41,18 +42,18 @@ use Rattle.edits.proofs.delete.put_sorted_anew.Kinds as put-sorted-anew
 use Rattle.edits.proofs.delete.+put_deleted+put_member_anew+put_part_anew+put_sorted_anew.Lts-put_sorted_anew as put-sorted-anew-lts
 use Rattle.layout.proofs.order.is_same_bytes.Reads as is-same-bytes-reads
 use Rattle.builders.proofs.search.next_member.Reads as next-member-reads
-use Rattle.builders.proofs.search.payload_at.Reads as payload-at-reads
+use Rattle.layout.proofs.parts.payload_at.Reads as payload-at-reads
 use Rattle.builders.proofs.search.put_member.Reads as put-member-reads
 use Rattle.edits.proofs.delete.manner_of.Reads as manner-of-reads
 use Rattle.edits.proofs.members.measure_members.Reads as measure-members-reads
-use Rattle.edits.proofs.members.members_of.Reads as members-of-reads
+use Rattle.layout.proofs.parts.members_of.Reads as members-of-reads
 use Rattle.edits.proofs.delete.name_of.Reads as name-of-reads
 use Rattle.edits.proofs.members.places_for.Reads as places-for-reads
 use Rattle.edits.proofs.delete.put_run.Reads as put-run-reads
 use Rattle.edits.proofs.delete.put_without.Reads as put-without-reads
 use Rattle.edits.proofs.delete.way_behind.Reads as way-behind-reads
 use Rattle.edits.proofs.find.find_step.Reads as find-step-reads
-use Rattle.edits.proofs.find.part_behind.Reads as part-behind-reads
+use Rattle.layout.proofs.parts.part_behind.Reads as part-behind-reads
 use Rattle.layout.proofs.jentry.encoded.Reads as encoded-reads
 use Rattle.layout.proofs.jentry.payload_len.Reads as payload-len-reads
 use Rattle.layout.proofs.jentry.read_jentry.Reads as read-jentry-reads

@@ -1,7 +1,7 @@
 -- `edits::delete::put_array_without` meets its contract.
 use mathlib.Core.Path.{refl, ap}
-use Rattle.edits.specs.declared.find.PartAt.{PartAt}
-use Rattle.edits.specs.declared.find.Cursor.{Cursor}
+use Rattle.layout.specs.declared.parts.PartAt.{PartAt}
+use Rattle.layout.specs.declared.parts.Cursor.{Cursor}
 use native.Mathlib.Omega.{arith}
 use Rattle.layout.proofs.Words.{octets-of}
 use Rattle.edits.proofs.Tables.{parted}

@@ -2,8 +2,8 @@
 use native.Mathlib.Omega.{arith}
 use mathlib.Core.Path.{refl, ap}
 use Rattle.layout.proofs.Words.{octets-of}
-use Rattle.edits.specs.declared.find.PartAt.{PartAt}
-use Rattle.edits.specs.declared.find.Cursor.{Cursor}
+use Rattle.layout.specs.declared.parts.PartAt.{PartAt}
+use Rattle.layout.specs.declared.parts.Cursor.{Cursor}
 use Rattle.edits.proofs.Tables.{parted}
 use Rattle.edits.proofs.Withouts.{bounds, object-gone, key-stands}
 use borrow.Author.Needs.{needs}

@@ -2,7 +2,7 @@
 use native.Mathlib.Omega.{arith}
 use mathlib.Core.Path.{refl, ap}
 use Rattle.layout.proofs.Words.{octets-of}
-use Rattle.builders.specs.declared.search.Places.{Places}
+use Rattle.layout.specs.declared.parts.Places.{Places}
 use Rattle.edits.proofs.Sorteds.{value-at, gone-room, gone-stored}
 use borrow.Author.Needs.{needs}
 use Rattle.edits.proofs.delete.put_sorted_without.Statement.{statement}

@@ -6,9 +6,10 @@ use mathlib.Core.Path.{_≡_}
 use Rattle.layout.specs.Entry.{lengths}
 use Rattle.layout.specs.Place.{parts-at}
 use Rattle.layout.proofs.Fields.{length-lt}
-use Rattle.builders.specs.Search.{texts}
+use Rattle.layout.specs.Parts.{texts}
 use Rattle.edits.specs.Spot.{first}
-use Rattle.edits.proofs.Parts.{moved, place-start, first-start, first-found, first-more, place-next, first-none}
+use Rattle.layout.proofs.Pieces.{place-start, place-next}
+use Rattle.edits.proofs.Parts.{moved, first-start, first-found, first-more, first-none}
 use Rattle.edits.proofs.find.find_name.Statement.{statement}
 use Rattle.edits.proofs.find.find_name.Tie as tie
 

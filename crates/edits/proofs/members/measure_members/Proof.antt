@@ -2,7 +2,8 @@
 use Prim.Native.Nat.{_-_}
 use native.Mathlib.Omega.{arith}
 use borrow.Author.Needs.{needs}
-use Rattle.builders.specs.Search.{members-at, kept-of}
+use Rattle.layout.specs.Parts.{members-at}
+use Rattle.builders.specs.Search.{kept-of}
 use Rattle.builders.proofs.Storing.{payload-short, few-searched}
 use Rattle.edits.proofs.Measures.{Measured, measured-none, measured-early, measured-full, measured-more}
 use Rattle.edits.proofs.members.measure_members.Statement.{statement}

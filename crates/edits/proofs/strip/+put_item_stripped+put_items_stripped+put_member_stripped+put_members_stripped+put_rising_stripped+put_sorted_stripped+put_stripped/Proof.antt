@@ -6,7 +6,7 @@ use lib.ListN.{length}
 use Rattle.layout.proofs.Words.{octets-of}
 use Rattle.layout.proofs.Patches.{length-patch}
 use Rattle.builders.proofs.Storing.{payload-short}
-use Rattle.edits.specs.declared.find.PartAt.{PartAt}
+use Rattle.layout.specs.declared.parts.PartAt.{PartAt}
 use Rattle.edits.proofs.Standings.{fewer-on}
 use Rattle.edits.proofs.Stripped.{item-asked, item-repeats, item-short, item-stripped, item-as-is, member-stripped, no-scalar, no-refusal, handed-asks, handed-back}
 use Rattle.edits.proofs.StripItems.{Array-at, array-at, Storing, storing-starts, storing-room, item-asks, storing-repeats, storing-len, storing-on, storing-ends}
@@ -38,9 +38,9 @@ use Rattle.edits.proofs.strip.put_stripped.Kinds as put-stripped-kinds
 use Rattle.edits.proofs.strip.+put_item_stripped+put_items_stripped+put_member_stripped+put_members_stripped+put_rising_stripped+put_sorted_stripped+put_stripped.Lts-put_stripped as put-stripped-lts
 use Rattle.builders.proofs.search.is_kept.Reads as is-kept-reads
 use Rattle.builders.proofs.search.next_member.Reads as next-member-reads
-use Rattle.builders.proofs.search.payload_at.Reads as payload-at-reads
-use Rattle.builders.proofs.search.read_member.Reads as read-member-reads
-use Rattle.edits.proofs.find.part_behind.Reads as part-behind-reads
+use Rattle.layout.proofs.parts.payload_at.Reads as payload-at-reads
+use Rattle.layout.proofs.parts.read_member.Reads as read-member-reads
+use Rattle.layout.proofs.parts.part_behind.Reads as part-behind-reads
 use Rattle.edits.proofs.members.ahead_behind.Reads as ahead-behind-reads
 use Rattle.edits.proofs.members.measure_ahead.Reads as measure-ahead-reads
 use Rattle.edits.proofs.members.members_ahead.Reads as members-ahead-reads

@@ -1,8 +1,8 @@
--- `builders::search::payload_at` meets its contract.
-use Rattle.builders.proofs.Steps.{payload-is}
+-- `layout::parts::payload_at` meets its contract.
+use Rattle.layout.proofs.Pieces.{payload-is}
 use borrow.Author.Needs.{needs}
-use Rattle.builders.proofs.search.payload_at.Statement.{statement}
-use Rattle.builders.proofs.search.payload_at.Tie as tie
+use Rattle.layout.proofs.parts.payload_at.Statement.{statement}
+use Rattle.layout.proofs.parts.payload_at.Tie as tie
 
 returns : tie.Need-returns
 returns c = payload-is _ _ (c .before .before .before .args .item) _ (c .before .payload-len .ensures) (c .slice .ensures)

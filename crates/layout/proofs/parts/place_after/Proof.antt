@@ -1,13 +1,13 @@
--- `edits::find::place_after` meets its contract.
+-- `layout::parts::place_after` meets its contract.
 use native.Mathlib.Omega.{arith}
 use borrow.Author.Needs.{needs}
 use Prim.Native.Nat.{_+_, _-_, _*_, _^_, _≤_}
 use mathlib.Core.Path.{_≡_, refl}
 use Rattle.layout.specs.Entry.{lengths}
 use Rattle.layout.proofs.Fields.{length-lt}
-use Rattle.edits.proofs.Parts.{place-more, place-end}
-use Rattle.edits.proofs.find.place_after.Statement.{statement}
-use Rattle.edits.proofs.find.place_after.Tie as tie
+use Rattle.layout.proofs.Pieces.{place-more, place-end}
+use Rattle.layout.proofs.parts.place_after.Statement.{statement}
+use Rattle.layout.proofs.parts.place_after.Tie as tie
 
 abbrev Inv-loop : tie.InvT-loop
 Inv-loop s to place₀ i₀ place i =

@@ -1,8 +1,8 @@
--- `edits::find::part_behind` meets its contract.
-use Rattle.edits.proofs.Parts.{part-behind-is}
+-- `layout::parts::part_behind` meets its contract.
+use Rattle.layout.proofs.Pieces.{part-behind-is}
 use borrow.Author.Needs.{needs}
-use Rattle.edits.proofs.find.part_behind.Statement.{statement}
-use Rattle.edits.proofs.find.part_behind.Tie as tie
+use Rattle.layout.proofs.parts.part_behind.Statement.{statement}
+use Rattle.layout.proofs.parts.part_behind.Tie as tie
 
 returns : tie.Need-returns
 returns c = part-behind-is _ (c .before .before .before .before .before .args .part) _ _ (c .before .before .read-jentry .ensures) (c .before .payload-len .ensures)

@@ -1,7 +1,7 @@
--- `builders::search::read_member` meets its contract.
+-- `layout::parts::read_member` meets its contract.
 use borrow.Author.Needs.{needs}
-use Rattle.builders.proofs.search.read_member.Statement.{statement}
-use Rattle.builders.proofs.search.read_member.Tie as tie
+use Rattle.layout.proofs.parts.read_member.Statement.{statement}
+use Rattle.layout.proofs.parts.read_member.Tie as tie
 
 returns : tie.Need-returns
 returns c = rw (c .before .read-u32 .ensures, c .read-u322 .ensures)

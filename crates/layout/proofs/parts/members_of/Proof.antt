@@ -1,8 +1,8 @@
--- `edits::members::members_of` meets its contract.
-use Rattle.edits.proofs.Manners.{members-places}
+-- `layout::parts::members_of` meets its contract.
+use Rattle.layout.proofs.Pieces.{members-places}
 use borrow.Author.Needs.{needs}
-use Rattle.edits.proofs.members.members_of.Statement.{statement}
-use Rattle.edits.proofs.members.members_of.Tie as tie
+use Rattle.layout.proofs.parts.members_of.Statement.{statement}
+use Rattle.layout.proofs.parts.members_of.Tie as tie
 
 returns : tie.Need-returns
 returns c = members-places _ _ _ (c .place-after .ensures)

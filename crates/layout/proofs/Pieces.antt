@@ -1,0 +1,76 @@
+-- The parts of a container by their places: sums of lengths, step by step.
+use Prim.Native.Nat.{ℕ, _+_, _*_, _-_, _^_, _<_, _≤_}
+use native.Mathlib.Omega.{arith}
+use native.Mathlib.Nat.{zero-add, add-zero}
+use mathlib.Core.Path.{_≡_, refl, sym, _∙_}
+use lib.ListN.{take, drop}
+use Rattle.layout.specs.Bytes.{Bytes}
+use Rattle.layout.specs.Entry.{length-of, entry-at, lengths}
+use Rattle.layout.specs.Parts.{bytes-at, next-part, members-of, past, behind-member}
+use Rattle.layout.specs.declared.parts.ItemAt.{ItemAt}
+use Rattle.layout.specs.declared.parts.MemberAt.{MemberAt}
+use Rattle.layout.specs.declared.parts.PartAt.{PartAt}
+use Rattle.layout.specs.declared.parts.Places.{Places}
+use Rattle.layout.proofs.Fields.{length-lt}
+use Rattle.layout.proofs.Checks.{lengths-step}
+use Rattle.layout.proofs.Places.{lengths-split}
+
+pub payload-is : (r s : Bytes) (x : ItemAt) (n : ℕ) → n ≡ length-of (x .jentry) → r ≡ take n (drop (x .place) s)
+    → r ≡ bytes-at s x
+payload-is r s x n e h = rw (h, e)
+
+pub part-behind-is : (s : Bytes) (p : PartAt) (e l : ℕ) → e ≡ entry-at s (p .index) → l ≡ length-of e
+    → record { index = p .index + 1; place = p .place + l } ≡ next-part s p
+part-behind-is s p e l he hl = rw (hl, he)
+
+-- Places one after another: `total` is where the last one stands.
+pub place-more : (s : Bytes) (i n p total e l : ℕ) → i < n → total ≡ p + lengths s i (n - i) → e ≡ entry-at s i → l ≡ length-of e
+    → total ≡ p + l + lengths s (i + 1) (n - (i + 1))
+place-more s i n p total e l lt inv he hl =
+    let le : l ≡ length-of (entry-at s i) = cc in
+    omega (arith, lengths-step s i n lt)
+
+pub place-end : (s : Bytes) (i n p total : ℕ) → n ≤ i → total ≡ p + lengths s i (n - i) → p ≡ total
+unfolding lengths
+place-end s i n p total h inv = let k : n - i ≡ 0 = omega arith in rw inv (rw k (omega arith))
+
+pub place-start : (s : Bytes) (p : ℕ) → p ≡ p + lengths s 0 0
+unfolding lengths
+place-start s p = sym (add-zero p)
+
+-- One length more.
+lengths-snoc : (s : Bytes) (i : ℕ) → lengths s 0 (i + 1) ≡ lengths s 0 i + length-of (entry-at s i)
+unfolding lengths
+lengths-snoc s i = lengths-split s 0 i 1 ∙ rw (zero-add i, add-zero (length-of (entry-at s i)))
+
+pub place-next : (s : Bytes) (start i p e l : ℕ) → e ≡ entry-at s i → l ≡ length-of e → p ≡ start + lengths s 0 i
+    → p + l ≡ start + lengths s 0 (i + 1)
+place-next s start i p e l he hl at =
+    let le : l ≡ length-of (entry-at s i) = cc in
+    omega (arith, lengths-snoc s i)
+
+-- The places of the members of an object.
+pub members-places : (s : Bytes) (n p : ℕ) → p ≡ 4 + 4 * (n + n) + lengths s 0 (n - 0)
+    → record { «key_jentry» = 4; «val_jentry» = 4 + 4 * n; key = 4 + 4 * (n + n); val = p } ≡ members-of s n
+members-places s n p e = let z : n - 0 ≡ n = omega arith in rw (e, z)
+
+-- The places behind a member, by the lengths of its name and value.
+pub behind-is : (r at : Places) (m : MemberAt) (k v : ℕ) → k ≡ length-of (m .key .jentry) → v ≡ length-of (m .val .jentry)
+    → r ≡ past at k v → r ≡ behind-member at m
+behind-is r at m k v hk hv h = h ∙ rw (hk, hv)
+
+-- They are near: what a loop over members keeps of its bounds.
+pub record Further (at next : Places) : Type 0 where
+  pub key-jentry : next .«key_jentry» ≡ at .«key_jentry» + 4
+  pub val-jentry : next .«val_jentry» ≡ at .«val_jentry» + 4
+  pub key : next .key < at .key + 2 ^ 28
+  pub val : next .val < at .val + 2 ^ 28
+
+pub behind-further : (at next : Places) (m : MemberAt) → next ≡ behind-member at m → Further at next
+behind-further at next m e =
+    rw e (record {
+      key-jentry = refl;
+      val-jentry = refl;
+      key = omega (arith, length-lt (m .key .jentry));
+      val = omega (arith, length-lt (m .val .jentry));
+    })
