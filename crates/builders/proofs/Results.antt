@@ -6,6 +6,7 @@ use mathlib.Core.Path.{_≡_, refl, ap, sym, _∙_}
 use mathlib.Core.Bool.{Bool, true, false, not, cond, _&&_}
 use mathlib.Core.List.{List, [], _∷_}
 use lib.Dec.{T, leb, ltb, leb→le, nltb→le, eqb→eq}
+use mathlib.Core.Option.{some}
 use lib.ListN.{length}
 use Rattle.layout.specs.Bytes.{Bytes, Octets}
 use Rattle.layout.specs.Answer.{Answer, gives, refused, _>>=_, require}
@@ -23,7 +24,9 @@ use Rattle.layout.proofs.Decoding.{read-sound, names-pair}
 use Rattle.layout.proofs.Encoding.{read-encode}
 use Rattle.layout.proofs.Readables.{length-encode}
 use Rattle.builders.specs.Order.{in-order, distinct}
-use Rattle.builders.specs.Build.{items-of, text-of, texts-of, count, join, append, build, within, written, on-two}
+use Rattle.layout.specs.Pipeline.{within, written, found, on-record}
+use Rattle.layout.proofs.Pipelines.{found-written}
+use Rattle.builders.specs.Build.{items-of, text-of, texts-of, count, join, append, build, on-two}
 use Rattle.builders.proofs.InOrders.{in-order-rising, in-order-valid, in-order-sound, in-order-same}
 use Rattle.builders.proofs.Builds.{count-parts}
 
@@ -57,8 +60,19 @@ written-result room (gives v) b e = go (ltb room (length (encode v))) (nltb→le
 
 pub on-two-is : (edit : Tree → Tree → Answer Tree) (l r : Bytes) (room : ℕ)
     → on-two edit l r room ≡ written room (read l >>= λ t. read r >>= λ u. edit t u >>= λ v. within v)
-unfolding on-two
-on-two-is edit l r room = refl
+unfolding on-two on-record _>>=_
+on-two-is edit l r room = by-reads (read l) (read r)
+  where
+    by-edit : (m : Answer Tree) → found room (m >>= λ v. within v >>= λ w. gives (some w)) ≡ written room (m >>= λ v. within v)
+    by-edit (gives v) = found-written room (within v)
+    by-edit (refused x) = refl
+
+    by-reads : (a b : Answer Tree)
+        → found room (a >>= λ t. b >>= λ u. edit t u >>= λ v. within v >>= λ w. gives (some w))
+        ≡ written room (a >>= λ t. b >>= λ u. edit t u >>= λ v. within v)
+    by-reads (refused x) b = refl
+    by-reads (gives t) (refused x) = refl
+    by-reads (gives t) (gives u) = by-edit (edit t u)
 
 pub within-is : (v : Tree) → within v ≡ (require (leb (record-length v) 65536 && leb (depth v) 64) Result >>= λ _. gives v)
 unfolding within

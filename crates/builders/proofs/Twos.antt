@@ -4,6 +4,7 @@ use native.Mathlib.Omega.{arith}
 use native.Mathlib.Decide.{decLe}
 use mathlib.Core.Path.{_≡_, refl, ap, _∙_}
 use mathlib.Core.Bool.{Bool, true, false, cond, _&&_}
+use mathlib.Core.Option.{Option, some}
 use lib.Dec.{leb, ltb}
 use lib.ListN.{length}
 use borrow.Author.Tests.{le-leb, lt-leb, le-ltb, lt-ltb}
@@ -19,9 +20,11 @@ use Rattle.layout.specs.declared.refusal.Refusal.{Refusal}
 use Rattle.layout.specs.declared.refusal.Refusal.the-variants.{Result}
 use Rattle.layout.specs.declared.ending.Ending.{Ending}
 use Rattle.layout.specs.declared.ending.Ending.the-variants.{Refused}
-use Rattle.layout.proofs.Patches.{in-refused, into-fits}
+use Rattle.layout.proofs.Patches.{in-refused}
+use Rattle.layout.proofs.Pipelines.{found-written, record-fits, record-first, record-second, record-given, record-edit}
 use Rattle.layout.proofs.Readables.{length-encode}
-use Rattle.builders.specs.Build.{within, written, on-two}
+use Rattle.layout.specs.Pipeline.{within, written}
+use Rattle.builders.specs.Build.{on-two}
 use Rattle.builders.specs.Room.{sized}
 
 pub and-false : (a : Bool) → (a && false) ≡ false
@@ -45,25 +48,31 @@ written-sized v b room d e =
     go (yes k) = rw (le-leb (record-length v) 65536 k, le-ltb 65536 (record-length v) k, e)
     go (no k) = rw (lt-leb (record-length v) 65536 (omega arith), lt-ltb 65536 (record-length v) (omega arith))
 
+-- The lines of an edit of two records are those of the pipeline.
+abbrev lines : (Tree → Tree → Answer Tree) → Tree → Tree → Answer (Option Tree)
+lines edit t u = edit t u >>= λ v. within v >>= λ w. gives (some w)
+
 module _ (edit : Tree → Tree → Answer Tree) (l r o : Bytes) (room : ℕ) where
   pub two-left : (x : Refusal) → read l ≡ refused x → EndedIn (Refused x) o o (on-two edit l r room)
   unfolding on-two
-  two-left x e = in-refused o _ x (rw e)
+  two-left = record-first read (lines edit) l r room o
 
   module _ (t : Tree) (hl : read l ≡ gives t) where
     pub two-right : (x : Refusal) → read r ≡ refused x → EndedIn (Refused x) o o (on-two edit l r room)
     unfolding on-two
-    two-right x e = in-refused o _ x (rw (hl, e))
+    two-right = record-second read (lines edit) l r room o t hl
 
     module _ (u : Tree) (hr : read r ≡ gives u) where
       pub two-edit : (x : Refusal) → edit t u ≡ refused x → EndedIn (Refused x) o o (on-two edit l r room)
-      unfolding on-two
-      two-edit x e = in-refused o _ x (rw (hl, hr, e))
+      unfolding on-two _>>=_
+      two-edit x e = record-edit read (lines edit) l r room o t hl u hr x (rw e)
 
       module _ (v : Tree) (he : edit t u ≡ gives v) where
         two-is : on-two edit l r room ≡ written room (within v)
-        unfolding on-two
-        two-is = rw (hl, hr, he)
+        unfolding on-two _>>=_
+        two-is =
+            record-given read (lines edit) l r room o t hl u hr (within v >>= λ w. gives (some w)) (rw he)
+            ∙ found-written room (within v)
 
         pub two-deep : 64 < depth v → EndedIn (Refused Result) o o (on-two edit l r room)
         two-deep h = in-refused o _ Result (two-is ∙ ap (written room) (within-deep v h))
@@ -72,11 +81,6 @@ module _ (edit : Tree → Tree → Answer Tree) (l r o : Bytes) (room : ℕ) whe
             → EndedIn e o o′ (on-two edit l r room)
         two-sized e o′ b d q h = rw (two-is ∙ written-sized v b room d q) h
 
--- A result goes into the room.
-pub written-fits : (room : ℕ) (m : Answer Tree) → Fits room (written room m)
-written-fits room (gives t) = into-fits room (encode t)
-written-fits room (refused x) = tt
-
 pub two-fits : (edit : Tree → Tree → Answer Tree) (l r : Bytes) (room : ℕ) → Fits room (on-two edit l r room)
 unfolding on-two
-two-fits edit l r room = written-fits room (read l >>= λ t. read r >>= λ u. edit t u >>= λ v. within v)
+two-fits edit l r room = record-fits read (lines edit) l r room

@@ -1,16 +1,15 @@
 -- Append and object build: document 01, "Builders", with the numbers of "Who can cause each number" in their order.
 use Prim.Native.Nat.{ℕ, suc}
-use mathlib.Core.Bool.{_&&_}
 use mathlib.Core.List.{List, [], _∷_}
-use lib.Dec.{leb, eqb}
+use mathlib.Core.Option.{some}
+use lib.Dec.{eqb}
 use Rattle.layout.specs.Bytes.{Bytes}
 use Rattle.layout.specs.Answer.{Answer, gives, refused, _>>=_, require}
 use Rattle.layout.specs.Tree.{Tree, null, boolean, number, string, extension, array, object, Items, none, item, pair}
-use Rattle.layout.specs.Encode.{encode}
 use Rattle.layout.specs.Read.{read}
-use Rattle.layout.specs.Limits.{depth, record-length}
-use Rattle.layout.specs.Ended.{Outcome, refusal, into}
-use Rattle.layout.specs.declared.refusal.Refusal.the-variants.{Kind, Repeated, Result}
+use Rattle.layout.specs.Ended.{Outcome}
+use Rattle.layout.specs.Pipeline.{within, on-record}
+use Rattle.layout.specs.declared.refusal.Refusal.the-variants.{Kind, Repeated}
 use Rattle.builders.specs.Order.{in-order, distinct}
 
 -- 7: "append to a non-array; object build with a non-array, a name that is no string, or unequal counts".
@@ -67,19 +66,8 @@ build t u = do
   _ ← require (distinct ns) Repeated
   gives (object (in-order (pair ns us)))
 
--- "9 result over 65,536 bytes or deeper than 64."
-unfoldable pub within : Tree → Answer Tree
-within t = do
-  _ ← require (leb (record-length t) 65536 && leb (depth t) 64) Result
-  gives t
-
--- A result goes into a buffer of `room` bytes: "10 shorter than the result".
-abbrev pub written : ℕ → Answer Tree → Outcome
-written room (gives t) = into room (encode t)
-written room (refused r) = refusal r
-
--- An edit of two records: "left record, right record, path, 7, absence, 8, 9, 10".
+-- An edit of two records: left record, right record, the edit's own numbers, then 9.
 unfoldable pub on-two : (Tree → Tree → Answer Tree) → Bytes → Bytes → ℕ → Outcome
-unfolding read append build within into _>>=_ require
+unfolding on-record append build
 on-two edit left right room =
-    written room (read left >>= λ t. read right >>= λ u. edit t u >>= λ v. within v)
+    on-record read (λ t u. edit t u >>= λ v. within v >>= λ w. gives (some w)) left right room

@@ -16,11 +16,13 @@ use Rattle.layout.proofs.Answers.{from-bind, to-bind, gives-inj}
 use Rattle.layout.proofs.Decoding.{read-sound}
 use Rattle.layout.proofs.Encoding.{read-encode}
 use Rattle.layout.proofs.Readables.{length-encode}
-use Rattle.builders.specs.Build.{written, on-two}
+use Rattle.layout.specs.Pipeline.{written}
+use Rattle.builders.specs.Build.{on-two}
 use Rattle.builders.proofs.Results.{Made, written-result, result-made}
 use Rattle.edits.specs.Concat.{concat}
 use Rattle.edits.specs.Strip.{stripped, unrepeated, strip, on-one}
 use Rattle.edits.proofs.Strips.{strip-sound, strip-shrinks, strip-again, sound-unrepeated, strip-gives, strip-given}
+use Rattle.edits.proofs.StripWrites.{on-one-is}
 use Rattle.edits.proofs.Concats.{concat-keeps, concat-sound}
 
 -- Bytes that read as a sound tree.
@@ -41,10 +43,6 @@ module _ (l r b : Bytes) (room : ℕ) (ol : Octets l) (or : Octets r) (e : on-tw
       (m .tree, m .reads, concat-sound (m .left) (m .right) (m .tree) left right (m .edited))
 
 -- ---- strip
-
-pub on-one-is : (edit : Tree → Answer Tree) (s : Bytes) (room : ℕ) → on-one edit s room ≡ written room (read s >>= edit)
-unfolding on-one
-on-one-is edit s room = refl
 
 -- What strip writes of a record in which no name is repeated.
 strip-writes : (s : Bytes) (t : Tree) (room : ℕ) → read s ≡ gives t → unrepeated t ≡ true

@@ -22,7 +22,8 @@ use Rattle.layout.proofs.Readables.{length-encode}
 use Rattle.edits.specs.Path.{Step, path-of}
 use Rattle.edits.specs.Find.{look-up}
 use Rattle.edits.specs.Delete.{delete, deletable}
-use Rattle.edits.specs.Keypath.{get-by, delete-by, found, on-path}
+use Rattle.layout.specs.Pipeline.{found, on-record}
+use Rattle.edits.specs.Keypath.{get-by, delete-by, on-path}
 use Rattle.edits.proofs.Deletes.{some-inj}
 use Rattle.edits.proofs.Lookups.{get-is}
 use Rattle.edits.proofs.Kept.{NoMore, look-up-kept, delete-kept}
@@ -42,7 +43,7 @@ found-result room (gives (some v)) b e = (v, refl, into-result room (encode v) b
 
 pub on-path-is : (edit : List Step → Tree → Answer (Option Tree)) (target path : Bytes) (room : ℕ)
     → on-path edit target path room ≡ found room (read target >>= λ t. path-of path >>= λ p. edit p t)
-unfolding on-path
+unfolding on-path on-record
 on-path-is edit target path room = refl
 
 pub record PathMade (edit : List Step → Tree → Answer (Option Tree)) (target path b : Bytes) : Type 0 where

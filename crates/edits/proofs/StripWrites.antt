@@ -5,9 +5,10 @@ use native.Mathlib.Omega.{arith}
 use mathlib.Core.Path.{_≡_, refl, ap, sym, _∙_}
 use mathlib.Core.Bool.{Bool, true, false, cond}
 use mathlib.Core.List.{[], _∷_, _++_}
+use mathlib.Core.Option.{some}
 use lib.ListN.{length, length-append}
 use Rattle.layout.specs.Bytes.{Bytes, Octets}
-use Rattle.layout.specs.Answer.{gives, _>>=_}
+use Rattle.layout.specs.Answer.{Answer, gives, refused, _>>=_}
 use Rattle.layout.specs.Tree.{Tree, kind}
 use Rattle.layout.specs.Encode.{payload}
 use Rattle.layout.specs.Read.{header, nested, read}
@@ -28,8 +29,8 @@ use Rattle.layout.proofs.Answers.{gives-inj}
 use Rattle.layout.proofs.Decoding.{container-encode}
 use Rattle.layout.proofs.Nestings.{head-of, readable-gives, refused-as}
 use Rattle.layout.proofs.Patches.{patch-empty, in-short, in-full}
-use Rattle.builders.specs.Build.{written}
-use Rattle.builders.proofs.Twos.{written-fits}
+use Rattle.layout.specs.Pipeline.{found, written, on-record, alone}
+use Rattle.layout.proofs.Pipelines.{found-written, record-fits}
 use Rattle.builders.proofs.Knowns.{Known, known}
 use Rattle.edits.specs.Strip.{stripped, unrepeated, strip, on-one}
 use Rattle.edits.specs.Stripping.{stripped-of, unrepeated-of, Strippable, Strips, strip-out}
@@ -86,14 +87,23 @@ scalar-strip t m h = own-strip t (λ k. neither t (Scalar m) k (sym h) no-array 
     no-object : (n : ℕ) → Scalar m ≡ Object n → ⊥
     no-object n e = let z : _≡_ {A = ℕ} 0 1 = cc in omega arith
 
+-- An edit of one record, without the pipeline's second line.
+pub on-one-is : (edit : Tree → Answer Tree) (s : Bytes) (room : ℕ) → on-one edit s room ≡ written room (read s >>= edit)
+unfolding on-one on-record _>>=_
+on-one-is edit s room = by-read (read s)
+  where
+    by-read : (a : Answer Tree) → found room (a >>= λ t. alone [] >>= λ _. edit t >>= λ v. gives (some v)) ≡ written room (a >>= edit)
+    by-read (gives t) = found-written room (edit t)
+    by-read (refused x) = refl
+
 -- The numbers of strip.
 module _ (a o : Bytes) (room : ℕ) (c : Check) (hc : c ≡ checked (read a)) where
   abbrev On : Ending → Bytes → Type 0
   On e o′ = EndedIn e o o′ (on-one strip a room)
 
   pub strip-left : (x : Refusal) → c ≡ NotReadable x → On (Refused x) o
-  unfolding on-one _>>=_
-  strip-left x q = rw (refused-as (read a) c x hc q) (record { answer = refl; bytes = refl })
+  unfolding _>>=_
+  strip-left x q = rw (on-one-is strip a room, refused-as (read a) c x hc q) (record { answer = refl; bytes = refl })
 
   module _ (oa : Octets a) (qc : c ≡ Readable) (h : Header) (hh : h ≡ header a) where
     target : (t : Tree) × Known a t
@@ -104,11 +114,11 @@ module _ (a o : Bytes) (room : ℕ) (c : Check) (hc : c ≡ checked (read a)) wh
 
     -- A root scalar comes back as it is.
     pub strip-scalar : (m : ℕ) → h ≡ Scalar m → (e : Ending) (o′ : Bytes) → EndedIn e o o′ (into room a) → On e o′
-    unfolding on-one _>>=_
+    unfolding _>>=_
     strip-scalar m q e o′ w =
         let s = scalar-strip t m (sym (target .1 .head) ∙ sym hh ∙ q) in
         let r : (read a >>= strip) ≡ gives t = rw (target .1 .reads) (strip-given t (s .1) ∙ ap gives (s .0)) in
-        rw (r, target .1 .bytes) w
+        rw (on-one-is strip a room, r, target .1 .bytes) w
 
     module _ (q : (m : ℕ) → h ≡ Scalar m → ⊥) where
       container : (m : ℕ) → header a ≡ Scalar m → ⊥
@@ -119,13 +129,13 @@ module _ (a o : Bytes) (room : ℕ) (c : Check) (hc : c ≡ checked (read a)) wh
 
       -- A container: 8, then 10.
       out-is : on-one strip a room ≡ strip-out a room
-      unfolding on-one strip-out stripped-of unrepeated-of _>>=_
+      unfolding strip-out stripped-of unrepeated-of _>>=_
       out-is =
           let n : nested 64 a ≡ gives t = nested-read a t (target .1 .reads) container in
           let k = contains 64 a oa (target .1 .short) (strip-ready .0) in
           let same : k .0 ≡ t = gives-inj (sym (k .1 .reads) ∙ n) in
           let kc : kind (stripped t) ≡ Container = kind-stripped t ∙ ap kind (sym same) ∙ k .1 .container in
-          rw (target .1 .reads, n) (go (unrepeated t) refl kc)
+          rw (on-one-is strip a room, target .1 .reads, n) (go (unrepeated t) refl kc)
         where
           go : (b : Bool) → unrepeated t ≡ b → kind (stripped t) ≡ Container
               → written room (strip t) ≡ cond b (into room (payload (stripped t))) (refusal RepeatedName)
@@ -137,4 +147,4 @@ module _ (a o : Bytes) (room : ℕ) (c : Check) (hc : c ≡ checked (read a)) wh
 
 pub strip-fits : (a : Bytes) (room : ℕ) → Fits room (on-one strip a room)
 unfolding on-one
-strip-fits a room = written-fits room (read a >>= strip)
+strip-fits a room = record-fits alone (λ t _. strip t >>= λ v. gives (some v)) a [] room

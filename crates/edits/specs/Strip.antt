@@ -2,14 +2,15 @@
 -- root stay. A name repeated among kept members is 8."
 use Prim.Native.Nat.{ℕ}
 use mathlib.Core.Bool.{Bool, true, false, cond, _&&_}
+use mathlib.Core.List.{[]}
+use mathlib.Core.Option.{some}
 use Rattle.layout.specs.Bytes.{Bytes}
 use Rattle.layout.specs.Answer.{Answer, gives, _>>=_, require}
 use Rattle.layout.specs.Tree.{Tree, null, boolean, number, string, extension, array, object, Items, none, item, Members, empty, member, names}
-use Rattle.layout.specs.Read.{read}
-use Rattle.layout.specs.Ended.{Outcome, into}
+use Rattle.layout.specs.Ended.{Outcome}
+use Rattle.layout.specs.Pipeline.{on-record, alone}
 use Rattle.layout.specs.declared.refusal.Refusal.the-variants.{Repeated}
 use Rattle.builders.specs.Order.{in-order, distinct}
-use Rattle.builders.specs.Build.{written}
 
 abbrev pub is-null : Tree → Bool
 is-null null = true
@@ -69,7 +70,7 @@ strip t = do
   _ ← require (unrepeated t) Repeated
   gives (stripped t)
 
--- An edit of one record: its own number, 8, 10.
+-- An edit of one record: nothing stands beside it.
 unfoldable pub on-one : (Tree → Answer Tree) → Bytes → ℕ → Outcome
-unfolding read strip into _>>=_
-on-one edit target room = written room (read target >>= edit)
+unfolding on-record strip
+on-one edit target room = on-record alone (λ t _. edit t >>= λ v. gives (some v)) target [] room

@@ -9,6 +9,7 @@ pub mod Level
 pub mod Decoding
 pub mod Encoding
 pub mod Readables
+pub mod Pipelines
 pub mod ReadCases
 pub mod Values
 pub mod Sames

@@ -15,6 +15,7 @@ pub mod Sound
 pub mod Value
 pub mod Check
 pub mod Ended
+pub mod Pipeline
 pub mod Walk
 -- Forms that follow the code, for the contracts inside the crate; theorems of proofs/ tie each to the definitions above.
 pub mod Order

@@ -19,18 +19,20 @@ use Rattle.layout.specs.declared.refusal.Refusal.the-variants.{Kind, Result, Bu
 use Rattle.layout.proofs.Answers.{gives-inj}
 use Rattle.layout.proofs.Encoding.{read-encode}
 use Rattle.layout.proofs.Readables.{length-encode}
-use Rattle.builders.specs.Build.{append, build, within, written, on-two}
+use Rattle.layout.specs.Pipeline.{within, written}
+use Rattle.builders.specs.Build.{append, build, on-two}
 use Rattle.builders.proofs.Results.{on-two-is, within-is}
 use Rattle.edits.specs.Path.{Step, path-of}
 use Rattle.edits.specs.Delete.{delete, deletable}
-use Rattle.edits.specs.Keypath.{get-by, delete-by, found, on-path}
+use Rattle.layout.specs.Pipeline.{found}
+use Rattle.edits.specs.Keypath.{get-by, delete-by, on-path}
 use Rattle.edits.specs.Concat.{concat}
 use Rattle.edits.specs.Strip.{strip, on-one}
 use Rattle.edits.proofs.Kept.{NoMore, look-up-kept, delete-kept}
 use Rattle.edits.proofs.Lookups.{get-is}
 use Rattle.edits.proofs.Strips.{strip-shrinks}
 use Rattle.edits.proofs.PathResults.{on-path-is}
-use Rattle.edits.proofs.OperatorResults.{on-one-is}
+use Rattle.edits.proofs.StripWrites.{on-one-is}
 use Rattle.runs.specs.declared.call.Edit.{Edit}
 use Rattle.runs.specs.declared.call.Edit.the-variants.{Get, Delete, Concat, Strip, Append, Build}
 use Rattle.runs.specs.Call.{outcome}
