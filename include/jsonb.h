@@ -1,7 +1,7 @@
 /*
  * JSONB records for the flight computer: the check and the edits.
  *
- * The functions are those of the static library that tools/library makes, target/staticlib/libedits.a, for x86-64 Linux.
+ * The functions are those of the static library that tools/library makes, target/staticlib/libjsonb.a, for x86-64 Linux.
  * Each is proved to end, and to answer what Keypath.antt, Concat.antt and Strip.antt of crates/edits/specs and
  * crates/builders/specs/Build.antt define (the check: crates/layout/specs/Read.antt) as a number by crates/edits/specs/C.antt, on
  * every record, path and buffer. They keep nothing between calls, take no memory but the stack, and may be called from several

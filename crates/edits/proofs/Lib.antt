@@ -48,5 +48,5 @@ pub mod Overlays
 pub mod ConcatWrites
 pub mod PathResults
 pub mod OperatorResults
-pub mod ForC
+pub mod Limited
 pub mod Worked

@@ -7,7 +7,6 @@ pub mod Delete
 pub mod Keypath
 pub mod Concat
 pub mod Strip
-pub mod C
 -- Forms that follow the code, for the contracts inside the crate; theorems of proofs/ tie each to the definitions above.
 pub mod Steps
 pub mod Spot

@@ -1,5 +1,4 @@
-// The edits: look-up and delete by a path, concat, strip, and the functions for C.
-pub mod c;
+// The edits: look-up and delete by a path, concat, strip.
 pub mod delete;
 pub mod find;
 pub mod keypath;

@@ -1,8 +1,8 @@
 // The functions for the flight computer's C code; include/jsonb.h is for its programmers. A slice is a pointer and a length there.
-use crate::operator::concat;
-use crate::operator::strip_nulls;
-use crate::path::delete_by_keypath;
-use crate::path::get_by_keypath;
+use edits::operator::concat;
+use edits::operator::strip_nulls;
+use edits::path::delete_by_keypath;
+use edits::path::get_by_keypath;
 use builders::builder::append;
 use builders::builder::build_object;
 use layout::check::Check;
@@ -16,10 +16,10 @@ ghost use Rattle.layout.specs.Read.{read};
 ghost use Rattle.layout.specs.Check.{checked};
 ghost use Rattle.layout.specs.Refusal.{number};
 ghost use Rattle.builders.specs.Build.{append as appendOf, build, «on-two» as onTwo};
 ghost use Rattle.edits.specs.Keypath.{«get-by» as getBy, «delete-by» as deleteBy, «on-path» as onPath};
 ghost use Rattle.edits.specs.Concat.{concat as concatOf};
 ghost use Rattle.edits.specs.Strip.{strip, «on-one» as onOne};
-ghost use Rattle.edits.specs.C.{«c-check» as cCheck, «c-ending» as cEnding, EndedC};
+ghost use Rattle.jsonb.specs.C.{«c-check» as cCheck, «c-ending» as cEnding, EndedC};
 
 // The answer where the record is readable, and that of an absence, which is above every length. A refusal's number is added to
 // it.

@@ -1,8 +1,8 @@
--- `edits::c::jsonb_build_object` meets its contract.
-use Rattle.edits.proofs.ForC.{ended-c}
+-- `jsonb::c::jsonb_build_object` meets its contract.
+use Rattle.jsonb.proofs.ForC.{ended-c}
 use borrow.Author.Needs.{needs}
-use Rattle.edits.proofs.c.jsonb_build_object.Statement.{statement}
-use Rattle.edits.proofs.c.jsonb_build_object.Tie as tie
+use Rattle.jsonb.proofs.c.jsonb_build_object.Statement.{statement}
+use Rattle.jsonb.proofs.c.jsonb_build_object.Tie as tie
 
 returns : tie.Need-returns
 returns c = ended-c _ _ _ _ (c .before .before .before .build-object .ensures) _ (c .c-ending .ensures)

@@ -1,9 +1,9 @@
--- `edits::c::jsonb_check` meets its contract.
+-- `jsonb::c::jsonb_check` meets its contract.
 use mathlib.Core.Path.{sym, ap, _∙_}
-use Rattle.edits.specs.C.{c-check}
+use Rattle.jsonb.specs.C.{c-check}
 use borrow.Author.Needs.{needs}
-use Rattle.edits.proofs.c.jsonb_check.Statement.{statement}
-use Rattle.edits.proofs.c.jsonb_check.Tie as tie
+use Rattle.jsonb.proofs.c.jsonb_check.Statement.{statement}
+use Rattle.jsonb.proofs.c.jsonb_check.Tie as tie
 
 returns : tie.Need-returns
 returns c = ap c-check (sym (c .enum-told .given .1) ∙ c .before .before .check-record .ensures)

@@ -1,8 +1,8 @@
--- `edits::c::jsonb_get_by_keypath` meets its contract.
-use Rattle.edits.proofs.ForC.{ended-c}
+-- `jsonb::c::jsonb_get_by_keypath` meets its contract.
+use Rattle.jsonb.proofs.ForC.{ended-c}
 use borrow.Author.Needs.{needs}
-use Rattle.edits.proofs.c.jsonb_get_by_keypath.Statement.{statement}
-use Rattle.edits.proofs.c.jsonb_get_by_keypath.Tie as tie
+use Rattle.jsonb.proofs.c.jsonb_get_by_keypath.Statement.{statement}
+use Rattle.jsonb.proofs.c.jsonb_get_by_keypath.Tie as tie
 
 returns : tie.Need-returns
 returns c = ended-c _ _ _ _ (c .before .before .before .get-by-keypath .ensures) _ (c .c-ending .ensures)

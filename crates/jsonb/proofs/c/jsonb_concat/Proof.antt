@@ -1,8 +1,8 @@
--- `edits::c::jsonb_concat` meets its contract.
-use Rattle.edits.proofs.ForC.{ended-c}
+-- `jsonb::c::jsonb_concat` meets its contract.
+use Rattle.jsonb.proofs.ForC.{ended-c}
 use borrow.Author.Needs.{needs}
-use Rattle.edits.proofs.c.jsonb_concat.Statement.{statement}
-use Rattle.edits.proofs.c.jsonb_concat.Tie as tie
+use Rattle.jsonb.proofs.c.jsonb_concat.Statement.{statement}
+use Rattle.jsonb.proofs.c.jsonb_concat.Tie as tie
 
 returns : tie.Need-returns
 returns c = ended-c _ _ _ _ (c .before .before .before .concat .ensures) _ (c .c-ending .ensures)

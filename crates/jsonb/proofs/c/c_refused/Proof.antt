@@ -1,9 +1,9 @@
--- `edits::c::c_refused` meets its contract.
+-- `jsonb::c::c_refused` meets its contract.
 use native.Mathlib.Omega.{arith}
-use Rattle.edits.proofs.ForC.{number-range}
+use Rattle.jsonb.proofs.ForC.{number-range}
 use borrow.Author.Needs.{needs}
-use Rattle.edits.proofs.c.c_refused.Statement.{statement}
-use Rattle.edits.proofs.c.c_refused.Tie as tie
+use Rattle.jsonb.proofs.c.c_refused.Statement.{statement}
+use Rattle.jsonb.proofs.c.c_refused.Tie as tie
 
 add-result : tie.Need-add-result
 add-result c = omega (arith, c .number .ensures, number-range (c .before .args .refusal) .1)

@@ -1,8 +1,8 @@
--- `edits::c::jsonb_strip_nulls` meets its contract.
-use Rattle.edits.proofs.ForC.{ended-c}
+-- `jsonb::c::jsonb_strip_nulls` meets its contract.
+use Rattle.jsonb.proofs.ForC.{ended-c}
 use borrow.Author.Needs.{needs}
-use Rattle.edits.proofs.c.jsonb_strip_nulls.Statement.{statement}
-use Rattle.edits.proofs.c.jsonb_strip_nulls.Tie as tie
+use Rattle.jsonb.proofs.c.jsonb_strip_nulls.Statement.{statement}
+use Rattle.jsonb.proofs.c.jsonb_strip_nulls.Tie as tie
 
 returns : tie.Need-returns
 returns c = ended-c _ _ _ _ (c .before .before .before .strip-nulls .ensures) _ (c .c-ending .ensures)

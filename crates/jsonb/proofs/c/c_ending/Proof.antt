@@ -1,9 +1,9 @@
--- `edits::c::c_ending` meets its contract.
+-- `jsonb::c::c_ending` meets its contract.
 use mathlib.Core.Path.{sym, ap, _∙_}
-use Rattle.edits.specs.C.{c-ending}
+use Rattle.jsonb.specs.C.{c-ending}
 use borrow.Author.Needs.{needs}
-use Rattle.edits.proofs.c.c_ending.Statement.{statement}
-use Rattle.edits.proofs.c.c_ending.Tie as tie
+use Rattle.jsonb.proofs.c.c_ending.Statement.{statement}
+use Rattle.jsonb.proofs.c.c_ending.Tie as tie
 
 returns-3 : tie.Need-returns-3
 returns-3 c = c .c-refused .ensures ∙ ap c-ending (sym (c .before .before .ending2 .given .1))

@@ -1,0 +1,2 @@
+-- The answers for C.
+pub mod C
