@@ -1,4 +1,5 @@
 -- The part that a step finds: the item of an array, the value of an object.
+use Rattle.layout.specs.Parts.{start-of}
 use Prim.Native.Nat.{ℕ, suc, _+_, _*_, _-_, _^_, _<_}
 use native.Mathlib.Omega.{arith}
 use native.Mathlib.Nat.{sub-zero, zero-add}
@@ -56,8 +57,8 @@ member-at : (s : Bytes) (n k : ℕ) (key : PartAt) (p : ℕ) → key ≡ nth-par
     → At (record { index = n + key .index; place = p }) ≡ At (nth-part s (n + n) (n + k))
 member-at s n k key p w e =
     let d : n + k - k ≡ n = omega arith in
-    let e′ : p ≡ 4 + 4 * (n + n) + lengths s 0 k + lengths s k n = rw (w, d) at e in
-    let h : p ≡ 4 + 4 * (n + n) + lengths s 0 (n + k) = omega (arith, lengths-two s n k) in
+    let e′ : p ≡ start-of (n + n) + lengths s 0 k + lengths s k n = rw (w, d) at e in
+    let h : p ≡ start-of (n + n) + lengths s 0 (n + k) = omega (arith, lengths-two s n k) in
     rw (w, h)
 
 module _ (s : Bytes) (n : ℕ) (o : Option ℕ) (r : Spot) (key : PartAt) (hr : r ≡ spot-at s (n + n) o) (hk : r ≡ At key) where
@@ -73,7 +74,7 @@ module _ (s : Bytes) (n : ℕ) (o : Option ℕ) (r : Spot) (key : PartAt) (hr : 
       let w = key-part s (n + n) o key (sym hk ∙ hr) in
       let k = w .0 in
       let ei : key .index ≡ k = ap (λ (x : PartAt). x .index) (w .2) in
-      let ep : key .place ≡ 4 + 4 * (n + n) + lengths s 0 k = ap (λ (x : PartAt). x .place) (w .2) in
+      let ep : key .place ≡ start-of (n + n) + lengths s 0 k = ap (λ (x : PartAt). x .place) (w .2) in
       let l : k < n = h k (w .1) in
       (omega arith, omega (arith, lengths-le s 0 k))
 
@@ -151,7 +152,7 @@ unfolding spot
 spot-array n s t = refl
 
 pub spot-object : (n : ℕ) (s : Bytes) (t : Step)
-    → spot (Object n) s t ≡ spot-member s n (first (step-name t) (texts (parts-at s 0 (4 + 4 * (n + n)) n)))
+    → spot (Object n) s t ≡ spot-member s n (first (step-name t) (texts (parts-at s 0 (start-of (n + n)) n)))
 unfolding spot
 spot-object n s t = refl
 
@@ -160,7 +161,7 @@ module _ (s text : Bytes) (k k₀ : KeyPath) (h : Header) (hk : k ≡ k₀) (hh 
   step-array n r q e = rw (← hh, q, spot-array n s (step k₀ text), place-step k₀ text n, ← hk) e
 
   pub step-object : (n : ℕ) (r : Spot) → h ≡ Object n
-      → r ≡ spot-member s n (first (step-name (step k text)) (texts (parts-at s 0 (4 + 4 * (n + n)) n)))
+      → r ≡ spot-member s n (first (step-name (step k text)) (texts (parts-at s 0 (start-of (n + n)) n)))
       → r ≡ spot (header s) s (step k₀ text)
   step-object n r q e = rw (← hh, q, spot-object n s (step k₀ text), ← hk) e
 

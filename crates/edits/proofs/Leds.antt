@@ -1,4 +1,5 @@
 -- A container in which a step leads to a part: what is left of it where the part goes, and where it is written anew.
+use Rattle.layout.specs.Parts.{rises}
 use Prim.Native.Nat.{ℕ, suc, _+_, _*_, _-_, _^_, _≤_, _<_}
 use native.Mathlib.Omega.{arith}
 use native.Mathlib.Numerals.{add-one}
@@ -45,21 +46,21 @@ pub manner-array : (s : Bytes) (h : Header) (n : ℕ) → ByItems n ≡ manner-o
 manner-array s (Array m) n e = cc
 manner-array s (Scalar m) n e = let z : _≡_ {A = ℕ} 0 1 = cc in let w : ⊥ = omega arith in absurd w
 manner-array s (Refused r) n e = let z : _≡_ {A = ℕ} 0 1 = cc in let w : ⊥ = omega arith in absurd w
-manner-array s (Object m) n e = go (rising-parts (parts-at s 0 (4 + 4 * (m + m)) m)) e
+manner-array s (Object m) n e = go (rises s m) e
   where
     go : (g : Bool) → ByItems n ≡ cond g (ByRising m) (Unsorted m) → Object m ≡ Array n
     go true q = let z : _≡_ {A = ℕ} 0 1 = cc in let w : ⊥ = omega arith in absurd w
     go false q = let z : _≡_ {A = ℕ} 0 1 = cc in let w : ⊥ = omega arith in absurd w
 
 pub manner-object : (s : Bytes) (h : Header) (n : ℕ) → ByRising n ≡ manner-of h s
-    → (h ≡ Object n) × (rising-parts (parts-at s 0 (4 + 4 * (n + n)) n) ≡ true)
+    → (h ≡ Object n) × (rises s n ≡ true)
 manner-object s (Array m) n e = let z : _≡_ {A = ℕ} 0 1 = cc in let w : ⊥ = omega arith in absurd w
 manner-object s (Scalar m) n e = let z : _≡_ {A = ℕ} 0 1 = cc in let w : ⊥ = omega arith in absurd w
 manner-object s (Refused r) n e = let z : _≡_ {A = ℕ} 0 1 = cc in let w : ⊥ = omega arith in absurd w
-manner-object s (Object m) n e = go (rising-parts (parts-at s 0 (4 + 4 * (m + m)) m)) refl e
+manner-object s (Object m) n e = go (rises s m) refl e
   where
-    go : (g : Bool) → rising-parts (parts-at s 0 (4 + 4 * (m + m)) m) ≡ g → ByRising n ≡ cond g (ByRising m) (Unsorted m)
-        → (Object m ≡ Object n) × (rising-parts (parts-at s 0 (4 + 4 * (n + n)) n) ≡ true)
+    go : (g : Bool) → rises s m ≡ g → ByRising n ≡ cond g (ByRising m) (Unsorted m)
+        → (Object m ≡ Object n) × (rises s n ≡ true)
     go true r q = let z : m ≡ n = cc in (ap Object z, rw (← z) r)
     go false r q = let z : _≡_ {A = ℕ} 0 1 = cc in let w : ⊥ = omega arith in absurd w
 
@@ -67,7 +68,7 @@ pub manner-search : (s : Bytes) (h : Header) (n : ℕ) → Unsorted n ≡ manner
 manner-search s (Array m) n e = let z : _≡_ {A = ℕ} 0 1 = cc in let w : ⊥ = omega arith in absurd w
 manner-search s (Scalar m) n e = let z : _≡_ {A = ℕ} 0 1 = cc in let w : ⊥ = omega arith in absurd w
 manner-search s (Refused r) n e = let z : _≡_ {A = ℕ} 0 1 = cc in let w : ⊥ = omega arith in absurd w
-manner-search s (Object m) n e = go (rising-parts (parts-at s 0 (4 + 4 * (m + m)) m)) e
+manner-search s (Object m) n e = go (rises s m) e
   where
     go : (g : Bool) → Unsorted n ≡ cond g (ByRising m) (Unsorted m) → Object m ≡ Object n
     go true q = let z : _≡_ {A = ℕ} 0 1 = cc in let w : ⊥ = omega arith in absurd w
@@ -77,7 +78,7 @@ manner-search s (Object m) n e = go (rising-parts (parts-at s 0 (4 + 4 * (m + m)
 pub no-manner : {C : Type 0} (s : Bytes) (h : Header) → Neither ≡ manner-of h s → (a : PartAt) (p : Step) → spot h s p ≡ At a → C
 unfolding spot
 no-manner s (Array m) e a p q = let z : _≡_ {A = ℕ} 0 1 = cc in let w : ⊥ = omega arith in absurd w
-no-manner s (Object m) e a p q = absurd (go (rising-parts (parts-at s 0 (4 + 4 * (m + m)) m)) e)
+no-manner s (Object m) e a p q = absurd (go (rises s m) e)
   where
     go : (g : Bool) → Neither ≡ cond g (ByRising m) (Unsorted m) → ⊥
     go true r = let z : _≡_ {A = ℕ} 0 1 = cc in omega arith
@@ -180,7 +181,7 @@ array-led s n a p o c l h q =
 
 -- An object whose names rise.
 module _ (s : Bytes) (n : ℕ) (a : PartAt) (p : Step) (v : Value-at s n a p) (ha : a ≡ nth-part s (n + n) (a .index))
-    (up : rising-parts (parts-at s 0 (4 + 4 * (n + n)) n) ≡ true) where
+    (up : rises s n ≡ true) where
   abbrev ms : Members
   ms = v .members
 
@@ -193,11 +194,11 @@ module _ (s : Bytes) (n : ℕ) (a : PartAt) (p : Step) (v : Value-at s n a p) (h
   names-all : length (name-parts (names ms)) ≡ n
   names-all = names-count ms ∙ sym (v .count)
 
-  rises : Rising (names ms)
-  rises = object-rises ms s n (v .bytes) (v .short) (v .count) up
+  names-rise : Rising (names ms)
+  names-rise = object-rises ms s n (v .bytes) (v .short) (v .count) up
 
   stays : (o : Option Tree) → in-order (change-member o (step-name p) ms) ≡ change-member o (step-name p) ms
-  stays o = rising-in-order (change-member o (step-name p) ms) (change-rising o (step-name p) ms rises)
+  stays o = rising-in-order (change-member o (step-name p) ms) (change-rising o (step-name p) ms names-rise)
 
   vals-all : length (sp .vals-left) + suc (length (sp .vals-right)) ≡ n
   vals-all = sym (length-append (sp .vals-left) (part (v .value) ∷ sp .vals-right)) ∙ ap length (sym (sp .vals)) ∙ sym (v .count)
@@ -247,7 +248,7 @@ module _ (s : Bytes) (n : ℕ) (a : PartAt) (p : Step) (v : Value-at s n a p) (h
       rw (v .reads, v .found, stays nothing, sp .keys-gone, sp .vals-gone, l, w)
 
 pub rising-led : (s : Bytes) (n : ℕ) (a : PartAt) (p : Step) → Octets s → checked (nested 64 s) ≡ Readable → length s ≤ 65536
-    → header s ≡ Object n → rising-parts (parts-at s 0 (4 + 4 * (n + n)) n) ≡ true → spot (header s) s p ≡ At a
+    → header s ≡ Object n → rises s n ≡ true → spot (header s) s p ≡ At a
     → Led s (n + n) a p × (n ≤ a .index) × (left-of s (p ∷ []) ≡ record-of (2 ^ 30 + (n - 1)) (without-member n (a .index - n) (parts-of s (n + n))))
 rising-led s n a p o c l h up q =
     let v = value-at s n a p o c l h q in (

@@ -1,4 +1,5 @@
 -- How a container is written anew, by its header and its names; and a run of its parts, as the code stores it.
+use Rattle.layout.specs.Parts.{rises, start-of}
 use Prim.Native.Nat.{ℕ, _+_, _*_, _-_}
 use native.Mathlib.Omega.{arith}
 use mathlib.Core.Path.{_≡_}
@@ -20,7 +21,7 @@ module _ (s : Bytes) (h : Header) (hh : h ≡ header s) where
   pub manner-items : (n : ℕ) → h ≡ Array n → Items n ≡ manner-of (header s) s
   manner-items n e = rw (← hh, e)
 
-  module _ (n : ℕ) (g : Bool) (hg : g ≡ rising-parts (parts-at s 0 (4 + 4 * (n + n)) n)) (e : h ≡ Object n) where
+  module _ (n : ℕ) (g : Bool) (hg : g ≡ rises s n) (e : h ≡ Object n) where
     pub manner-rising : g ≡ true → Rising n ≡ manner-of (header s) s
     manner-rising t = rw (← hh, e, ← hg, t)
 
@@ -39,6 +40,6 @@ pub two-stored : (o o₁ o₂ x x′ y y′ : Bytes) (e p : ℕ) → x ≡ x′ 
 two-stored o o₁ o₂ x x′ y y′ e p hx hy e₁ e₂ = rw (e₂, e₁, hx, hy)
 
 -- A name, by its entry and its place.
-pub name-is : (s r : Bytes) (n k p e l : ℕ) → p ≡ 4 + 4 * (n + n) + lengths s 0 (k - 0) → e ≡ entry-at s k → l ≡ length-of e
+pub name-is : (s r : Bytes) (n k p e l : ℕ) → p ≡ start-of (n + n) + lengths s 0 (k - 0) → e ≡ entry-at s k → l ≡ length-of e
     → r ≡ take l (drop p s) → r ≡ name-of s n k
 name-is s r n k p e l hp he hl hr = let z : k - 0 ≡ k = omega arith in rw (hr, hl, he, hp, z)

@@ -1,5 +1,6 @@
 -- Two objects written as one: the members of both in byte order are the object's record; 8 by the names of the right one, 9 by the
 -- length, 10.
+use Rattle.layout.specs.Parts.{start-of}
 use Prim.Native.Nat.{ℕ, _+_, _*_, _/_, _^_, _≤_, _<_}
 use native.Mathlib.Omega.{arith}
 use mathlib.Core.Path.{_≡_, refl, sym, ap, _∙_}
@@ -77,7 +78,7 @@ module _ (l : Bytes) (m : ℕ) (r : Bytes) (n : ℕ) (ol : Octets l) (or : Octet
   abbrev rs : Members
   rs = right .members
 
-  right-names : texts (parts-at r 0 (4 + 4 * (n + n)) n) ≡ names rs
+  right-names : texts (parts-at r 0 (start-of (n + n)) n) ≡ names rs
   right-names = ap texts (object-names rs r n (right .bytes) (right .short) (right .count)) ∙ texts-names (names rs)
 
   -- The object of both, and its members by their places.
@@ -143,7 +144,7 @@ module _ (l : Bytes) (m : ℕ) (r : Bytes) (n : ℕ) (ol : Octets l) (or : Octet
     untouched o = ap (λ (x : Bytes). x ++ o) (he .1 ∙ woven-empty (name-in (r ++ l)) (value-in (r ++ l)) own-entry 0 0 0 0 (merged l m r n))
 
   -- The numbers, in their order.
-  module _ (o : Bytes) (room : ℕ) (d : Bool) (hd : d ≡ distinct (texts (parts-at r 0 (4 + 4 * (n + n)) n))) where
+  module _ (o : Bytes) (room : ℕ) (d : Bool) (hd : d ≡ distinct (texts (parts-at r 0 (start-of (n + n)) n))) where
     told : (b : Bool) → d ≡ b → distinct (names rs) ≡ b
     told b q = ap distinct (sym right-names) ∙ sym hd ∙ q
 

@@ -1,4 +1,5 @@
 -- The parts of a container by their places, and the first of its names that has equal bytes.
+use Rattle.layout.specs.Parts.{start-of}
 use Prim.Native.Nat.{ℕ, suc, _+_, _*_, _-_, _<_, _≤_}
 use native.Mathlib.Omega.{arith}
 use native.Mathlib.Nat.{sub-zero, zero-add, add-zero}
@@ -39,25 +40,25 @@ pub first-start : (name s : Bytes) (start n : ℕ)
 first-start name s start n = rw (sub-zero n) (sym (moved-none _))
 
 module _ (name s : Bytes) (n i p : ℕ)
-    (inv : first name (texts (parts-at s 0 (4 + 4 * (n + n)) n)) ≡ moved i (first name (texts (parts-at s i p (n - i))))) where
+    (inv : first name (texts (parts-at s 0 (start-of (n + n)) n)) ≡ moved i (first name (texts (parts-at s i p (n - i))))) where
   module _ (lt : i < n) (e l : ℕ) (piece : Bytes) (g : Bool) (he : e ≡ entry-at s i) (hl : l ≡ length-of e)
       (hp : piece ≡ take l (drop p s)) (hg : g ≡ same-bytes name piece) where
-    first-turn : first name (texts (parts-at s 0 (4 + 4 * (n + n)) n))
+    first-turn : first name (texts (parts-at s 0 (start-of (n + n)) n))
         ≡ moved i (cond g (some 0) (one-more (first name (texts (parts-at s (i + 1) (p + l) (n - (i + 1)))))))
     unfolding first
     first-turn = inv ∙ rw (parts-step s i p n lt, ← he, ← hl, ← hp, ← hg)
 
-    pub first-found : g ≡ true → p ≡ 4 + 4 * (n + n) + lengths s 0 i
-        → At (record { index = i; place = p }) ≡ spot-at s (n + n) (first name (texts (parts-at s 0 (4 + 4 * (n + n)) n)))
+    pub first-found : g ≡ true → p ≡ start-of (n + n) + lengths s 0 i
+        → At (record { index = i; place = p }) ≡ spot-at s (n + n) (first name (texts (parts-at s 0 (start-of (n + n)) n)))
     unfolding spot-at
     first-found q at = rw (first-turn, q, add-zero i, ← at)
 
     pub first-more : g ≡ false
-        → first name (texts (parts-at s 0 (4 + 4 * (n + n)) n))
+        → first name (texts (parts-at s 0 (start-of (n + n)) n))
         ≡ moved (i + 1) (first name (texts (parts-at s (i + 1) (p + l) (n - (i + 1)))))
     first-more q = first-turn ∙ rw q (moved-more i (first name (texts (parts-at s (i + 1) (p + l) (n - (i + 1))))))
 
-  pub first-none : n ≤ i → Nothing ≡ spot-at s (n + n) (first name (texts (parts-at s 0 (4 + 4 * (n + n)) n)))
+  pub first-none : n ≤ i → Nothing ≡ spot-at s (n + n) (first name (texts (parts-at s 0 (start-of (n + n)) n)))
   unfolding spot-at first parts-at
   first-none h = let z : n - i ≡ 0 = omega arith in rw (inv, z)
 

@@ -1,4 +1,5 @@
 -- The members of an object by their places: without one of them, in byte order, they stand for those of the tree that is left.
+use Rattle.layout.specs.Parts.{start-of}
 use Prim.Native.Nat.{ℕ, suc, _+_, _*_, _-_, _^_, _≤_, _<_}
 use native.Mathlib.Omega.{arith}
 use mathlib.Core.Path.{_≡_, refl, ap, ap₂, sym, _∙_}
@@ -105,11 +106,11 @@ object-stand ms s n e l en =
     ∙ rw (entries-append (name-parts (names ms)) (member-parts ms), append-assoc)) in
     let hb : drop (4 + 4 * n) s ≡ entries (item-parts (values ms)) ++ payloads (name-parts (names ms) ++ member-parts ms) =
     rw (vs, ← nk, ← e) (table-behind (2 ^ 30 + length (member-parts ms)) (name-parts (names ms)) (member-parts ms)) in
-    let hp : drop (4 + 4 * (n + n)) s ≡ payloads (name-parts (names ms)) ++ payloads (member-parts ms) =
+    let hp : drop (start-of (n + n)) s ≡ payloads (name-parts (names ms)) ++ payloads (member-parts ms) =
     rw (← two, ← e) (start-behind (2 ^ 30 + length (member-parts ms)) (name-parts (names ms)) (member-parts ms)) in
-    let hq : drop (4 + 4 * (n + n) + lengths s 0 n) s ≡ payloads (item-parts (values ms)) ++ [] =
+    let hq : drop (start-of (n + n) + lengths s 0 n) s ≡ payloads (item-parts (values ms)) ++ [] =
     rw (vs, ln, append-nil (payloads (member-parts ms)), ← two, ← e) (payloads-behind (2 ^ 30 + length (member-parts ms)) (name-parts (names ms)) (member-parts ms)) in
-    let st = stand-from s s 4 (4 + 4 * n) (4 + 4 * (n + n)) (4 + 4 * (n + n) + lengths s 0 n) (names ms) (values ms) _ _ _ _
+    let st = stand-from s s 4 (4 + 4 * n) (start-of (n + n)) (start-of (n + n) + lengths s 0 n) (names ms) (values ms) _ _ _ _
     (names-length ms ∙ sym (ap length vs))
     (fits-left (name-parts (names ms)) (member-parts ms) (f .fits))
     (rw vs (fits-right (name-parts (names ms)) (member-parts ms) (f .fits)))
@@ -204,8 +205,8 @@ pub record Object-at (s : Bytes) (n : ℕ) : Type 0 where
   pub bytes : payload (object members) ≡ s
   pub short : length s ≤ 65536
   pub count : n ≡ length (member-parts members)
-  pub table : 4 + 4 * (n + n) ≤ length s
-  pub values : 4 + 4 * (n + n) + lengths s 0 n ≤ length s
+  pub table : start-of (n + n) ≤ length s
+  pub values : start-of (n + n) + lengths s 0 n ≤ length s
   pub stand : Stand (name-in s) (value-in s) own-entry (members-at s s (members-of s n) n) members
 
 pub object-at : (s : Bytes) (n : ℕ) → Octets s → checked (nested 64 s) ≡ Readable → length s ≤ 65536 → header s ≡ Object n → Object-at s n
@@ -238,8 +239,8 @@ pub record Value-at (s : Bytes) (n : ℕ) (val : PartAt) (p : Step) : Type 0 whe
   pub index : val .index ≡ n + member-split (step-name p) members value found .count
   pub stands : val ≡ nth-part s (n + n) (val .index)
   pub below : member-split (step-name p) members value found .count < n
-  pub table : 4 + 4 * (n + n) ≤ length s
-  pub values : 4 + 4 * (n + n) + lengths s 0 n ≤ length s
+  pub table : start-of (n + n) ≤ length s
+  pub values : start-of (n + n) + lengths s 0 n ≤ length s
   pub stand : Stand (name-in s) (value-in s) own-entry (members-at s s (members-of s n) n) members
 
 pub value-at : (s : Bytes) (n : ℕ) (val : PartAt) (p : Step) → Octets s → checked (nested 64 s) ≡ Readable → length s ≤ 65536

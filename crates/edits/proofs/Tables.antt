@@ -1,4 +1,5 @@
 -- A readable container by its bytes: its tree, and its parts.
+use Rattle.layout.specs.Parts.{rises, start-of}
 use Prim.Native.Nat.{ℕ, _+_, _*_, _^_, _≤_}
 use native.Mathlib.Omega.{arith}
 use mathlib.Core.Path.{_≡_, refl, ap, sym, _∙_}
@@ -128,14 +129,14 @@ object-parted ms s e l =
 
 -- Its names, by their parts.
 pub object-names : (ms : Members) (s : Bytes) (n : ℕ) → payload (object ms) ≡ s → length s ≤ 65536 → n ≡ length (member-parts ms)
-    → parts-at s 0 (4 + 4 * (n + n)) n ≡ name-parts (names ms)
+    → parts-at s 0 (start-of (n + n)) n ≡ name-parts (names ms)
 object-names ms s n e l c =
     let all : parts-of s (n + n) ≡ name-parts (names ms) ++ member-parts ms = ap (λ (m : ℕ). parts-of s (m + m)) c ∙ object-parted ms s e l .0 in
-    sym (take-parts s 0 (4 + 4 * (n + n)) n n) ∙ ap (take n) all ∙ take-at (name-parts (names ms)) (member-parts ms) n (names-count ms ∙ sym c)
+    sym (take-parts s 0 (start-of (n + n)) n n) ∙ ap (take n) all ∙ take-at (name-parts (names ms)) (member-parts ms) n (names-count ms ∙ sym c)
 
 -- Where its names rise by the test, they rise.
 pub object-rises : (ms : Members) (s : Bytes) (n : ℕ) → payload (object ms) ≡ s → length s ≤ 65536 → n ≡ length (member-parts ms)
-    → rising-parts (parts-at s 0 (4 + 4 * (n + n)) n) ≡ true → Rising (names ms)
+    → rises s n ≡ true → Rising (names ms)
 object-rises ms s n e l c up =
     let r : rising (names ms) ≡ true = sym (rising-names (names ms)) ∙ ap rising-parts (sym (object-names ms s n e l c)) ∙ up in
     rising-test (names ms) .0 (rw r tt)

@@ -1,5 +1,6 @@
 -- Members stored as they stand; and two objects whose names rise, walked through side by side: the turns are those of
 -- proofs/Merges.antt, with what stands next on each side.
+use Rattle.layout.specs.Parts.{rises}
 use Prim.Native.Nat.{ℕ, zero, suc, _+_, _*_, _-_, _^_, _≤_, _<_}
 use native.Mathlib.Nat.{sub-zero}
 use native.Mathlib.Omega.{arith}
@@ -26,7 +27,7 @@ use Rattle.builders.proofs.Searches.{length-members, bytes-short}
 use Rattle.builders.proofs.Storing.{column-cons, column-none}
 use Rattle.layout.specs.Parts.{members-of, behind-member}
 use Rattle.edits.specs.Members.{all-ahead, Near, Standing, Next}
-use Rattle.edits.specs.Merge.{chosen, merged, behind-members, behind-all, rises}
+use Rattle.edits.specs.Merge.{chosen, merged, behind-members, behind-all}
 use Rattle.edits.specs.declared.members.Ahead.{Ahead}
 use Rattle.edits.specs.declared.members.Taken.{Taken}
 use Rattle.edits.specs.declared.members.Taken.the-variants.{End as NoMember, Member}

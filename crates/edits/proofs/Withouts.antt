@@ -1,4 +1,5 @@
 -- An array and an object without one of their items, as the code stores them.
+use Rattle.layout.specs.Parts.{start-of}
 use Prim.Native.Nat.{ℕ, _+_, _*_, _-_, _^_, _≤_, _<_}
 use native.Mathlib.Omega.{arith}
 use mathlib.Core.Path.{_≡_, refl, ap, sym, _∙_}
@@ -59,14 +60,14 @@ module _ (s : Bytes) (n : ℕ) (p : Parted s (n + n)) (val : PartAt) (h : PartOf
   val-at : val .index ≡ length (mem .left) + 1 + length (mem .middle)
   val-at = omega (arith, mem .before, mem .between, lo)
 
-  val-stands : val .place ≡ 4 + 4 * (n + n) + lengths s 0 (val .index)
+  val-stands : val .place ≡ start-of (n + n) + lengths s 0 (val .index)
   val-stands = ap (λ (x : PartAt). x .place) (h .is)
 
   pub record Bounds : Type 0 where
-    pub table : 4 + 4 * (n + n) ≤ length s
+    pub table : start-of (n + n) ≤ length s
     pub short : length s ≤ 65536
     pub inside : val .index < n + n
-    pub key-below : 4 + 4 * (n + n) + lengths s 0 (val .index - n) + length-of (entry-at s (val .index - n)) ≤ val .place
+    pub key-below : start-of (n + n) + lengths s 0 (val .index - n) + length-of (entry-at s (val .index - n)) ≤ val .place
     pub val-below : val .place + length-of (entry-at s (val .index)) ≤ length s
 
   pub bounds : Bounds
@@ -86,7 +87,7 @@ module _ (s : Bytes) (n : ℕ) (p : Parted s (n + n)) (val : PartAt) (h : PartOf
 
   module _ (o o₁ o₂ o₃ o₄ : Bytes) (at w place : ℕ) (start keys vals end : Cursor) (next after : PartAt) where
     abbrev first : PartAt
-    first = record { index = 0; place = 4 + 4 * (n + n) }
+    first = record { index = 0; place = start-of (n + n) }
 
     abbrev last : PartAt
     last = record { index = n + n; place = length s }
@@ -94,7 +95,7 @@ module _ (s : Bytes) (n : ℕ) (p : Parted s (n + n)) (val : PartAt) (h : PartOf
     abbrev name : PartAt
     name = record { index = val .index - n; place = place }
 
-    pub object-gone : w ≡ bitOr (2 ^ 30) (n - 1) → place ≡ 4 + 4 * (n + n) + lengths s 0 (val .index - n - 0) → o₁ ≡ patch o at (be32 w)
+    pub object-gone : w ≡ bitOr (2 ^ 30) (n - 1) → place ≡ start-of (n + n) + lengths s 0 (val .index - n - 0) → o₁ ≡ patch o at (be32 w)
         → start .jentry ≡ at + 4 → start .place ≡ at + 4 + 4 * (n - 1 + (n - 1))
         → (keys ≡ run-behind first name start)
         × (o₂ ≡ patch (patch o₁ (start .jentry) (run-entries s first name)) (start .place) (run-payloads s first name))
@@ -113,5 +114,5 @@ module _ (s : Bytes) (n : ℕ) (p : Parted s (n + n)) (val : PartAt) (h : PartOf
         o o₁ o₂ o₃ o₄ at w start keys vals end next after e₁ sj (omega (arith, sp, lo, h .inside)) h₁ en h₂ ea h₃)
 
 -- The place of a name, as the code sums it.
-pub key-stands : (s : Bytes) (n k : ℕ) {place : ℕ} → place ≡ 4 + 4 * (n + n) + lengths s 0 (k - 0) → place ≡ 4 + 4 * (n + n) + lengths s 0 k
+pub key-stands : (s : Bytes) (n k : ℕ) {place : ℕ} → place ≡ start-of (n + n) + lengths s 0 (k - 0) → place ≡ start-of (n + n) + lengths s 0 k
 key-stands s n k e = let z : k - 0 ≡ k = omega arith in rw z at e

@@ -1,5 +1,6 @@
 -- A container without an item, or with one written anew, as the code of delete stores it. `array-led` and `rising-led` of
 -- proofs/Leds.antt, `gone` of proofs/Sorteds.antt and `below` of proofs/Onwards.antt tie it to `left`.
+use Rattle.layout.specs.Parts.{rises, start-of}
 use Prim.Native.Nat.{ℕ, suc, _+_, _*_, _-_, _^_, _≤_, _<_}
 use mathlib.Core.Path.{_≡_}
 use mathlib.Core.Logic.{_⊎_}
@@ -76,7 +77,7 @@ pub record Onward (s path : Bytes) (w : Way) (p : PartAt) : Type 0 where
 abbrev pub InRuns : Bytes → ℕ → Type 0
 InRuns s n =
     (header s ≡ Array n)
-    ⊎ ((m : ℕ) × (header s ≡ Object m) × (n ≡ m + m) × (rising-parts (parts-at s 0 (4 + 4 * (m + m)) m) ≡ true))
+    ⊎ ((m : ℕ) × (header s ≡ Object m) × (n ≡ m + m) × (rises s m ≡ true))
 
 -- What is stored of it, and its length.
 pub record Left (r : ℕ) (before after : Bytes) (at : ℕ) (b : Bytes) : Type 0 where
@@ -130,13 +131,13 @@ without-member n k ps = without k (take n ps) ++ without k (drop n ps)
 -- How a container is written anew.
 abbrev pub manner-of : Header → Bytes → Manner
 manner-of (Array n) s = Items n
-manner-of (Object n) s = cond (rising-parts (parts-at s 0 (4 + 4 * (n + n)) n)) (Rising n) (Unsorted n)
+manner-of (Object n) s = cond (rises s n) (Rising n) (Unsorted n)
 manner-of (Scalar n) s = Neither
 manner-of (Refused r) s = Neither
 
 -- The name of member `k`.
 abbrev pub name-of : Bytes → ℕ → ℕ → Bytes
-name-of s n k = part-at s k (4 + 4 * (n + n) + lengths s 0 k) .bytes
+name-of s n k = part-at s k (start-of (n + n) + lengths s 0 k) .bytes
 
 -- The value of a member and its entry, where the values of a name are written anew.
 abbrev pub anew-value : Bytes → Bytes → List Step → MemberAt → Bytes

@@ -1,5 +1,6 @@
 -- The members of an object by their places, as the code takes them in byte order of their names: where the names rise they are
 -- taken as they stand, elsewhere each is searched for. `next-is` of proofs/Aheads.antt ties both to the search of builders.
+use Rattle.layout.specs.Parts.{rises}
 use Prim.Native.Nat.{ℕ, _+_, _*_, _-_, _^_, _≤_, _<_}
 use mathlib.Core.Path.{_≡_}
 use mathlib.Core.Bool.{true, false}
@@ -44,7 +45,7 @@ all-ahead s n =
       at = members-of s n;
       index = 0;
       count = n;
-      «is_rising» = rising-parts (parts-at s 0 (4 + 4 * (n + n)) n);
+      «is_rising» = rises s n;
     }
 
 abbrev pub kept-ahead : Bytes → Kept → Ahead → List MemberAt

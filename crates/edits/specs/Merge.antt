@@ -71,7 +71,3 @@ behind-members s ms to =
 
 abbrev pub behind-all : Bytes → ℕ → Bytes → ℕ → Places → Places
 behind-all l m r n to = behind-members (r ++ l) (merged l m r n) to
-
--- Whether the names of an object rise.
-abbrev pub rises : Bytes → ℕ → Bool
-rises s n = rising-parts (parts-at s 0 (4 + 4 * (n + n)) n)

@@ -1,4 +1,5 @@
 -- The part of a container that a step finds, by its place. proofs/Spots.antt ties it to `step-into`.
+use Rattle.layout.specs.Parts.{start-of}
 use Prim.Native.Nat.{ℕ, suc, _+_, _*_}
 use mathlib.Core.Bool.{cond}
 use mathlib.Core.List.{List, [], _∷_}
@@ -49,6 +50,6 @@ spot-member s n (some k) = At (nth-part s (n + n) (n + k))
 unfoldable pub spot : Header → Bytes → Step → Spot
 unfolding spot-at spot-member
 spot (Array n) s t = spot-at s n (step-place t n)
-spot (Object n) s t = spot-member s n (first (step-name t) (texts (parts-at s 0 (4 + 4 * (n + n)) n)))
+spot (Object n) s t = spot-member s n (first (step-name t) (texts (parts-at s 0 (start-of (n + n)) n)))
 spot (Scalar n) s t = Nothing
 spot (Refused r) s t = Nothing

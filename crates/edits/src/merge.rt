@@ -36,7 +36,8 @@ ghost use Rattle.builders.specs.Build.{«on-two» as onTwo};
 ghost use Rattle.layout.specs.Parts.{«members-at» as membersAt, «name-in» as nameIn, «value-in» as valueIn};
 ghost use Rattle.builders.specs.Weave.{«own-entry» as ownEntry, woven};
 ghost use Rattle.edits.specs.Concat.{concat};
-ghost use Rattle.edits.specs.Merge.{chosen, Objects, merged, rises};
+ghost use Rattle.edits.specs.Merge.{chosen, Objects, merged};
+ghost use Rattle.layout.specs.Parts.{rises};
 ghost use Rattle.edits.specs.Merge.{«behind-members» as behindMembers, «behind-all» as behindAll};
 
 // Where the next member comes from: the side, the member and what is then ahead there; of equal names both sides, the right one's

@@ -2,15 +2,25 @@
 -- members, of one object or of an array of names and one of values, by the places of their two entries and payloads. A part with its
 -- kind and bytes is `part-at` of Place.antt.
 use Prim.Native.Nat.{ℕ, zero, suc, _+_, _*_}
+use mathlib.Core.Bool.{Bool}
 use mathlib.Core.List.{List, [], _∷_}
 use lib.ListN.{take, drop}
 use Rattle.layout.specs.Bytes.{Bytes, word-at}
 use Rattle.layout.specs.Entry.{length-of, entry-at, lengths}
 use Rattle.layout.specs.Encode.{Part}
+use Rattle.layout.specs.Place.{parts-at, rising-parts}
 use Rattle.layout.specs.declared.parts.ItemAt.{ItemAt}
 use Rattle.layout.specs.declared.parts.MemberAt.{MemberAt}
 use Rattle.layout.specs.declared.parts.Places.{Places}
 use Rattle.layout.specs.declared.parts.PartAt.{PartAt}
+
+-- Where the payloads of `n` parts start.
+abbrev pub start-of : ℕ → ℕ
+start-of n = 4 + 4 * n
+
+-- Whether the names of an object of `n` members rise.
+abbrev pub rises : Bytes → ℕ → Bool
+rises s n = rising-parts (parts-at s 0 (start-of (n + n)) n)
 
 -- The bytes of each of some parts.
 abbrev pub texts : List Part → List Bytes

@@ -1,4 +1,5 @@
 -- Equal values: the code's way through the bytes of two trees comes to the layout's `Same`.
+use Rattle.layout.specs.Parts.{start-of}
 use Prim.Native.Nat.{ℕ, zero, suc, _+_, _*_, _^_, _<_, _≤_}
 use native.Mathlib.Omega.{arith}
 use native.Mathlib.Decide.{ℕ-discrete}
@@ -175,7 +176,7 @@ members-record ms f =
     let mp : List Part = member-parts ms in
     let n : ℕ = length mp in
     let s : Bytes = payload (object ms) in
-    let p : ℕ = 4 + 4 * (n + n) in
+    let p : ℕ = start-of (n + n) in
     let w = names-at (2 ^ 30 + n) n np mp (names-count ms) (f .whole) (f .fits) (f .named) in
     let z : n + 0 ≡ 0 + n = omega arith in
     let v : parts-at s (0 + n) (p + lengths s 0 n) n ≡ mp = sym (drop-parts s 0 p n n) ∙ ap (drop n) (w .0) ∙ drop-at np mp n (names-count ms) in

@@ -1,4 +1,5 @@
 -- How the comparison of two records goes, in the terms of the code: each law answers one step, or the start or end of a loop.
+use Rattle.layout.specs.Parts.{start-of}
 use Prim.Native.Nat.{ℕ, zero, suc, _+_, _*_, _-_, _^_, _<_, _≤_, min}
 use native.Mathlib.Omega.{arith}
 use native.Mathlib.Nat.{sub-zero}
@@ -99,7 +100,7 @@ module _ (f : Bytes → Bytes → Bool) (a b : Bytes) (start i p q n : ℕ)
     items-more e l v m he hl hv hm t = rw (hl, he, hm, hv, items-turn, t)
 
 -- Members by their places.
-pub first-told : (s : Bytes) (n l : ℕ) → l ≡ lengths s 0 n → record { index = 0; name = 4 + 4 * (n + n); value = 4 + 4 * (n + n) + l } ≡ first s n
+pub first-told : (s : Bytes) (n l : ℕ) → l ≡ lengths s 0 n → record { index = 0; name = start-of (n + n); value = start-of (n + n) + l } ≡ first s n
 unfolding first
 first-told s n l h = rw h
 

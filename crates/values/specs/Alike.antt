@@ -1,4 +1,5 @@
 -- Equal values by places in the bytes, as the code goes. proofs/Alikes.antt ties it to the layout's `Same`.
+use Rattle.layout.specs.Parts.{start-of}
 use Prim.Native.Nat.{ℕ, zero, suc, _+_, _*_, _^_, _≤_}
 use mathlib.Core.Bool.{Bool, true, false, cond, _&&_}
 use mathlib.Core.List.{List, [], _∷_}
@@ -67,7 +68,7 @@ members-from s n m zero = []
 members-from s n m (suc k) = member-at s n m ∷ members-from s n (next s n m) k
 
 unfoldable pub first : Bytes → ℕ → MemberAt
-first s n = record { index = 0; name = 4 + 4 * (n + n); value = 4 + 4 * (n + n) + lengths s 0 n }
+first s n = record { index = 0; name = start-of (n + n); value = start-of (n + n) + lengths s 0 n }
 
 abbrev pub members : Bytes → ℕ → List Member
 members s n = members-from s n (first s n) n

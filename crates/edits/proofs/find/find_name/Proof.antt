@@ -1,4 +1,5 @@
 -- `edits::find::find_name` meets its contract.
+use Rattle.layout.specs.Parts.{start-of}
 use native.Mathlib.Omega.{arith}
 use borrow.Author.Needs.{needs}
 use Prim.Native.Nat.{_+_, _-_, _*_, _^_, _≤_}
@@ -16,9 +17,9 @@ use Rattle.edits.proofs.find.find_name.Tie as tie
 abbrev Inv-loop : tie.InvT-loop
 Inv-loop s n name place₀ i₀ place i =
     (i ≤ n)
-    × (place ≤ 4 + 4 * (n + n) + 2 ^ 28 * i)
-    × (place ≡ 4 + 4 * (n + n) + lengths s 0 i)
-    × (first name (texts (parts-at s 0 (4 + 4 * (n + n)) n)) ≡ moved i (first name (texts (parts-at s i place (n - i)))))
+    × (place ≤ start-of (n + n) + 2 ^ 28 * i)
+    × (place ≡ start-of (n + n) + lengths s 0 i)
+    × (first name (texts (parts-at s 0 (start-of (n + n)) n)) ≡ moved i (first name (texts (parts-at s i place (n - i)))))
 
 abbrev μ-loop : tie.MeasureT-loop
 μ-loop s n name place₀ i₀ place i = n - i
