@@ -1,10 +1,10 @@
 // The functions for the flight computer's C code; include/jsonb.h is for its programmers. A slice is a pointer and a length there.
+use builders::builder::append;
+use builders::builder::build_object;
 use edits::operator::concat;
 use edits::operator::strip_nulls;
 use edits::path::delete_by_keypath;
 use edits::path::get_by_keypath;
-use builders::builder::append;
-use builders::builder::build_object;
 use layout::check::Check;
 use layout::check::check_record;
 use layout::ending::Ending;
