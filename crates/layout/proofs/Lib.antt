@@ -1,6 +1,7 @@
 -- The laws of the layout, from the leaf up.
 pub mod Fields
 pub mod Patches
+pub mod Decimals
 pub mod Patterns
 pub mod Numbers
 pub mod Words

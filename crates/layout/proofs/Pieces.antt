@@ -2,11 +2,11 @@
 use Prim.Native.Nat.{ℕ, _+_, _*_, _-_, _^_, _<_, _≤_}
 use native.Mathlib.Omega.{arith}
 use native.Mathlib.Nat.{zero-add, add-zero}
-use mathlib.Core.Path.{_≡_, refl, sym, _∙_}
+use mathlib.Core.Path.{_≡_, refl, sym, ap, _∙_}
 use lib.ListN.{take, drop}
 use Rattle.layout.specs.Bytes.{Bytes}
 use Rattle.layout.specs.Entry.{length-of, entry-at, lengths}
-use Rattle.layout.specs.Parts.{bytes-at, next-part, members-of, past, behind-member}
+use Rattle.layout.specs.Parts.{start-of, first-part, part-payload, bytes-at, next-part, members-of, past, behind-member}
 use Rattle.layout.specs.declared.parts.ItemAt.{ItemAt}
 use Rattle.layout.specs.declared.parts.MemberAt.{MemberAt}
 use Rattle.layout.specs.declared.parts.PartAt.{PartAt}
@@ -18,6 +18,14 @@ use Rattle.layout.proofs.Places.{lengths-split}
 pub payload-is : (r s : Bytes) (x : ItemAt) (n : ℕ) → n ≡ length-of (x .jentry) → r ≡ take n (drop (x .place) s)
     → r ≡ bytes-at s x
 payload-is r s x n e h = rw (h, e)
+
+-- The first part, by its two numbers, as sums want them.
+pub first-is : (n : ℕ) {p : PartAt} → p ≡ first-part n → (p .index ≡ 0) × (p .place ≡ 4 + 4 * n)
+first-is n e = (ap (λ (p : PartAt). p .index) e, ap (λ (p : PartAt). p .place) e)
+
+pub part-payload-is : (r s : Bytes) (p : PartAt) (e l : ℕ) → e ≡ entry-at s (p .index) → l ≡ length-of e
+    → r ≡ take l (drop (p .place) s) → r ≡ part-payload s p
+part-payload-is r s p e l he hl h = rw (h, hl, he)
 
 pub part-behind-is : (s : Bytes) (p : PartAt) (e l : ℕ) → e ≡ entry-at s (p .index) → l ≡ length-of e
     → record { index = p .index + 1; place = p .place + l } ≡ next-part s p
@@ -50,9 +58,10 @@ place-next s start i p e l he hl at =
     omega (arith, lengths-snoc s i)
 
 -- The places of the members of an object.
-pub members-places : (s : Bytes) (n p : ℕ) → p ≡ 4 + 4 * (n + n) + lengths s 0 (n - 0)
-    → record { «key_jentry» = 4; «val_jentry» = 4 + 4 * n; key = 4 + 4 * (n + n); val = p } ≡ members-of s n
-members-places s n p e = let z : n - 0 ≡ n = omega arith in rw (e, z)
+pub members-places : (s : Bytes) (n p : ℕ) (first : PartAt) → first ≡ first-part (n + n)
+    → p ≡ first .place + lengths s (first .index) (n - first .index)
+    → record { «key_jentry» = 4; «val_jentry» = start-of n; key = first .place; val = p } ≡ members-of s n
+members-places s n p first f e = let z : n - 0 ≡ n = omega arith in rw (e, f, z)
 
 -- The places behind a member, by the lengths of its name and value.
 pub behind-is : (r at : Places) (m : MemberAt) (k v : ℕ) → k ≡ length-of (m .key .jentry) → v ≡ length-of (m .val .jentry)

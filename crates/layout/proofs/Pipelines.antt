@@ -2,17 +2,20 @@
 use Prim.Native.Nat.{ℕ, _≤_}
 use native.Mathlib.Omega.{arith}
 use mathlib.Core.Path.{_≡_, refl, sym, _∙_}
+use mathlib.Core.Bool.{Bool, true, false, not, cond}
 use mathlib.Core.Option.{Option, none as nothing, some}
+use lib.Dec.{T, ltb, nltb→le}
 use lib.ListN.{length}
 use Rattle.layout.specs.Bytes.{Bytes}
 use Rattle.layout.specs.Answer.{Answer, gives, refused, _>>=_}
 use Rattle.layout.specs.Tree.{Tree}
 use Rattle.layout.specs.Encode.{encode}
 use Rattle.layout.specs.Read.{read}
-use Rattle.layout.specs.Ended.{Outcome, result, into}
+use Rattle.layout.specs.Ended.{result, refusal, into}
 use Rattle.layout.specs.Room.{EndedIn, Fits}
 use Rattle.layout.specs.Pipeline.{found, written, on-record}
 use Rattle.layout.specs.declared.refusal.Refusal.{Refusal}
+use Rattle.layout.specs.declared.refusal.Refusal.the-variants.{Buffer}
 use Rattle.layout.specs.declared.ending.Ending.{Ending}
 use Rattle.layout.specs.declared.ending.Ending.the-variants.{Absent, Refused}
 use Rattle.layout.proofs.Answers.{from-bind}
@@ -28,6 +31,26 @@ found-fits : (room : ℕ) (m : Answer (Option Tree)) → Fits room (found room m
 found-fits room (gives nothing) = tt
 found-fits room (gives (some t)) = into-fits room (encode t)
 found-fits room (refused x) = tt
+
+-- A result, and what it is the record of; it goes into the room.
+into-result : (room : ℕ) (x b : Bytes) → into room x ≡ result b → (b ≡ x) × (length b ≤ room)
+unfolding into
+into-result room x b = go (ltb room (length x)) (nltb→le room (length x))
+  where
+    go : (t : Bool) → (T (not t) → length x ≤ room) → cond t (refusal Buffer) (result x) ≡ result b → (b ≡ x) × (length b ≤ room)
+    go true h q = let z : _≡_ {A = ℕ} 0 1 = cc in let w : ⊥ = omega arith in absurd w
+    go false h q = let e : b ≡ x = cc in (e, rw e (h tt))
+
+pub found-result : (room : ℕ) (m : Answer (Option Tree)) (b : Bytes) → found room m ≡ result b
+    → (v : Tree) × (m ≡ gives (some v)) × (b ≡ encode v) × (length b ≤ room)
+found-result room (refused r) b e = let z : _≡_ {A = ℕ} 0 1 = cc in let w : ⊥ = omega arith in absurd w
+found-result room (gives nothing) b e = let z : _≡_ {A = ℕ} 0 1 = cc in let w : ⊥ = omega arith in absurd w
+found-result room (gives (some v)) b e = let i = into-result room (encode v) b e in (v, refl, i .0, i .1)
+
+pub written-result : (room : ℕ) (m : Answer Tree) (b : Bytes) → written room m ≡ result b
+    → (v : Tree) × (m ≡ gives v) × (b ≡ encode v) × (length b ≤ room)
+written-result room (refused r) b e = let z : _≡_ {A = ℕ} 0 1 = cc in let w : ⊥ = omega arith in absurd w
+written-result room (gives v) b e = let i = into-result room (encode v) b e in (v, refl, i .0, i .1)
 
 module _ {P : Type 0} (beside : Bytes → Answer P) (edit : Tree → P → Answer (Option Tree)) (target other : Bytes) (room : ℕ) where
   pub on-record-is : on-record beside edit target other room ≡ found room (read target >>= λ t. beside other >>= λ p. edit t p)

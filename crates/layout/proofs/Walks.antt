@@ -12,6 +12,7 @@ use Rattle.layout.specs.Tree.{Tree}
 use Rattle.layout.specs.Check.{checked}
 use Rattle.layout.specs.Entry.{length-of, entry-at, lengths}
 use Rattle.layout.specs.Walk.{entry-good, item-of, array-step, member-step, object-step, array-walk, object-walk, opening, array-opened, object-opened}
+use Rattle.layout.specs.Parts.{first-part, members-of}
 use Rattle.layout.proofs.Fields.{inside-le, length-lt}
 use Rattle.layout.specs.declared.refusal.Refusal.{Refusal}
 use Rattle.layout.specs.declared.refusal.Refusal.the-variants.{Short, Layout}
@@ -26,6 +27,8 @@ use Rattle.layout.specs.declared.iterator.ArrayStep.the-variants.{Item, 
 use Rattle.layout.specs.declared.iterator.ObjectIterator.{ObjectIterator}
 use Rattle.layout.specs.declared.iterator.ObjectOpen.the-variants.{Opened as OpenedObject, Absent as NoObject}
 use Rattle.layout.specs.declared.iterator.ObjectStep.{ObjectStep}
+use Rattle.layout.specs.declared.parts.PartAt.{PartAt}
+use Rattle.layout.specs.declared.parts.Places.{Places}
 use Rattle.layout.specs.declared.iterator.ObjectStep.the-variants.{Member, End as NoMember, Refused as RefusedMember}
 
 -- What the test of a place has left: the bytes lie in the slice, so their end fits a machine word.
@@ -127,9 +130,22 @@ unfolding lengths
 lengths-le s i zero = omega arith
 lengths-le s i (suc n) = omega (arith, length-lt (entry-at s i), lengths-le s (i + 1) n)
 
-pub lengths-end : (s : Bytes) (n sum i : ℕ) → n ≤ i → lengths s 0 n ≡ sum + lengths s i (n - i) → sum ≡ lengths s 0 n
-unfolding lengths
-lengths-end s n sum i h inv = let k : n - i ≡ 0 = omega arith in rw inv (rw k (omega arith))
+-- A walk starts where the first part stands, or the first member.
+pub array-opens : (n : ℕ) (first : PartAt) → first ≡ first-part n
+    → record { «jentry_offset» = 4; «item_offset» = first .place; remaining = n } ≡ array-walk n
+unfolding array-walk
+array-opens n first e = rw e
+
+pub object-opens : (s : Bytes) (n : ℕ) (first : Places) → first ≡ members-of s n
+    → record {
+      «key_jentry_offset» = first .«key_jentry»;
+      «val_jentry_offset» = first .«val_jentry»;
+      «key_offset» = first .key;
+      «val_offset» = first .val;
+      remaining = n;
+    } ≡ object-walk s n
+unfolding object-walk
+object-opens s n first e = let d : 4 + 4 * (n + n) ≡ 4 + 8 * n = omega arith in rw (e, d)
 
 -- Opening, by what the check and the header have said.
 pub opening-refused : {A : Type 0} (fault : Refusal → A) (found : Header → A) (a : Answer Tree) (h : Header) (c : Check) (r : Refusal)

@@ -9,6 +9,7 @@ pub mod Tree
 pub mod Encode
 pub mod Text
 pub mod Number
+pub mod Decimal
 pub mod Read
 pub mod Limits
 pub mod Sound

@@ -1,14 +1,17 @@
 -- The parts of a container by their places, as the code meets them: part `i` of one container, by the number of its entry; and
 -- members, of one object or of an array of names and one of values, by the places of their two entries and payloads. A part with its
 -- kind and bytes is `part-at` of Place.antt.
-use Prim.Native.Nat.{ℕ, zero, suc, _+_, _*_}
+use Prim.Native.Nat.{ℕ, zero, suc, _+_, _*_, _<_}
+use mathlib.Core.Path.{_≡_}
 use mathlib.Core.Bool.{Bool}
 use mathlib.Core.List.{List, [], _∷_}
-use lib.ListN.{take, drop}
+use lib.ListN.{length, take, drop}
 use Rattle.layout.specs.Bytes.{Bytes, word-at}
 use Rattle.layout.specs.Entry.{length-of, entry-at, lengths}
 use Rattle.layout.specs.Encode.{Part}
-use Rattle.layout.specs.Place.{parts-at, rising-parts}
+use Rattle.layout.specs.Place.{part-at, parts-at, rising-parts}
+use Rattle.layout.specs.declared.util.Header.{Header}
+use Rattle.layout.specs.declared.util.Header.the-variants.{Array, Object, Scalar, Refused}
 use Rattle.layout.specs.declared.parts.ItemAt.{ItemAt}
 use Rattle.layout.specs.declared.parts.MemberAt.{MemberAt}
 use Rattle.layout.specs.declared.parts.Places.{Places}
@@ -17,6 +20,16 @@ use Rattle.layout.specs.declared.parts.PartAt.{PartAt}
 -- Where the payloads of `n` parts start.
 abbrev pub start-of : ℕ → ℕ
 start-of n = 4 + 4 * n
+
+-- How many parts a container has, names and values each counting as one; and the parts of a container of `n`.
+abbrev pub count-parts : Header → ℕ
+count-parts (Array n) = n
+count-parts (Object n) = n + n
+count-parts (Scalar n) = 0
+count-parts (Refused r) = 0
+
+abbrev pub parts-of : Bytes → ℕ → List Part
+parts-of s n = parts-at s 0 (start-of n) n
 
 -- Whether the names of an object of `n` members rise.
 abbrev pub rises : Bytes → ℕ → Bool
@@ -31,9 +44,24 @@ texts (p ∷ ps) = p .bytes ∷ texts ps
 abbrev pub next-part : Bytes → PartAt → PartAt
 next-part s p = record { index = p .index + 1; place = p .place + length-of (entry-at s (p .index)) }
 
--- Part `k` of a container of `n`.
+-- The first part of a container of `n`; its part `k`; and what stands behind the last, where its bytes end with that one's payload.
+abbrev pub first-part : ℕ → PartAt
+first-part n = record { index = 0; place = start-of n }
+
 abbrev pub nth-part : Bytes → ℕ → ℕ → PartAt
-nth-part s n k = record { index = k; place = 4 + 4 * n + lengths s 0 k }
+nth-part s n k = record { index = k; place = start-of n + lengths s 0 k }
+
+abbrev pub parts-end : Bytes → ℕ → PartAt
+parts-end s n = record { index = n; place = length s }
+
+-- The payload of a part.
+abbrev pub part-payload : Bytes → PartAt → Bytes
+part-payload s p = part-at s (p .index) (p .place) .bytes
+
+-- That a part is one of the `n` of a container.
+pub record PartOf (s : Bytes) (n : ℕ) (p : PartAt) : Type 0 where
+  pub inside : p .index < n
+  pub is : p ≡ nth-part s n (p .index)
 
 -- The payload of an item.
 abbrev pub bytes-at : Bytes → ItemAt → Bytes
@@ -66,9 +94,9 @@ abbrev pub members-of : Bytes → ℕ → Places
 members-of s n =
     record {
       «key_jentry» = 4;
-      «val_jentry» = 4 + 4 * n;
-      key = 4 + 4 * (n + n);
-      val = 4 + 4 * (n + n) + lengths s 0 n;
+      «val_jentry» = start-of n;
+      key = start-of (n + n);
+      val = start-of (n + n) + lengths s 0 n;
     }
 
 -- The places behind a member whose name and value are so long; and behind one that stands in a record.

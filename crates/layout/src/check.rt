@@ -197,7 +197,7 @@ fn check_body(s: &[u8], n: usize, names: usize, allowance: u32) -> Check
 }
 
 // A nested container, where `allowance` levels are left.
-fn check_nested(s: &[u8], allowance: u32) -> Check
+pub fn check_nested(s: &[u8], allowance: u32) -> Check
     requires { ⌜ length (now s) ≤ 65536 ⌝ }
     ensures { λ r. ⌜ r ≡ checked (nested allowance (now (s .entry))) ⌝ }
 {

@@ -10,8 +10,9 @@ use crate::constants::UNUSED_CODE;
 use crate::item::JsonbItem;
 use crate::jentry::kind_of;
 use crate::jentry::payload_len;
-use crate::jentry::read_jentry;
 use crate::jentry::type_code;
+use crate::parts::first_part;
+use crate::parts::members_of;
 use crate::refusal::Refusal;
 use crate::util::Header;
 use crate::util::is_inside;
@@ -20,7 +21,6 @@ use crate::util::read_u32;
 ghost use mathlib.Core.Path.{_≡_};
 ghost use Prim.Native.Nat.{_+_, _^_, _≤_, _<_};
 ghost use lib.ListN.{length};
-ghost use Rattle.layout.specs.Entry.{lengths};
 ghost use Rattle.layout.specs.Walk.{«entry-good» as entryGood, «item-of» as itemOf};
 ghost use Rattle.layout.specs.Walk.{«array-step» as arrayStep, «array-walk» as arrayWalk, «array-open» as arrayOpen};
 ghost use Rattle.layout.specs.Walk.{«object-step» as objectStep, «member-step» as memberStep};
@@ -95,20 +95,6 @@ fn jentry_to_jsonb_item(entry: u32, place: usize) -> JsonbItem
     }
 }
 
-// The bytes of an object's names together, from the first `count` entries of its table.
-pub fn key_length(s: &[u8], count: usize) -> usize
-    requires { ⌜ count < 2 ^ 29 ⌝ }
-    ensures { λ r. ⌜ r ≡ lengths (now (s .entry)) 0 count ⌝ }
-{
-    let mut key_length = 0;
-    let mut i = 0;
-    while i < count {
-        key_length += payload_len(read_jentry(s, i)) as usize;
-        i += 1;
-    }
-    key_length
-}
-
 impl ArrayIterator {
     // The walk over a readable array; on a readable record of another kind there is none.
     pub fn new(s: &[u8]) -> ArrayOpen
@@ -128,9 +114,10 @@ impl ArrayIterator {
         requires { ⌜ count < 2 ^ 29 ⌝ }
         ensures { λ r. ⌜ r ≡ arrayWalk count ⌝ }
     {
+        let first = first_part(count);
         ArrayIterator {
             jentry_offset: HEADER_SIZE,
-            item_offset: HEADER_SIZE + JENTRY_SIZE * count,
+            item_offset: first.place,
             remaining: count,
         }
     }
@@ -183,12 +170,12 @@ impl ObjectIterator {
         requires { ⌜ count < 2 ^ 29 ⌝ }
         ensures { λ r. ⌜ r ≡ objectWalk (now (s .entry)) count ⌝ }
     {
-        let key_offset = HEADER_SIZE + 2 * JENTRY_SIZE * count;
+        let first = members_of(s, count);
         ObjectIterator {
-            key_jentry_offset: HEADER_SIZE,
-            val_jentry_offset: HEADER_SIZE + JENTRY_SIZE * count,
-            key_offset: key_offset,
-            val_offset: key_offset + key_length(s, count),
+            key_jentry_offset: first.key_jentry,
+            val_jentry_offset: first.val_jentry,
+            key_offset: first.key,
+            val_offset: first.val,
             remaining: count,
         }
     }

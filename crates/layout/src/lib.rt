@@ -1,6 +1,7 @@
-// The layout of a record in bytes: entries, headers, numbers, text, the check, and the walks.
+// The layout of a record in bytes: entries, headers, numbers, text, the check, the walks, and parts by their places.
 pub mod check;
 pub mod constants;
+pub mod decimal;
 pub mod ending;
 pub mod item;
 pub mod iterator;

@@ -10,6 +10,7 @@ ghost use mathlib.Core.Path.{_≡_};
 ghost use Prim.Native.Nat.{_+_, _-_, _^_, _≤_, _<_};
 ghost use Rattle.layout.specs.Entry.{lengths};
 ghost use Rattle.layout.specs.Parts.{«bytes-at» as bytesAt, «member-at» as memberAt, «next-part» as nextPart};
+ghost use Rattle.layout.specs.Parts.{«first-part» as firstPart, «parts-end» as partsEnd, «part-payload» as partPayload};
 ghost use Rattle.layout.specs.Parts.{«members-of» as membersOf, past, «behind-member» as behindMember};
 
 // A part of a container: the number of its entry, and the place of its payload. An object of n members has 2n parts, the names
@@ -43,6 +44,39 @@ pub struct Places {
     pub val_jentry: usize,
     pub key: usize,
     pub val: usize,
+}
+
+// The first part of a container of n.
+pub fn first_part(n: usize) -> PartAt
+    requires { ⌜ n < 2 ^ 30 ⌝ }
+    ensures { λ r. ⌜ r ≡ firstPart n ⌝ }
+{
+    PartAt {
+        index: 0,
+        place: HEADER_SIZE + JENTRY_SIZE * n,
+    }
+}
+
+// What stands behind the last part of a container of n: the end of its bytes.
+pub fn parts_end(s: &[u8], n: usize) -> PartAt
+    ensures { λ r. ⌜ r ≡ partsEnd (now (s .entry)) n ⌝ }
+{
+    PartAt {
+        index: n,
+        place: s.len(),
+    }
+}
+
+// The payload of a part.
+pub fn part_payload(s: &[u8], part: PartAt) -> &[u8]
+    requires { ⌜ part .index ≤ 2 ^ 30 ⌝ }
+    ensures { λ r. ⌜ now r ≡ partPayload (now (s .entry)) part ⌝ }
+{
+    slice(
+        s,
+        part.place,
+        payload_len(read_jentry(s, part.index)) as usize,
+    )
 }
 
 // Where the payload of part `to` stands: behind those from `from` on.
@@ -99,10 +133,7 @@ pub fn members_of(s: &[u8], n: usize) -> Places
     requires { ⌜ n < 2 ^ 29 ⌝ }
     ensures { λ r. ⌜ r ≡ membersOf (now (s .entry)) n ⌝ }
 {
-    let first = PartAt {
-        index: 0,
-        place: HEADER_SIZE + JENTRY_SIZE * (n + n),
-    };
+    let first = first_part(n + n);
     Places {
         key_jentry: HEADER_SIZE,
         val_jentry: HEADER_SIZE + JENTRY_SIZE * n,

@@ -22,7 +22,13 @@ loop-holds : tie.Need-loop-holds Inv-loop μ-loop
 loop-holds c = (c .before .pre .0, omega arith, refl)
 
 loop-again : tie.Need-loop-again Inv-loop μ-loop
-loop-again c = (omega arith, omega (arith, c .payload-len .ensures, length-lt (c .before .read-jentry .result)), place-more _ _ _ _ _ _ _ (c .before .before .loop-test .taken) (c .before .before .before .loop .inv .2) (c .before .read-jentry .ensures) (c .payload-len .ensures))
+loop-again c =
+    let read = c .before in
+    let turn = read .before in (
+      omega arith,
+      omega (arith, c .payload-len .ensures, length-lt (read .read-jentry .result)),
+      place-more _ _ _ _ _ _ _ (turn .loop-test .taken) (turn .before .loop .inv .2) (read .read-jentry .ensures) (c .payload-len .ensures),
+    )
 
 returns : tie.Need-returns Inv-loop μ-loop
 returns c = place-end _ _ _ _ _ (c .loop-test .left) (c .before .loop .inv .2)

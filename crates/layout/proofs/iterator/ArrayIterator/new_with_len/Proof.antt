@@ -1,18 +1,11 @@
 -- `layout::iterator::ArrayIterator::new_with_len` meets its contract.
-use mathlib.Core.Path.{refl}
-use Rattle.layout.specs.Walk.{array-walk}
+use Rattle.layout.proofs.Walks.{array-opens}
 use borrow.Author.Needs.{needs}
 use Rattle.layout.proofs.iterator.ArrayIterator.new_with_len.Statement.{statement}
 use Rattle.layout.proofs.iterator.ArrayIterator.new_with_len.Tie as tie
 
 returns : tie.Need-returns
-unfolding array-walk
-returns c = refl
+returns c = array-opens _ _ (c .first-part .ensures)
 
 pub new-with-len-spec : {M : Type 1} → statement M
-new-with-len-spec =
-    tie.close
-    (tie.spec
-    (λ c. search needs)
-    (λ c. search needs)
-    returns)
+new-with-len-spec = tie.close (tie.spec (λ c κs. search needs) returns)
