@@ -46,7 +46,9 @@ use Rattle.builders.specs.declared.search.Kept.the-variants.{All}
 use Rattle.builders.specs.declared.room.Room.{Room}
 use Rattle.builders.specs.declared.room.Room.the-variants.{Serves, Refused as NoRoom}
 use Rattle.layout.specs.Parts.{texts, name-in, value-in, members-at}
-use Rattle.builders.specs.Search.{strings-at, kept-of, sorted, Pairs}
+use Rattle.builders.specs.Names.{strings-at, Pairs}
+use Rattle.builders.specs.Search.{kept-of}
+use Rattle.builders.specs.Sorted.{sorted}
 use Rattle.builders.specs.Weave.{own-entry, woven}
 use Rattle.builders.specs.declared.join.Given.the-variants.{Table}
 use Rattle.layout.specs.declared.parts.Places.{Places}

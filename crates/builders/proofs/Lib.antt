@@ -2,6 +2,8 @@
 pub mod Orderings
 pub mod Searches
 pub mod InOrders
+pub mod Proper
+pub mod Canons
 pub mod Stands
 pub mod Weaves
 pub mod Steps

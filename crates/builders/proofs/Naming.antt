@@ -16,7 +16,7 @@ use Rattle.layout.proofs.Checks.{one-less, parts-step}
 use Rattle.layout.proofs.Sounds.{rising-test}
 use Rattle.builders.specs.Order.{has, distinct}
 use Rattle.layout.specs.Parts.{texts}
-use Rattle.builders.specs.Search.{strings-at}
+use Rattle.builders.specs.Names.{strings-at}
 use Rattle.builders.proofs.InOrders.{rising-distinct}
 
 -- Strings.

@@ -3,9 +3,9 @@
 use Prim.Native.Nat.{ℕ, suc, _≤_}
 use native.Mathlib.Omega.{arith}
 use mathlib.Core.Path.{_≡_, refl, ap, sym, _∙_}
-use mathlib.Core.Bool.{Bool, true, false, not, cond, _&&_}
+use mathlib.Core.Bool.{Bool, true, false, _&&_}
 use mathlib.Core.List.{List, [], _∷_}
-use lib.Dec.{T, leb, ltb, leb→le, nltb→le, eqb→eq}
+use lib.Dec.{T, leb, leb→le, eqb→eq}
 use mathlib.Core.Option.{some}
 use lib.ListN.{length}
 use Rattle.layout.specs.Bytes.{Bytes, Octets}
@@ -17,15 +17,15 @@ use Rattle.layout.specs.Read.{read}
 use Rattle.layout.specs.Limits.{Valid, ValidItems, ValidMembers, depth, record-length}
 use Rattle.layout.specs.Sound.{Sound, SoundItems, SoundMembers}
 use Rattle.layout.specs.Value.{Same}
-use Rattle.layout.specs.Ended.{result, refusal, into}
-use Rattle.layout.specs.declared.refusal.Refusal.the-variants.{Result, Buffer}
+use Rattle.layout.specs.Ended.{result}
+use Rattle.layout.specs.declared.refusal.Refusal.the-variants.{Result}
 use Rattle.layout.proofs.Answers.{from-bind, from-require, gives-inj, refused-gives}
 use Rattle.layout.proofs.Decoding.{read-sound, names-pair}
 use Rattle.layout.proofs.Encoding.{read-encode}
 use Rattle.layout.proofs.Readables.{length-encode}
 use Rattle.builders.specs.Order.{in-order, distinct}
 use Rattle.layout.specs.Pipeline.{within, written, found, on-record}
-use Rattle.layout.proofs.Pipelines.{found-written}
+use Rattle.layout.proofs.Pipelines.{written-result, found-written}
 use Rattle.builders.specs.Build.{items-of, text-of, texts-of, count, join, append, build, on-two}
 use Rattle.builders.proofs.InOrders.{in-order-rising, in-order-valid, in-order-sound, in-order-same}
 use Rattle.builders.proofs.Builds.{count-parts}
@@ -45,18 +45,6 @@ pub record Made (edit : Tree → Tree → Answer Tree) (l r b : Bytes) (room : �
   pub bytes : b ≡ encode tree
   pub reads : read b ≡ gives tree
   pub fits : length b ≤ room
-
--- What is written, where it is a result: the tree's record, which has room.
-pub written-result : (room : ℕ) (m : Answer Tree) (b : Bytes) → written room m ≡ result b
-    → (v : Tree) × (m ≡ gives v) × (b ≡ encode v) × (length b ≤ room)
-unfolding into
-written-result room (refused r) b e = let z : _≡_ {A = ℕ} 0 1 = cc in let w : ⊥ = omega arith in absurd w
-written-result room (gives v) b e = go (ltb room (length (encode v))) (nltb→le room (length (encode v))) e
-  where
-    go : (s : Bool) → (T (not s) → length (encode v) ≤ room) → cond s (refusal Buffer) (result (encode v)) ≡ result b
-        → (w : Tree) × (gives v ≡ gives w) × (b ≡ encode w) × (length b ≤ room)
-    go true h q = let z : _≡_ {A = ℕ} 0 1 = cc in let w : ⊥ = omega arith in absurd w
-    go false h q = let f : b ≡ encode v = cc in (v, refl, f, rw f (h tt))
 
 pub on-two-is : (edit : Tree → Tree → Answer Tree) (l r : Bytes) (room : ℕ)
     → on-two edit l r room ≡ written room (read l >>= λ t. read r >>= λ u. edit t u >>= λ v. within v)

@@ -13,7 +13,8 @@ use Rattle.layout.specs.declared.order.Ordering.{Ordering}
 use Rattle.layout.specs.declared.order.Ordering.the-variants.{Less, Equal, Greater}
 use Rattle.builders.specs.Order.{by}
 use Rattle.layout.specs.Parts.{bytes-at, members-from}
-use Rattle.builders.specs.Search.{is-kept, kept-of, Bound, start, after, over, better, step, least, put-in, put-all, sorted, nth}
+use Rattle.builders.specs.Search.{is-kept, kept-of, Bound, start, after, over, better, step, least, nth}
+use Rattle.builders.specs.Sorted.{put-in, put-all, sorted}
 use Rattle.layout.proofs.Fields.{length-lt}
 use Rattle.layout.specs.declared.parts.ItemAt.{ItemAt}
 use Rattle.layout.specs.declared.parts.MemberAt.{MemberAt}

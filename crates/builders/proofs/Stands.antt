@@ -17,7 +17,7 @@ use Rattle.layout.proofs.Fields.{length-entry}
 use Rattle.layout.proofs.Level.{Fits, AllFit, code-small}
 use Rattle.builders.specs.Order.{by, insert, insert-all, in-order}
 use Rattle.layout.specs.Parts.{name-in, value-in, members-from}
-use Rattle.builders.specs.Search.{put-in, put-all, sorted}
+use Rattle.builders.specs.Sorted.{put-in, put-all, sorted}
 use Rattle.builders.specs.Weave.{own-entry, column}
 use Rattle.layout.specs.declared.parts.MemberAt.{MemberAt}
 

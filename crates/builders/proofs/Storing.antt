@@ -16,7 +16,8 @@ use Rattle.layout.specs.declared.order.Ordering.the-variants.{Less, Equal, Grea
 use Rattle.layout.proofs.Patches.{length-patch}
 use Rattle.builders.specs.Order.{by}
 use Rattle.layout.specs.Parts.{bytes-at, name-in, value-in, members-at, past}
-use Rattle.builders.specs.Search.{kept-of, bound, least, put-in, put-all, sorted, nth}
+use Rattle.builders.specs.Search.{kept-of, bound, least, nth}
+use Rattle.builders.specs.Sorted.{put-in, put-all, sorted}
 use Rattle.builders.specs.Weave.{behind, own-entry, stored, woven, column}
 use Rattle.layout.specs.declared.parts.ItemAt.{ItemAt}
 use Rattle.layout.specs.declared.parts.MemberAt.{MemberAt}

@@ -1,29 +1,17 @@
--- The members of an object, or of an array of names and one of values, by their places; and the search for the next name in byte
--- order. `search-nth` of proofs/Searches.antt says that the search, repeated, gives `sorted`, and `stand-sorted` of
--- proofs/Stands.antt that `sorted` is `in-order`.
+-- The search for the next name in byte order, among members by their places. `search-nth` of proofs/Searches.antt says that the
+-- search, repeated, gives `sorted`.
 use Prim.Native.Nat.{ℕ, zero, suc, _+_}
-use mathlib.Core.Path.{_≡_}
-use mathlib.Core.Bool.{Bool, true, false, not, cond, _&&_}
+use mathlib.Core.Bool.{Bool, true, false, not, cond}
 use mathlib.Core.List.{List, [], _∷_}
 use lib.Dec.{eqb}
 use Rattle.layout.specs.Bytes.{Bytes}
-use Rattle.layout.specs.Entry.{code-of, entry-at}
-use Rattle.layout.specs.Read.{header, read}
-use Rattle.layout.specs.Check.{checked}
-use Rattle.layout.specs.Order.{order, before}
-use Rattle.layout.specs.declared.util.Header.the-variants.{Array}
-use Rattle.layout.specs.declared.check.Check.the-variants.{Readable}
-use Rattle.builders.specs.Order.{by}
+use Rattle.layout.specs.Entry.{code-of}
+use Rattle.layout.specs.Order.{before}
 use Rattle.layout.specs.declared.parts.MemberAt.{MemberAt}
 use Rattle.builders.specs.declared.search.Kept.{Kept}
 use Rattle.builders.specs.declared.search.Kept.the-variants.{All, But, NonNull}
 use Rattle.builders.specs.declared.search.Found.{Found}
 use Rattle.builders.specs.declared.search.Found.the-variants.{Nothing, At}
-
--- Whether the `k` entries from the `i`th on are those of strings.
-unfoldable pub strings-at : Bytes → ℕ → ℕ → Bool
-strings-at s i zero = true
-strings-at s i (suc k) = eqb (code-of (entry-at s i)) 1 && strings-at s (i + 1) k
 
 -- Members some of which are left out, where the first of them stands behind `i` others.
 unfoldable pub is-kept : Kept → ℕ → MemberAt → Bool
@@ -66,28 +54,8 @@ module _ (key : MemberAt → Bytes) where
   least last best [] = best
   least last best (m ∷ ms) = least last (step last best m) ms
 
-  -- The members in byte order, of equal names the first: each is put in its place, unless its name is there.
-  unfoldable pub put-in : MemberAt → List MemberAt → List MemberAt
-  put-in m [] = m ∷ []
-  put-in m (b ∷ bs) = by (order (key m) (key b)) (m ∷ b ∷ bs) (b ∷ bs) (b ∷ put-in m bs)
-
-  unfoldable pub put-all : List MemberAt → List MemberAt → List MemberAt
-  put-all done [] = done
-  put-all done (m ∷ ms) = put-all (put-in m done) ms
-
-  unfoldable pub sorted : List MemberAt → List MemberAt
-  sorted ms = put-all [] ms
-
 -- The `k`th of a list.
 unfoldable pub nth : List MemberAt → ℕ → Found
 nth [] k = Nothing
 nth (m ∷ ms) zero = At m
 nth (m ∷ ms) (suc k) = nth ms k
-
--- Readable arrays of `n` names, all strings, and of `n` values.
-pub record Pairs (ks vs : Bytes) (n : ℕ) : Type 0 where
-  pub names : checked (read ks) ≡ Readable
-  pub values : checked (read vs) ≡ Readable
-  pub keys : header ks ≡ Array n
-  pub vals : header vs ≡ Array n
-  pub strings : strings-at ks 0 n ≡ true

@@ -33,7 +33,7 @@ ghost use Rattle.layout.specs.Room.{EndedIn};
 ghost use Rattle.builders.specs.Order.{distinct};
 ghost use Rattle.builders.specs.Build.{append as appendOf, build, «on-two» as onTwo};
 ghost use Rattle.layout.specs.Parts.{texts};
-ghost use Rattle.builders.specs.Search.{Pairs};
+ghost use Rattle.builders.specs.Names.{Pairs};
 
 // Puts a record, as one item, at the end of an array record, where the result goes into `room` bytes.
 pub fn append_in(array: &[u8], item: &[u8], out: &mut [u8], room: usize) -> Ending

@@ -11,10 +11,10 @@ ghost use Prim.Native.Nat.{_-_, _^_, _≤_, _<_};
 ghost use Rattle.layout.specs.Place.{«parts-at» as partsAt};
 ghost use Rattle.builders.specs.Order.{has, distinct};
 ghost use Rattle.layout.specs.Parts.{texts};
-ghost use Rattle.builders.specs.Search.{«strings-at» as stringsAt};
+ghost use Rattle.builders.specs.Names.{«strings-at» as stringsAt};
 
 // Whether the first n entries are those of strings.
-pub(crate) fn are_strings(s: &[u8], n: usize) -> bool
+pub fn are_strings(s: &[u8], n: usize) -> bool
     requires { ⌜ n < 2 ^ 29 ⌝ }
     ensures { λ r. ⌜ r ≡ stringsAt (now (s .entry)) 0 n ⌝ }
 {

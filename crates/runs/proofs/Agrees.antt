@@ -22,10 +22,10 @@ use Rattle.layout.proofs.Readables.{length-encode}
 use Rattle.layout.specs.Pipeline.{within, written}
 use Rattle.builders.specs.Build.{append, build, on-two}
 use Rattle.builders.proofs.Results.{on-two-is, within-is}
-use Rattle.edits.specs.Path.{Step, path-of}
+use Rattle.edits.specs.Keypath.{Step, path-of}
 use Rattle.edits.specs.Delete.{delete, deletable}
 use Rattle.layout.specs.Pipeline.{found}
-use Rattle.edits.specs.Keypath.{get-by, delete-by, on-path}
+use Rattle.edits.specs.Path.{get-by, delete-by, on-path}
 use Rattle.edits.specs.Concat.{concat}
 use Rattle.edits.specs.Strip.{strip, on-one}
 use Rattle.edits.proofs.Kept.{NoMore, look-up-kept, delete-kept}
@@ -38,8 +38,9 @@ use Rattle.runs.specs.declared.call.Edit.the-variants.{Get, Delete, Conc
 use Rattle.runs.specs.Call.{outcome}
 use Rattle.runs.specs.Plain.{plain-look-up, plain-delete, no-delete, plain-concat, plain-strip, plain-append, plain-build}
 use Rattle.runs.specs.Account.{Entry, value, absence as absent, refusal as refuse, fitting, entered, edited}
-use Rattle.runs.proofs.Proper.{Proper, proper-valid}
-use Rattle.runs.proofs.Canon.{canon, canon-found, canon-proper, canon-depth, canon-length}
+use Rattle.builders.proofs.Proper.{Proper, proper-valid}
+use Rattle.builders.specs.Canon.{canon, canon-found}
+use Rattle.builders.proofs.Canons.{canon-proper, canon-depth, canon-length}
 use Rattle.runs.proofs.Looks.{look-up-canon, ProperFound, look-up-proper}
 use Rattle.runs.proofs.Removes.{delete-canon, delete-proper}
 use Rattle.runs.proofs.Overlaid.{concat-canon, concat-proper, canon-answer, append-canon, append-proper}

@@ -20,8 +20,9 @@ use Rattle.builders.proofs.Builds.{count-parts}
 use Rattle.builders.proofs.Results.{is-true, count-texts}
 use Rattle.runs.specs.Plain.{repeats, array-items, string-text, in-turn, plain-build}
 use Rattle.runs.proofs.Named.{repeats-is}
-use Rattle.runs.proofs.Proper.{Proper, ProperItems, ProperMembers}
-use Rattle.runs.proofs.Canon.{canon, canon-items, canon-members, canon-names}
+use Rattle.builders.proofs.Proper.{Proper, ProperItems, ProperMembers}
+use Rattle.builders.specs.Canon.{canon, canon-items, canon-members}
+use Rattle.builders.proofs.Canons.{canon-names}
 use Rattle.runs.proofs.Overlaid.{canon-answer}
 
 -- The names, the test of the counts, the pairs: what build does before it looks for a repeated name.

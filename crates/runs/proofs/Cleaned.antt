@@ -14,8 +14,9 @@ use Rattle.edits.proofs.Deletes.{find-first, find-later, equal-or-not, find-uni
 use Rattle.edits.proofs.Strips.{strip-finds, strip-of-sound}
 use Rattle.runs.specs.Plain.{is-null, plain-strip, strip-items, strip-members}
 use Rattle.runs.proofs.Named.{by-test}
-use Rattle.runs.proofs.Proper.{Proper, ProperItems, ProperMembers, Fewer, fewer-in, fewer-distinct}
-use Rattle.runs.proofs.Canon.{canon, canon-items, canon-members, canon-found, canon-find, canon-sound}
+use Rattle.builders.proofs.Proper.{Proper, ProperItems, ProperMembers, Fewer, fewer-in, fewer-distinct}
+use Rattle.builders.specs.Canon.{canon, canon-items, canon-members, canon-found}
+use Rattle.builders.proofs.Canons.{canon-find, canon-sound}
 
 null-canon : (t : Tree) → null-tree (canon t) ≡ is-null t
 null-canon null = refl

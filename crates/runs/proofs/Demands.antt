@@ -23,8 +23,9 @@ use Rattle.runs.specs.Call.{Call, There}
 use Rattle.runs.specs.Run.{outcome-on, shelved, after, run, endings, Takes}
 use Rattle.runs.specs.Account.{request, requests, Entry, value, absence, refusal, entry-on, entry-ending, added, account, account-endings}
 use Rattle.runs.specs.Demand.{SoundWith, AllSoundWith, Start, records-after, values-after, EndedAlike, HasItsValue, EqualAlike, Demand-3}
-use Rattle.runs.proofs.Proper.{Proper, sound-proper, encoded-octets, proper-octets, same-proper}
-use Rattle.runs.proofs.Canon.{canon, canon-sound, same-canon, canon-proper, canon-unique, same-canons, canon-depth, canon-length}
+use Rattle.builders.proofs.Proper.{Proper, sound-proper, encoded-octets, proper-octets, same-proper}
+use Rattle.builders.specs.Canon.{canon}
+use Rattle.builders.proofs.Canons.{canon-sound, same-canon, canon-proper, canon-unique, same-canons, canon-depth, canon-length}
 use Rattle.runs.proofs.Agrees.{Good, record-read, in-bytes, GoodEntry, OfRight, agree, agree-good}
 
 -- ---- shelves

@@ -1,7 +1,5 @@
 -- The laws of runs.
 pub mod Named
-pub mod Proper
-pub mod Canon
 pub mod Looks
 pub mod Removes
 pub mod Overlaid

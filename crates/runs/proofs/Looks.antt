@@ -10,13 +10,14 @@ use lib.IntN.{pos, negsuc}
 use Rattle.layout.specs.Bytes.{Bytes}
 use Rattle.layout.specs.Tree.{Tree, null, boolean, number, string, extension, array, object, Items, none, item, Members, empty, member}
 use Rattle.builders.specs.Build.{count}
-use Rattle.edits.specs.Path.{Step, name, index}
+use Rattle.edits.specs.Keypath.{Step, name, index}
 use Rattle.edits.specs.Find.{_then_, place, step-place, step-name, item-at, step-into, look-up}
 use Rattle.edits.proofs.Deletes.{item-past, some-inj}
 use Rattle.runs.specs.Plain.{member-name, named, from-zero, item-number, how-many, numbered, taken, inward, plain-look-up}
 use Rattle.runs.proofs.Named.{by-name, named-find}
-use Rattle.runs.proofs.Proper.{Proper, ProperItems, ProperMembers}
-use Rattle.runs.proofs.Canon.{canon, canon-items, canon-found, canon-find}
+use Rattle.builders.proofs.Proper.{Proper, ProperItems, ProperMembers}
+use Rattle.builders.specs.Canon.{canon, canon-items, canon-found}
+use Rattle.builders.proofs.Canons.{canon-find}
 
 -- ---- arrays
 

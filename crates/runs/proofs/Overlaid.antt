@@ -16,8 +16,9 @@ use Rattle.edits.proofs.Deletes.{false-true, find-first, find-later, equal-or-n
 use Rattle.edits.proofs.Concats.{concat-given, concat-items, concat-find}
 use Rattle.runs.specs.Plain.{has-name, together, lacked, items-then, giving, members-of, objects-or, plain-concat, plain-append}
 use Rattle.runs.proofs.Named.{by-test, has-named, missing-name}
-use Rattle.runs.proofs.Proper.{Proper, ProperItems, ProperMembers, distinct-with, Fewer, fewer-distinct}
-use Rattle.runs.proofs.Canon.{canon, canon-items, canon-members, canon-found, canon-find}
+use Rattle.builders.proofs.Proper.{Proper, ProperItems, ProperMembers, distinct-with, Fewer, fewer-distinct}
+use Rattle.builders.specs.Canon.{canon, canon-items, canon-members, canon-found}
+use Rattle.builders.proofs.Canons.{canon-find}
 
 -- ---- two objects
 

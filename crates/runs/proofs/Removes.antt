@@ -11,15 +11,16 @@ use Rattle.layout.specs.Tree.{Tree, null, boolean, number, string, extension, a
 use Rattle.builders.specs.Order.{in-order, find, distinct}
 use Rattle.builders.specs.Build.{count}
 use Rattle.builders.proofs.InOrders.{in-order-rising, find-in-order, has-not, distinct-cons}
-use Rattle.edits.specs.Path.{Step}
+use Rattle.edits.specs.Keypath.{Step}
 use Rattle.edits.specs.Find.{_then_, step-place}
-use Rattle.edits.specs.Delete.{kept-item, change-item, change-at, change-member, anew, left, or-same, delete}
+use Rattle.edits.specs.Delete.{kept-item, change-item, change-at, change-member, anew, remains, or-same, delete}
 use Rattle.edits.proofs.Deletes.{some-inj, nothing-some, equal-or-not, find-first, find-later, not-in, find-other, find-changed, find-gone, find-unique}
 use Rattle.edits.proofs.Meanings.{deleted-missing, deleted-found}
 use Rattle.runs.specs.Plain.{member-name, item-number, how-many, numbered, taken, inward, plain-look-up, left-member, left-item, leave-named, leave-numbered, leave, rest, plain-delete}
 use Rattle.runs.proofs.Named.{by-name, named-find}
-use Rattle.runs.proofs.Proper.{Proper, ProperItems, ProperMembers, Fewer, fewer-distinct}
-use Rattle.runs.proofs.Canon.{canon, canon-items, canon-members, canon-found, canon-find}
+use Rattle.builders.proofs.Proper.{Proper, ProperItems, ProperMembers, Fewer, fewer-distinct}
+use Rattle.builders.specs.Canon.{canon, canon-items, canon-members, canon-found}
+use Rattle.builders.proofs.Canons.{canon-find}
 use Rattle.runs.proofs.Looks.{canon-count, numbered-step, same-name, step-canon, look-up-canon, ProperFound, taken-proper}
 
 -- ---- members
@@ -186,10 +187,10 @@ plain-missing (s ∷ p) t h e = go (taken s t) refl (taken-proper s t h) e (λ c
 
 -- What is left where the path finds something.
 rest-canon : (p : List Step) (t v : Tree) → plain-look-up p t ≡ some v → canon (plain-delete p t) ≡ delete p (canon t)
-    → canon-found (rest p t) ≡ left p (canon t)
+    → canon-found (rest p t) ≡ remains p (canon t)
 rest-canon [] t v e q = refl
 rest-canon (s ∷ p) t v e q =
-    ap some q ∙ ap (λ (o : Option Tree). some (or-same (canon t) (o then λ _. left (s ∷ p) (canon t)))) (look-up-canon (s ∷ p) t ∙ ap canon-found e)
+    ap some q ∙ ap (λ (o : Option Tree). some (or-same (canon t) (o then λ _. remains (s ∷ p) (canon t)))) (look-up-canon (s ∷ p) t ∙ ap canon-found e)
 
 pub delete-canon : (p : List Step) (t : Tree) → Proper t → canon (plain-delete p t) ≡ delete p (canon t)
 delete-canon [] t h = refl

@@ -15,7 +15,7 @@ use Rattle.layout.specs.declared.refusal.Refusal.{Refusal}
 use Rattle.layout.specs.declared.refusal.Refusal.the-variants.{Kind, Result, Buffer}
 use Rattle.layout.specs.declared.ending.Ending.{Ending}
 use Rattle.layout.specs.declared.ending.Ending.the-variants.{Done, Absent, Refused}
-use Rattle.edits.specs.Path.{path-of}
+use Rattle.edits.specs.Keypath.{path-of}
 use Rattle.runs.specs.declared.call.Edit.{Edit}
 use Rattle.runs.specs.declared.call.Edit.the-variants.{Get, Delete, Concat, Strip, Append, Build}
 use Rattle.runs.specs.Call.{Call}

@@ -4,7 +4,7 @@ use Prim.Native.Nat.{ℕ, _<_}
 use Rattle.layout.specs.Bytes.{Bytes}
 use Rattle.layout.specs.Ended.{Outcome}
 use Rattle.builders.specs.Build.{append, build, on-two}
-use Rattle.edits.specs.Keypath.{get-by, delete-by, on-path}
+use Rattle.edits.specs.Path.{get-by, delete-by, on-path}
 use Rattle.edits.specs.Concat.{concat}
 use Rattle.edits.specs.Strip.{strip, on-one}
 use Rattle.runs.specs.declared.call.Edit.{Edit}

@@ -11,7 +11,7 @@ use Rattle.layout.specs.Bytes.{Bytes}
 use Rattle.layout.specs.Answer.{Answer, gives, refused, _>>=_, require}
 use Rattle.layout.specs.Tree.{Tree, null, boolean, number, string, extension, array, object, Items, none, item, Members, empty, member}
 use Rattle.layout.specs.declared.refusal.Refusal.the-variants.{Kind, Repeated}
-use Rattle.edits.specs.Path.{Step, name, index, index-text}
+use Rattle.edits.specs.Keypath.{Step, name, index, index-text}
 
 -- ---- names
 

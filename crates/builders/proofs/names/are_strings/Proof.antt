@@ -4,7 +4,7 @@ use borrow.Author.Needs.{needs}
 use Prim.Native.Nat.{_-_, _≤_}
 use native.Mathlib.Nat.{sub-zero}
 use mathlib.Core.Path.{_≡_, ap, sym}
-use Rattle.builders.specs.Search.{strings-at}
+use Rattle.builders.specs.Names.{strings-at}
 use Rattle.builders.proofs.Naming.{strings-other, strings-more, strings-end}
 use Rattle.builders.proofs.names.are_strings.Statement.{statement}
 use Rattle.builders.proofs.names.are_strings.Tie as tie

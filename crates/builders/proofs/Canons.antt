@@ -1,12 +1,12 @@
--- The one sound tree of a value: its members in byte order at every level. A proper value is equal to it, has its length and depth,
--- and is equal to another exactly where the two have the same one.
+-- The one sound tree of a value. A proper value is equal to it, has its length and depth, and is equal to another exactly where the two
+-- have the same one.
 use Prim.Native.Nat.{ℕ, suc, _+_, max}
 use native.Mathlib.Omega.{arith}
 use mathlib.Core.Path.{_≡_, refl, ap, ap₂, sym, _∙_, subst}
 use mathlib.Core.Logic.{inl, _↔_}
 use mathlib.Core.Bool.{true}
 use mathlib.Core.List.{_∷_}
-use mathlib.Core.Option.{Option, none as nothing, some}
+use mathlib.Core.Option.{some}
 use Rattle.layout.specs.Bytes.{Bytes}
 use Rattle.layout.specs.Tree.{Tree, null, boolean, number, string, extension, array, object, Items, none, item, Members, empty, member, names}
 use Rattle.layout.specs.Limits.{depth, depth-items, depth-members, size, size-items, size-members, record-length}
@@ -17,32 +17,10 @@ use Rattle.layout.specs.declared.order.Ordering.the-variants.{Less, Equal, Grea
 use Rattle.layout.proofs.Values.{sound-same}
 use Rattle.layout.proofs.Sames.{same-sym, same-trans}
 use Rattle.layout.specs.Order.{order}
 use Rattle.builders.specs.Order.{by, in-order, find, distinct}
 use Rattle.builders.proofs.InOrders.{in-order-rising, in-order-sound, in-order-same, in-order-size, gather, gather-in-order, find-in-order}
-use Rattle.runs.proofs.Proper.{Proper, ProperItems, ProperMembers, same-proper}
-
-abbrev mutual
-  pub canon : Tree → Tree
-  canon null = null
-  canon (boolean x) = boolean x
-  canon (number b) = number b
-  canon (string b) = string b
-  canon (extension b) = extension b
-  canon (array ts) = array (canon-items ts)
-  canon (object ms) = object (in-order (canon-members ms))
-
-  pub canon-items : Items → Items
-  canon-items none = none
-  canon-items (item t ts) = item (canon t) (canon-items ts)
-
-  -- Each member's value, in the order in which the members stand.
-  pub canon-members : Members → Members
-  canon-members empty = empty
-  canon-members (member n t ms) = member n (canon t) (canon-members ms)
-
-abbrev pub canon-found : Option Tree → Option Tree
-canon-found nothing = nothing
-canon-found (some t) = some (canon t)
+use Rattle.builders.specs.Canon.{canon, canon-items, canon-members, canon-found}
+use Rattle.builders.proofs.Proper.{Proper, ProperItems, ProperMembers, same-proper}
 
 pub canon-names : (ms : Members) → names (canon-members ms) ≡ names ms
 canon-names empty = refl

@@ -1,4 +1,4 @@
--- The values that an account can have: texts and numbers as a record's, and no name twice in an object, in whatever order its
+-- Proper values, those that an account can have: texts and numbers as a record's, and no name twice in an object, in whatever order its
 -- members stand. An equal value is one too, and so is the tree of a sound record.
 use Prim.Native.Nat.{ℕ}
 use native.Mathlib.Omega.{arith}
