@@ -25,13 +25,13 @@ use Rattle.builders.proofs.Stands.{Stand}
 use Rattle.layout.specs.Parts.{members-of}
 use Rattle.edits.specs.Members.{all-ahead, kept-ahead, Near, Standing, Searching, Next}
 use Rattle.edits.specs.declared.members.Ahead.{Ahead}
-use Rattle.edits.specs.declared.members.Taken.{Taken}
-use Rattle.edits.specs.declared.members.Taken.the-variants.{End, Member}
+use Rattle.edits.specs.declared.members.NextMember.{NextMember}
+use Rattle.edits.specs.declared.members.NextMember.the-variants.{End, Member}
 use Rattle.edits.proofs.Tables.{object-rises}
 use Rattle.edits.proofs.Sorteds.{Object-at}
 use Rattle.edits.proofs.Choices.{Below, search-later}
 
-abbrev pub found-of : Taken → Found
+abbrev pub found-of : NextMember → Found
 found-of End = Nothing
 found-of (Member m a) = At m
 
@@ -126,16 +126,16 @@ module _ (s : Bytes) (n : ℕ) (kept : Kept) (last : Bound) (a : Ahead) (h : Ahe
       ∙ least-append (name-in s) last Nothing (r .gone) []
       ∙ least-passed (name-in s) last Nothing (r .gone) (r .passed)
 
-  stands-is : (r : Taken) → Rest s n kept last a → Standing s kept a r → found-of r ≡ least (name-in s) last Nothing (searched s n kept)
+  stands-is : (r : NextMember) → Rest s n kept last a → Standing s kept a r → found-of r ≡ least (name-in s) last Nothing (searched s n kept)
   stands-is End g e = sym (none-rest g e)
   stands-is (Member m b) g e = sym (first-rest (kept-ahead s kept b) m g (e .0))
 
-  searched-is : (r : Taken) → a ≡ all-ahead s n → Searching s kept last a r → found-of r ≡ least (name-in s) last Nothing (searched s n kept)
+  searched-is : (r : NextMember) → a ≡ all-ahead s n → Searching s kept last a r → found-of r ≡ least (name-in s) last Nothing (searched s n kept)
   searched-is End q e = sym e ∙ ap (λ (x : Ahead). least (name-in s) last Nothing (kept-ahead s kept x)) q ∙ ap (least (name-in s) last Nothing) (all-is s n kept)
   searched-is (Member m b) q e = sym (e .0) ∙ ap (λ (x : Ahead). least (name-in s) last Nothing (kept-ahead s kept x)) q ∙ ap (least (name-in s) last Nothing) (all-is s n kept)
 
   -- The next member, as the search over all would find it.
-  pub next-is : (r : Taken) → Next s kept last a r → found-of r ≡ least (name-in s) last Nothing (searched s n kept)
+  pub next-is : (r : NextMember) → Next s kept last a r → found-of r ≡ least (name-in s) last Nothing (searched s n kept)
   next-is r e = go (a .«is_rising») refl
     where
       go : (g : Bool) → a .«is_rising» ≡ g → found-of r ≡ least (name-in s) last Nothing (searched s n kept)
@@ -194,10 +194,10 @@ module _ (s : Bytes) (n : ℕ) (kept : Kept) (last : Bound) (a : Ahead) (h : Ahe
       }
 
   -- A name above the last and below the next, or where there is no next: what is ahead stays, and so does the next.
-  abbrev pub below-next : Bytes → Taken → Type 0
+  abbrev pub below-next : Bytes → NextMember → Type 0
   below-next x r = Below (name-in s) x (found-of r)
 
-  pub ahead-passed : (r : Taken) (x : Bytes) → Next s kept last a r → over last x ≡ true → below-next x r → AheadOf s n kept (after x) a
+  pub ahead-passed : (r : NextMember) (x : Bytes) → Next s kept last a r → over last x ≡ true → below-next x r → AheadOf s n kept (after x) a
   ahead-passed r x e o l =
       record {
         near = h .near;
@@ -212,13 +212,13 @@ module _ (s : Bytes) (n : ℕ) (kept : Kept) (last : Bound) (a : Ahead) (h : Ahe
             };
       }
     where
-      head : (r : Taken) (m : MemberAt) (ms : List MemberAt) → kept-ahead s kept a ≡ m ∷ ms → Standing s kept a r → below-next x r → order x (name-in s m) ≡ Less
+      head : (r : NextMember) (m : MemberAt) (ms : List MemberAt) → kept-ahead s kept a ≡ m ∷ ms → Standing s kept a r → below-next x r → order x (name-in s m) ≡ Less
       head End m ms q st l = let z : [] ≡ m ∷ ms = sym st ∙ q in let y : _≡_ {A = ℕ} 0 1 = cc in let w : ⊥ = omega arith in absurd w
       head (Member k b) m ms q st l = let z : k ∷ kept-ahead s kept b ≡ m ∷ ms = sym (st .0) ∙ q in let y : k ≡ m = cc in rw (← y) l
 
-  pub next-passed : (r : Taken) (x : Bytes) → Next s kept last a r → over last x ≡ true → below-next x r → Next s kept (after x) a r
+  pub next-passed : (r : NextMember) (x : Bytes) → Next s kept last a r → over last x ≡ true → below-next x r → Next s kept (after x) a r
   next-passed r x e o l = record { stands = e .stands; searched = λ q. still r (e .searched q) l }
     where
-      still : (r : Taken) → Searching s kept last a r → below-next x r → Searching s kept (after x) a r
+      still : (r : NextMember) → Searching s kept last a r → below-next x r → Searching s kept (after x) a r
       still End q l = search-later (name-in s) last x o (kept-ahead s kept a) Nothing q l
       still (Member m b) q l = (search-later (name-in s) last x o (kept-ahead s kept a) (At m) (q .0) l, q .1)

@@ -17,13 +17,17 @@ use Rattle.layout.proofs.Answers.{gives-inj}
 use Rattle.layout.proofs.Words.{word-be32}
 use Rattle.edits.specs.Delete.{anew}
 use Rattle.layout.specs.Parts.{next-part}
-use Rattle.edits.specs.Cut.{Left, Cuts, Onward, InRuns, left-of, step-at, steps-from, way-behind, run-entries, run-payloads, run-behind}
+use Rattle.edits.specs.Cut.{Stores}
+use Rattle.edits.specs.Way.{Cuts, Onward, step-at, steps-from, way-behind}
+use Rattle.edits.specs.Manner.{InRuns}
+use Rattle.edits.specs.Remains.{remains-of}
+use Rattle.edits.specs.Runs.{run-entries, run-payloads, run-behind}
 use Rattle.layout.specs.declared.parts.PartAt.{PartAt}
 use Rattle.layout.specs.declared.parts.Cursor.{Cursor}
 use Rattle.edits.specs.declared.delete.Way.{Way}
 use Rattle.edits.proofs.Tables.{parted}
 use Rattle.edits.proofs.Cuts.{Part-at, at-part, anew-stored}
-use Rattle.edits.proofs.Leds.{Led, runs-led, left-as}
+use Rattle.edits.proofs.Leds.{Led, runs-led, stores-as}
 use Rattle.edits.proofs.Onwards.{Below, below}
 
 drop-one : (l : List Part) (q : Part) (r : List Part) (k : ℕ) → length l ≡ k → drop (suc k) (l ++ (q ∷ r)) ≡ r
@@ -61,9 +65,9 @@ module _ (s path : Bytes) (n : ℕ) (a : PartAt) (w : Way) (allowance : ℕ) (o 
   new-is : part (down .after) ≡ new-part
   new-is = rw (down .made)
 
-  pub left-anew : left-of s (steps-from path w) ≡ record-of (word-at s 0) (here .nth .left ++ (new-part ∷ here .nth .right))
-  left-anew =
-      down .left-is
+  pub remains-anew : remains-of s (steps-from path w) ≡ record-of (word-at s 0) (here .nth .left ++ (new-part ∷ here .nth .right))
+  remains-anew =
+      down .remains-is
       ∙ ap (λ (t : Tree). payload (anew (some (down .after)) (step-at path (w .step)) t)) (sym same-tree)
       ∙ led .changed (down .after)
       ∙ rw (head-word, lefts, rights, new-is)
@@ -79,27 +83,27 @@ module _ (s path : Bytes) (n : ℕ) (a : PartAt) (w : Way) (allowance : ℕ) (o 
   child-cuts next w′ e ew = rw (child-bytes next e, ew) (down .cuts)
 
   module _ (next : PartAt) (w′ : Way) (en : next ≡ next-part s a) (ew : w′ ≡ way-behind path w) where
-    pub child-left : left-of (take (next .place - a .place) (drop (a .place) s)) (steps-from path w′) ≡ payload (down .after)
-    child-left = rw (child-bytes next en, ew) (down .inner)
+    pub child-remains : remains-of (take (next .place - a .place) (drop (a .place) s)) (steps-from path w′) ≡ payload (down .after)
+    child-remains = rw (child-bytes next en, ew) (down .inner)
 
-    pub child-short : (len : ℕ) (b b′ : Bytes) (p : ℕ) → Left len b b′ p (left-of (take (next .place - a .place) (drop (a .place) s)) (steps-from path w′))
+    pub child-short : (len : ℕ) (b b′ : Bytes) (p : ℕ) → Stores len b b′ p (remains-of (take (next .place - a .place) (drop (a .place) s)) (steps-from path w′))
         → a .place + len ≤ length s
-    child-short len b b′ p l = omega (arith, l .length-is, ap length child-left, down .shorter, down .child-within)
+    child-short len b b′ p l = omega (arith, l .length-is, ap length child-remains, down .shorter, down .child-within)
 
     module _ (b b₁ b₂ b₃ b₄ b₅ : Bytes) (at v len e : ℕ) (start at₁ rest end : Cursor) where
       pub part-anew-stored : v ≡ word-at s 0 → b₁ ≡ patch b at (be32 v) → start .jentry ≡ at + 4 → start .place ≡ at + (4 + 4 * n)
           → (at₁ ≡ run-behind (record { index = 0; place = 4 + 4 * n }) a start)
           × (b₂ ≡ patch (patch b₁ (start .jentry) (run-entries s (record { index = 0; place = 4 + 4 * n }) a)) (start .place) (run-payloads s (record { index = 0; place = 4 + 4 * n }) a))
-          → Left len b₂ b₃ (at₁ .place) (left-of (take (next .place - a .place) (drop (a .place) s)) (steps-from path w′))
+          → Stores len b₂ b₃ (at₁ .place) (remains-of (take (next .place - a .place) (drop (a .place) s)) (steps-from path w′))
           → e ≡ entry-of (5 % 2 ^ 3) (len % 2 ^ 28) → b₄ ≡ patch b₃ (at₁ .jentry) (be32 e)
           → rest .jentry ≡ at₁ .jentry + 4 → rest .place ≡ at₁ .place + len
           → (end ≡ run-behind next (record { index = n; place = length s }) rest)
           × (b₅ ≡ patch (patch b₄ (rest .jentry) (run-entries s next (record { index = n; place = length s }))) (rest .place) (run-payloads s next (record { index = n; place = length s })))
-          → Left (end .place - at) b b₅ at (left-of s (steps-from path w))
+          → Stores (end .place - at) b b₅ at (remains-of s (steps-from path w))
       part-anew-stored ev e₁ sj sp h₁ l ee e₄ rj rp h₂ =
-          let ln : len ≡ length (payload (down .after)) = l .length-is ∙ ap length child-left in
+          let ln : len ≡ length (payload (down .after)) = l .length-is ∙ ap length child-remains in
           let small = child-short len b₂ b₃ (at₁ .place) l in
           let ez : e ≡ entry-word new-part = ee ∙ omega (arith, ln, small, c .short) in
-          left-as _ b b₅ at _ _ (left-anew ∙ ap (λ (x : ℕ). record-of x (here .nth .left ++ (new-part ∷ here .nth .right))) (sym ev))
+          stores-as _ b b₅ at _ _ (remains-anew ∙ ap (λ (x : ℕ). record-of x (here .nth .left ++ (new-part ∷ here .nth .right))) (sym ev))
           (anew-stored s n a here b b₁ b₂ b₃ b₄ b₅ at v len e start at₁ rest end next new-part e₁ sj sp h₁
-          (left-as len b₂ b₃ (at₁ .place) _ _ (sym child-left) l) ez e₄ rj rp en h₂)
+          (stores-as len b₂ b₃ (at₁ .place) _ _ (sym child-remains) l) ez e₄ rj rp en h₂)

@@ -12,7 +12,9 @@ use Rattle.layout.proofs.Level.{AllFit}
 use Rattle.layout.proofs.Decoding.{payloads-append}
 use Rattle.layout.proofs.Readables.{record-of-length}
 use Rattle.layout.specs.Parts.{next-part}
-use Rattle.edits.specs.Cut.{Left, PartOf, parts-of, without, without-member, run-entries, run-payloads, run-behind}
+use Rattle.edits.specs.Cut.{Stores}
+use Rattle.layout.specs.Parts.{PartOf, parts-of}
+use Rattle.edits.specs.Runs.{without, without-member, run-entries, run-payloads, run-behind}
 use Rattle.layout.specs.declared.parts.PartAt.{PartAt}
 use Rattle.layout.specs.declared.parts.Cursor.{Cursor}
 use Rattle.edits.proofs.Rows.{row-lengths, row-entry}
@@ -143,7 +145,7 @@ module _ (s : Bytes) (n : ℕ) (a : PartAt) (d : Part-at s n a) (o o₁ o₂ o�
       → next ≡ next-part s a
       → (end ≡ run-behind next (record { index = n; place = length s }) middle)
       × (o₃ ≡ patch (patch o₂ (middle .jentry) (run-entries s next (record { index = n; place = length s }))) (middle .place) (run-payloads s next (record { index = n; place = length s })))
-      → Left (end .place - at) o o₃ at (record-of w (without (a .index) (parts-of s n)))
+      → Stores (end .place - at) o o₃ at (record-of w (without (a .index) (parts-of s n)))
   unfolding patch
   without-stored e₁ sj sp h₁ en h₂ =
       let x : List Part = d .nth .left in
@@ -165,11 +167,11 @@ module _ (s : Bytes) (n : ℕ) (a : PartAt) (d : Part-at s n a) (o o₁ o₂ o�
   pub anew-stored : o₁ ≡ patch o at (be32 w) → start .jentry ≡ at + 4 → start .place ≡ at + (4 + 4 * n)
       → (here ≡ run-behind (record { index = 0; place = 4 + 4 * n }) a start)
       × (o₂ ≡ patch (patch o₁ (start .jentry) (run-entries s (record { index = 0; place = 4 + 4 * n }) a)) (start .place) (run-payloads s (record { index = 0; place = 4 + 4 * n }) a))
-      → Left len o₂ o₃ (here .place) (z .bytes) → e ≡ entry-word z → o₄ ≡ patch o₃ (here .jentry) (be32 e)
+      → Stores len o₂ o₃ (here .place) (z .bytes) → e ≡ entry-word z → o₄ ≡ patch o₃ (here .jentry) (be32 e)
       → rest .jentry ≡ here .jentry + 4 → rest .place ≡ here .place + len → next ≡ next-part s a
       → (end ≡ run-behind next (record { index = n; place = length s }) rest)
       × (o₅ ≡ patch (patch o₄ (rest .jentry) (run-entries s next (record { index = n; place = length s }))) (rest .place) (run-payloads s next (record { index = n; place = length s })))
-      → Left (end .place - at) o o₅ at (record-of w (d .nth .left ++ (z ∷ d .nth .right)))
+      → Stores (end .place - at) o o₅ at (record-of w (d .nth .left ++ (z ∷ d .nth .right)))
   unfolding patch
   anew-stored e₁ sj sp h₁ l ez e₄ rj rp en h₂ =
       let x : List Part = d .nth .left in
@@ -283,7 +285,7 @@ module _ (s : Bytes) (n w : ℕ) (l : List Part) (x : Part) (m : List Part) (y :
         → after ≡ next-part s val
         → (end ≡ run-behind after last vals)
         × (o₄ ≡ patch (patch o₃ (vals .jentry) (run-entries s after last)) (vals .place) (run-payloads s after last))
-        → Left (end .place - at) o o₄ at (record-of v ((l ++ m) ++ r))
+        → Stores (end .place - at) o o₄ at (record-of v ((l ++ m) ++ r))
     unfolding patch
     two-stored e₁ sj sp h₁ en h₂ ea h₃ =
         let lm = length-append l m in

@@ -16,7 +16,7 @@ use Rattle.builders.specs.Order.{by, in-order, find}
 use Rattle.builders.specs.Build.{count, join}
 use Rattle.builders.proofs.Orderings.{order-cases, by-order, order-refl}
 use Rattle.builders.proofs.InOrders.{unlike, rising-cons, in-order-rising, find-in-order}
-use Rattle.edits.specs.Path.{Step, name, index}
+use Rattle.edits.specs.Keypath.{Step, name, index}
 use Rattle.edits.specs.Find.{_then_, place, step-place, item-at}
 use Rattle.edits.specs.Delete.{kept-member, change-item, change-member}
 use Rattle.edits.proofs.Finds.{place-lt}

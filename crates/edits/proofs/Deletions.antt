@@ -34,13 +34,13 @@ use Rattle.layout.proofs.Nestings.{head-of, readable-gives, refused-as}
 use Rattle.layout.proofs.Patches.{in-as}
 use Rattle.builders.proofs.Knowns.{Known, known}
 use Rattle.layout.specs.declared.parts.ItemAt.{ItemAt}
-use Rattle.edits.specs.Path.{Step, path-of}
+use Rattle.edits.specs.Keypath.{Step, path-of}
 use Rattle.edits.specs.Find.{_then_, step-into, look-up}
-use Rattle.edits.specs.Delete.{anew, left, delete, deletable}
-use Rattle.edits.specs.Keypath.{delete-by, on-path}
+use Rattle.edits.specs.Delete.{anew, remains, delete, deletable}
+use Rattle.edits.specs.Path.{delete-by, on-path}
 use Rattle.edits.specs.Steps.{steps-told}
 use Rattle.edits.specs.Held.{finding, Finds}
-use Rattle.edits.specs.Cut.{left-of}
+use Rattle.edits.specs.Remains.{remains-of}
 use Rattle.edits.specs.declared.keypath.Steps.{Steps}
 use Rattle.edits.specs.declared.keypath.Steps.the-variants.{Count, Refused as NoPath}
 use Rattle.edits.specs.declared.path.Item.{Item}
@@ -110,14 +110,14 @@ unfolding delete-by _>>=_
 delete-refused p t r e = rw e
 
 -- What is left where the path finds an item.
-left-encoded : (s : Bytes) (p : List Step) (t v : Tree) → nested 64 s ≡ gives t → (length p ≡ 0 → ⊥) → look-up p t ≡ some v → left-of s p ≡ encode (delete p t)
-unfolding left-of
-left-encoded s [] t v e z f = absurd (z refl)
-left-encoded s (q ∷ p) t v e z f =
+remains-encoded : (s : Bytes) (p : List Step) (t v : Tree) → nested 64 s ≡ gives t → (length p ≡ 0 → ⊥) → look-up p t ≡ some v → remains-of s p ≡ encode (delete p t)
+unfolding remains-of
+remains-encoded s [] t v e z f = absurd (z refl)
+remains-encoded s (q ∷ p) t v e z f =
     let i = then-some (step-into q t) (look-up p) v f in
-    let k : kind (anew (step-into q t then left p) q t) ≡ Container = anew-kind (step-into q t then left p) q t ∙ inside-container q t (i .0) (i .1) in
-    let d : delete (q ∷ p) t ≡ anew (step-into q t then left p) q t = rw f in
-    rw (e, d) (sym (container-encode (anew (step-into q t then left p) q t) (payload (anew (step-into q t then left p) q t)) (rw k)))
+    let k : kind (anew (step-into q t then remains p) q t) ≡ Container = anew-kind (step-into q t then remains p) q t ∙ inside-container q t (i .0) (i .1) in
+    let d : delete (q ∷ p) t ≡ anew (step-into q t then remains p) q t = rw f in
+    rw (e, d) (sym (container-encode (anew (step-into q t then remains p) q t) (payload (anew (step-into q t then remains p) q t)) (rw k)))
 
 module _ (a path o : Bytes) (room : ℕ) (c : Check) (hc : c ≡ checked (read a)) where
   abbrev On : Ending → Bytes → Type 0
@@ -198,8 +198,8 @@ module _ (a path o : Bytes) (room : ℕ) (c : Check) (hc : c ≡ checked (read a
             pub delete-finds : (v : Tree) × (finding a (steps-in path n) ≡ some v)
             delete-finds = (what .0, finding-is a t (steps-in path n) reads ∙ what .1)
 
-            pub delete-found : (n ≡ 0 → ⊥) → (e : Ending) (o′ : Bytes) → EndedIn e o o′ (into room (left-of a (steps-in path n))) → On e o′
+            pub delete-found : (n ≡ 0 → ⊥) → (e : Ending) (o′ : Bytes) → EndedIn e o o′ (into room (remains-of a (steps-in path n))) → On e o′
             delete-found z e o′ w =
                 path-done delete-by a path o room t (target .1 .reads) (steps-in path n) path-is (delete (steps-in path n) t) (delete-is (steps-in path n) t t allowed) e o′
-                (in-as _ (left-of a (steps-in path n)) (encode (delete (steps-in path n) t))
-                (left-encoded a (steps-in path n) t (what .0) reads (λ y. z (sym (steps-length path n) ∙ y)) (what .1)) w)
+                (in-as _ (remains-of a (steps-in path n)) (encode (delete (steps-in path n) t))
+                (remains-encoded a (steps-in path n) t (what .0) reads (λ y. z (sym (steps-length path n) ∙ y)) (what .1)) w)

@@ -20,7 +20,7 @@ use Rattle.layout.specs.declared.util.Header.the-variants.{Array, Object, Scala
 use Rattle.layout.proofs.Places.{lengths-split}
 use Rattle.layout.proofs.Walks.{lengths-le}
 use Rattle.layout.specs.Parts.{texts}
-use Rattle.edits.specs.Path.{Step, index-text}
+use Rattle.edits.specs.Keypath.{Step, index-text}
 use Rattle.edits.specs.Find.{place, step-place, step-name}
 use Rattle.edits.specs.Steps.{step, key-place}
 use Rattle.layout.specs.Parts.{nth-part}

@@ -29,10 +29,10 @@ use Rattle.layout.proofs.Patches.{in-short, in-full}
 use Rattle.layout.specs.Parts.{bytes-at}
 use Rattle.layout.specs.declared.parts.ItemAt.{ItemAt}
 use Rattle.builders.proofs.Weaves.{patch-then}
-use Rattle.edits.specs.Path.{Step}
+use Rattle.edits.specs.Keypath.{Step}
 use Rattle.edits.specs.Find.{step-into}
 use Rattle.edits.specs.Spot.{spot}
-use Rattle.edits.specs.Held.{Held, Stands, Agree, Leads, written}
+use Rattle.edits.specs.Held.{Held, Stands, Agree, Leads, item-record}
 use Rattle.layout.specs.declared.parts.PartAt.{PartAt}
 use Rattle.edits.specs.declared.find.Spot.{Spot}
 use Rattle.edits.specs.declared.find.Spot.the-variants.{Nothing as NoSpot, At as AtSpot}
@@ -166,13 +166,13 @@ root-held s t j o l e q =
 -- The record of an item.
 
 module _ (s : Bytes) (x : ItemAt) (c : ℕ) (hc : c ≡ code-of (x .jentry)) where
-  pub written-container : c ≡ 5 → written s x ≡ bytes-at s x
-  unfolding written
-  written-container q = rw (← hc, q)
+  pub item-record-container : c ≡ 5 → item-record s x ≡ bytes-at s x
+  unfolding item-record
+  item-record-container q = rw (← hc, q)
 
-  written-scalar : (c ≡ 5 → ⊥) → written s x ≡ be32 (2 ^ 29) ++ (be32 (x .jentry) ++ bytes-at s x)
-  unfolding written
-  written-scalar q = rw (← hc, ne-eqb c 5 q)
+  item-record-scalar : (c ≡ 5 → ⊥) → item-record s x ≡ be32 (2 ^ 29) ++ (be32 (x .jentry) ++ bytes-at s x)
+  unfolding item-record
+  item-record-scalar q = rw (← hc, ne-eqb c 5 q)
 
 -- A header, an entry and a payload, each stored behind the one before.
 stored-scalar : (o o₁ o₂ o₃ : Bytes) (w j : ℕ) (b : Bytes)
@@ -188,46 +188,46 @@ stored-scalar o o₁ o₂ o₃ w j b e₁ e₂ e₃ =
 -- A scalar item that is written, or too long for the buffer.
 module _ (s : Bytes) (x : ItemAt) (c : ℕ) (hc : c ≡ code-of (x .jentry)) (q : c ≡ 5 → ⊥) (b : Bytes) (hb : b ≡ bytes-at s x)
     (o : Bytes) (room : ℕ) where
-  item-written : written s x ≡ be32 (2 ^ 29) ++ (be32 (x .jentry) ++ b)
-  item-written = rw hb (written-scalar s x c hc q)
+  item-record-is : item-record s x ≡ be32 (2 ^ 29) ++ (be32 (x .jentry) ++ b)
+  item-record-is = rw hb (item-record-scalar s x c hc q)
 
-  item-length : length (written s x) ≡ 8 + length b
+  item-length : length (item-record s x) ≡ 8 + length b
   item-length =
       omega (
         arith,
-        ap length item-written,
+        ap length item-record-is,
         length-append (be32 (2 ^ 29)) (be32 (x .jentry) ++ b),
         length-append (be32 (x .jentry)) b,
         length-be32 (2 ^ 29),
         length-be32 (x .jentry),
       )
 
-  pub item-short : room < 8 + length b → EndedIn (Refused Buffer) o o (into room (written s x))
-  item-short h = in-short (written s x) o room (omega (arith, item-length))
+  pub item-short : room < 8 + length b → EndedIn (Refused Buffer) o o (into room (item-record s x))
+  item-short h = in-short (item-record s x) o room (omega (arith, item-length))
 
   pub item-stored : (o₁ o₂ o₃ : Bytes) → 8 + length b ≤ room
       → o₁ ≡ patch o 0 (be32 (2 ^ 29)) → o₂ ≡ patch o₁ 4 (be32 (x .jentry)) → o₃ ≡ patch o₂ 8 b
-      → EndedIn (Done (8 + length b)) o o₃ (into room (written s x))
+      → EndedIn (Done (8 + length b)) o o₃ (into room (item-record s x))
   item-stored o₁ o₂ o₃ h e₁ e₂ e₃ =
-      in-full (written s x) o room o₃ (8 + length b) (omega (arith, item-length)) (sym item-length)
-      (stored-scalar o o₁ o₂ o₃ (2 ^ 29) (x .jentry) b e₁ e₂ e₃ ∙ ap (patch o 0) (sym item-written))
+      in-full (item-record s x) o room o₃ (8 + length b) (omega (arith, item-length)) (sym item-length)
+      (stored-scalar o o₁ o₂ o₃ (2 ^ 29) (x .jentry) b e₁ e₂ e₃ ∙ ap (patch o 0) (sym item-record-is))
 
 -- The record of an item is the record of its tree.
 
-scalar-written : (s : Bytes) (x : ItemAt) (t : Tree) → Held s x t → (code (kind t) ≡ 5 → ⊥) → written s x ≡ scalar t
-scalar-written s x t h q =
-    written-scalar s x (code (kind t)) (sym (held-code s x t h)) q
+scalar-record : (s : Bytes) (x : ItemAt) (t : Tree) → Held s x t → (code (kind t) ≡ 5 → ⊥) → item-record s x ≡ scalar t
+scalar-record s x t h q =
+    item-record-scalar s x (code (kind t)) (sym (held-code s x t h)) q
     ∙ rw (h .bytes, h .entry, append-nil (be32 (entry-word (part t))), append-nil (payload t))
 
-container-written : (s : Bytes) (x : ItemAt) (t : Tree) → Held s x t → code (kind t) ≡ 5 → written s x ≡ payload t
-container-written s x t h q = written-container s x (code (kind t)) (sym (held-code s x t h)) q ∙ h .bytes
+container-record : (s : Bytes) (x : ItemAt) (t : Tree) → Held s x t → code (kind t) ≡ 5 → item-record s x ≡ payload t
+container-record s x t h q = item-record-container s x (code (kind t)) (sym (held-code s x t h)) q ∙ h .bytes
 
-pub held-written : (s : Bytes) (x : ItemAt) (t : Tree) → Held s x t → written s x ≡ encode t
-held-written s x null h = scalar-written s x null h (λ e. omega arith)
-held-written s x (boolean true) h = scalar-written s x (boolean true) h (λ e. omega arith)
-held-written s x (boolean false) h = scalar-written s x (boolean false) h (λ e. omega arith)
-held-written s x (number b) h = scalar-written s x (number b) h (λ e. omega arith)
-held-written s x (string b) h = scalar-written s x (string b) h (λ e. omega arith)
-held-written s x (extension b) h = scalar-written s x (extension b) h (λ e. omega arith)
-held-written s x (array ts) h = container-written s x (array ts) h refl
-held-written s x (object ms) h = container-written s x (object ms) h refl
+pub held-record : (s : Bytes) (x : ItemAt) (t : Tree) → Held s x t → item-record s x ≡ encode t
+held-record s x null h = scalar-record s x null h (λ e. omega arith)
+held-record s x (boolean true) h = scalar-record s x (boolean true) h (λ e. omega arith)
+held-record s x (boolean false) h = scalar-record s x (boolean false) h (λ e. omega arith)
+held-record s x (number b) h = scalar-record s x (number b) h (λ e. omega arith)
+held-record s x (string b) h = scalar-record s x (string b) h (λ e. omega arith)
+held-record s x (extension b) h = scalar-record s x (extension b) h (λ e. omega arith)
+held-record s x (array ts) h = container-record s x (array ts) h refl
+held-record s x (object ms) h = container-record s x (object ms) h refl

@@ -16,7 +16,7 @@ use borrow.Author.Tests.{ltb-true, ltb-false, lt-ltb, le-ltb}
 use Rattle.layout.specs.declared.number.Number.the-variants.{UInt64}
 use Rattle.edits.specs.Find.{place}
 use Rattle.edits.specs.Steps.{int-key, number-key}
-use Rattle.edits.specs.Spot.{place-told, inside}
+use Rattle.edits.specs.Spot.{place-told, among}
 use Rattle.edits.specs.declared.keypath.KeyPath.the-variants.{Index, Other}
 use Rattle.edits.specs.declared.find.Place.{Place}
 use Rattle.edits.specs.declared.find.Place.the-variants.{Nothing, At}
@@ -65,29 +65,29 @@ uint-index v h = ap Index (toZ-pos w32 v (omega arith)) ∙ key-plain (pos v) (o
 
 -- A place among n items.
 
-negative : (z : ℤ) (n : ℕ) → ltZ z (pos 0) ≡ true → Nothing ≡ place-told (inside z n)
-unfolding inside
+negative : (z : ℤ) (n : ℕ) → ltZ z (pos 0) ≡ true → Nothing ≡ place-told (among z n)
+unfolding among
 negative (pos k) n q = let h : k < 0 = ltb-true k 0 q in let w : ⊥ = omega arith in absurd w
 negative (negsuc k) n q = refl
 
-pub place-negative : (v z : ℤ) (n : ℕ) → v ≡ z → ltZ v (pos 0) ≡ true → Nothing ≡ place-told (inside z n)
+pub place-negative : (v z : ℤ) (n : ℕ) → v ≡ z → ltZ v (pos 0) ≡ true → Nothing ≡ place-told (among z n)
 place-negative v z n e q = negative z n (rw e at q)
 
-at-plain : (z : ℤ) (n : ℕ) → ltZ z (pos 0) ≡ false → natAbs z < n → At (natAbs z) ≡ place-told (inside z n)
-unfolding inside
+at-plain : (z : ℤ) (n : ℕ) → ltZ z (pos 0) ≡ false → natAbs z < n → At (natAbs z) ≡ place-told (among z n)
+unfolding among
 at-plain (pos k) n q h = rw (lt-ltb k n h)
 at-plain (negsuc k) n q h = let z : _≡_ {A = ℕ} 0 1 = cc in absurd (omega arith)
 
-past-plain : (z : ℤ) (n : ℕ) → ltZ z (pos 0) ≡ false → n ≤ natAbs z → Nothing ≡ place-told (inside z n)
-unfolding inside
+past-plain : (z : ℤ) (n : ℕ) → ltZ z (pos 0) ≡ false → n ≤ natAbs z → Nothing ≡ place-told (among z n)
+unfolding among
 past-plain (pos k) n q h = rw (le-ltb k n h)
 past-plain (negsuc k) n q h = refl
 
 module _ (v z : ℤ) (n : ℕ) (e : v ≡ z) (q : ltZ v (pos 0) ≡ false) where
-  pub place-at : natAbs v < n → At (natAbs v) ≡ place-told (inside z n)
+  pub place-at : natAbs v < n → At (natAbs v) ≡ place-told (among z n)
   place-at h = rw e (at-plain z n (rw e at q) (rw e at h))
 
-  pub place-past : n ≤ natAbs v → Nothing ≡ place-told (inside z n)
+  pub place-past : n ≤ natAbs v → Nothing ≡ place-told (among z n)
   place-past h = past-plain z n (rw e at q) (rw e at h)
 
 -- The item that an index stands for.
@@ -117,34 +117,34 @@ module _ (n : ℕ) (i : ℤ) (h : n < 2 ^ 29) (f : SFits w32 i) where
   pub summed : toZ w64 (ofZ w64 (toZ w64 n +ℤ toZ w64 (ofZ w64 (toZ w32 (ofZ w32 i))))) ≡ pos n +ℤ i
   summed = toZ-ofZ w64 _ sum-fits ∙ added
 
-from-end : (n k : ℕ) → inside (pos n +ℤ negsuc k) n ≡ place (negsuc k) n
-unfolding inside place
+from-end : (n k : ℕ) → among (pos n +ℤ negsuc k) n ≡ place (negsuc k) n
+unfolding among place
 from-end n k = go (decLt k n)
   where
-    go : Dec (k < n) → inside (pos n +ℤ negsuc k) n ≡ place (negsuc k) n
+    go : Dec (k < n) → among (pos n +ℤ negsuc k) n ≡ place (negsuc k) n
     go (yes h) = rw (le-ltb n (suc k) (omega arith), lt-ltb k n h, lt-ltb (n - suc k) n (omega arith))
     go (no h) = rw (lt-ltb n (suc k) (omega arith), le-ltb k n (omega arith))
 
-back-plain : (i : ℤ) (n : ℕ) → ltZ i (pos 0) ≡ true → inside (pos n +ℤ i) n ≡ place i n
+back-plain : (i : ℤ) (n : ℕ) → ltZ i (pos 0) ≡ true → among (pos n +ℤ i) n ≡ place i n
 back-plain (pos k) n q = let h : k < 0 = ltb-true k 0 q in let w : ⊥ = omega arith in absurd w
 back-plain (negsuc k) n q = from-end n k
 
-on-plain : (i : ℤ) (n : ℕ) → ltZ i (pos 0) ≡ false → inside i n ≡ place i n
-unfolding inside place
+on-plain : (i : ℤ) (n : ℕ) → ltZ i (pos 0) ≡ false → among i n ≡ place i n
+unfolding among place
 on-plain (pos k) n q = refl
 on-plain (negsuc k) n q = let z : _≡_ {A = ℕ} 0 1 = cc in absurd (omega arith)
 
 -- v is what the machine's test saw of i, and w what was looked up.
-module _ (v w i : ℤ) (n : ℕ) (r : Place) (e : v ≡ i) (hr : r ≡ place-told (inside w n)) where
+module _ (v w i : ℤ) (n : ℕ) (r : Place) (e : v ≡ i) (hr : r ≡ place-told (among w n)) where
   pub index-back : ltZ v (pos 0) ≡ true → w ≡ pos n +ℤ i → r ≡ place-told (place i n)
-  index-back q ew = hr ∙ ap (λ (z : ℤ). place-told (inside z n)) ew ∙ ap place-told (back-plain i n (rw e at q))
+  index-back q ew = hr ∙ ap (λ (z : ℤ). place-told (among z n)) ew ∙ ap place-told (back-plain i n (rw e at q))
 
   pub index-on : ltZ v (pos 0) ≡ false → w ≡ i → r ≡ place-told (place i n)
-  index-on q ew = hr ∙ ap (λ (z : ℤ). place-told (inside z n)) ew ∙ ap place-told (on-plain i n (rw e at q))
+  index-on q ew = hr ∙ ap (λ (z : ℤ). place-told (among z n)) ew ∙ ap place-told (on-plain i n (rw e at q))
 
 -- An index without its sign. `v` is what the machine reads of i.
 
-index-plain : (i : ℤ) → SFits w32 i → ltZ i (pos 0) ≡ false → T (nonNeg i) × Fits w32 (natAbs i)
+index-plain : (i : ℤ) → SFits w32 i → ltZ i (pos 0) ≡ false → T (nonNeg i) × Fits w64 (natAbs i)
 index-plain (pos k) f q = (tt, record { fits = lt-trans (f .sfits) (lit< tt) })
 index-plain (negsuc k) f q = let z : _≡_ {A = ℕ} 0 1 = cc in absurd (omega arith)
 
@@ -153,7 +153,7 @@ turn-plain (pos k) q = let h : k < 0 = ltb-true k 0 q in let w : ⊥ = omega ari
 turn-plain (negsuc k) q = ap pos (zero-add (suc k))
 
 module _ (v i : ℤ) (e : v ≡ i) (f : SFits w32 i) where
-  pub index-cast : ltZ v (pos 0) ≡ false → T (nonNeg v) × Fits w32 (natAbs v)
+  pub index-cast : ltZ v (pos 0) ≡ false → T (nonNeg v) × Fits w64 (natAbs v)
   index-cast q = rw e (index-plain i f (rw e at q))
 
   module _ (q : ltZ v (pos 0) ≡ true) where
@@ -166,7 +166,7 @@ module _ (v i : ℤ) (e : v ≡ i) (f : SFits w32 i) where
     back : toZ w64 (ofZ w64 (pos 0 -ℤ v)) ≡ pos (suc (mag i))
     back = toZ-ofZ w64 _ turned-fits ∙ turned
 
-    pub turned-cast : T (nonNeg (toZ w64 (ofZ w64 (pos 0 -ℤ v)))) × Fits w32 (natAbs (toZ w64 (ofZ w64 (pos 0 -ℤ v))))
+    pub turned-cast : T (nonNeg (toZ w64 (ofZ w64 (pos 0 -ℤ v)))) × Fits w64 (natAbs (toZ w64 (ofZ w64 (pos 0 -ℤ v))))
     turned-cast = rw back (tt, record { fits = omega (arith, f .sfits) })
 
     pub turned-is : natAbs (toZ w64 (ofZ w64 (pos 0 -ℤ v))) ≡ suc (mag i)

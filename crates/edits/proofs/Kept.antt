@@ -13,9 +13,9 @@ use Rattle.builders.specs.Order.{by, insert, insert-all, in-order, find}
 use Rattle.builders.specs.Build.{count}
 use Rattle.builders.proofs.Orderings.{order-cases, by-order}
 use Rattle.builders.proofs.InOrders.{in-order-rising, in-order-valid, in-order-sound, in-order-depth}
-use Rattle.edits.specs.Path.{Step}
+use Rattle.edits.specs.Keypath.{Step}
 use Rattle.edits.specs.Find.{_then_, step-place, step-name, item-at, step-into, look-up}
-use Rattle.edits.specs.Delete.{kept-member, change-item, change-member, anew, left, or-same, delete}
+use Rattle.edits.specs.Delete.{kept-member, change-item, change-member, anew, remains, or-same, delete}
 use Rattle.edits.proofs.Deletes.{some-inj, nothing-some, then-some}
 
 -- `u` is no more than `t`.
@@ -141,11 +141,11 @@ look-up-readable p t u e r = no-more-readable u t (look-up-kept p t u e) r
 -- ---- delete
 
 -- What is left of an item, if anything, is no more than it was.
-abbrev NoMoreLeft : Option Tree → Tree → Type 0
-NoMoreLeft nothing c = Unit {0}
-NoMoreLeft (some u) c = NoMore u c
+abbrev NoMoreOf : Option Tree → Tree → Type 0
+NoMoreOf nothing c = Unit {0}
+NoMoreOf (some u) c = NoMore u c
 
-item-kept : (o : Option Tree) (i : ℕ) (ts : Items) (c : Tree) → item-at ts i ≡ some c → NoMoreLeft o c → NoMoreItems (change-item o i ts) ts
+item-kept : (o : Option Tree) (i : ℕ) (ts : Items) (c : Tree) → item-at ts i ≡ some c → NoMoreOf o c → NoMoreItems (change-item o i ts) ts
 item-kept o i none c e l = nothing-some e
 item-kept nothing zero (item t ts) c e l =
     record { valid = λ v. v .1; sound = λ s. s .1; deep = omega arith; payload = omega arith }
@@ -156,7 +156,7 @@ item-kept o (suc i) (item t ts) c e l =
     let k = item-kept o i ts c e l in
     record { valid = λ v. (v .0, k .valid (v .1)); sound = λ s. (s .0, k .sound (s .1)); deep = omega arith; payload = omega arith }
 
-member-kept : (o : Option Tree) (n : Bytes) (ms : Members) (c : Tree) → find n ms ≡ some c → NoMoreLeft o c → NoMoreMembers (change-member o n ms) ms
+member-kept : (o : Option Tree) (n : Bytes) (ms : Members) (c : Tree) → find n ms ≡ some c → NoMoreOf o c → NoMoreMembers (change-member o n ms) ms
 member-kept o n empty c e l = nothing-some e
 member-kept o n (member m t ms) c e l =
     order-cases n m
@@ -171,7 +171,7 @@ member-kept o n (member m t ms) c e l =
     later ns k =
         record { valid = λ v. (v .0, v .1, k .valid (v .2)); sound = λ s. (s .0, k .sound (s .1)); deep = omega arith; payload = omega arith }
 
-    here : (o : Option Tree) → NoMoreLeft o t → NoMoreMembers (kept-member m o ms) (member m t ms)
+    here : (o : Option Tree) → NoMoreOf o t → NoMoreMembers (kept-member m o ms) (member m t ms)
     here nothing k = record { valid = λ v. v .2; sound = λ s. s .1; deep = omega arith; payload = omega arith }
     here (some u) k =
         record { valid = λ v. (v .0, k .valid (v .1), v .2); sound = λ s. (k .sound (s .0), s .1); deep = omega arith; payload = omega arith }
@@ -191,7 +191,7 @@ pub in-order-shorter : (ms : Members) → size-members (in-order ms) ≤ size-me
 in-order-shorter ms = omega (arith, all-size ms empty)
 
 -- A container written anew.
-anew-kept : (o : Option Tree) (s : Step) (t c : Tree) → step-into s t ≡ some c → NoMoreLeft o c → NoMore (anew o s t) t
+anew-kept : (o : Option Tree) (s : Step) (t c : Tree) → step-into s t ≡ some c → NoMoreOf o c → NoMore (anew o s t) t
 anew-kept o s null c e l = nothing-some e
 anew-kept o s (boolean x) c e l = nothing-some e
 anew-kept o s (number b) c e l = nothing-some e
@@ -214,22 +214,22 @@ anew-kept o s (object ms) c e l =
       long = omega arith;
     }
 
-left-kept : (p : List Step) (t v : Tree) → look-up p t ≡ some v → NoMoreLeft (left p t) t
-left-kept [] t v e = tt
-left-kept (s ∷ p) t v e =
+remains-kept : (p : List Step) (t v : Tree) → look-up p t ≡ some v → NoMoreOf (remains p t) t
+remains-kept [] t v e = tt
+remains-kept (s ∷ p) t v e =
     let f = then-some (step-into s t) (look-up p) v e in
-    rw (f .1) (anew-kept (left p (f .0)) s t (f .0) (f .1) (left-kept p (f .0) v (f .2)))
+    rw (f .1) (anew-kept (remains p (f .0)) s t (f .0) (f .1) (remains-kept p (f .0) v (f .2)))
 
 pub delete-kept : (p : List Step) (t : Tree) → NoMore (delete p t) t
 delete-kept p t = by-found (look-up p t) refl
   where
-    or-same-kept : (o : Option Tree) → NoMoreLeft o t → NoMore (or-same t o) t
+    or-same-kept : (o : Option Tree) → NoMoreOf o t → NoMore (or-same t o) t
     or-same-kept nothing l = no-more-same t
     or-same-kept (some u) l = l
 
-    by-found : (o : Option Tree) → look-up p t ≡ o → NoMore (or-same t (o then λ _. left p t)) t
+    by-found : (o : Option Tree) → look-up p t ≡ o → NoMore (or-same t (o then λ _. remains p t)) t
     by-found nothing e = no-more-same t
-    by-found (some v) e = or-same-kept (left p t) (left-kept p t v e)
+    by-found (some v) e = or-same-kept (remains p t) (remains-kept p t v e)
 
 pub delete-readable : (p : List Step) (t : Tree) → Readable t → Readable (delete p t)
 delete-readable p t r = no-more-readable (delete p t) t (delete-kept p t) r

@@ -9,9 +9,9 @@ use Rattle.layout.specs.Number.{be-value, signed, number-of}
 use Rattle.layout.specs.Ended.{result, absence, refusal}
 use Rattle.layout.specs.Order.{order}
 use Rattle.layout.specs.declared.refusal.Refusal.the-variants.{Short, Layout, Path, Kind, Buffer}
-use Rattle.edits.specs.Path.{index-text}
+use Rattle.edits.specs.Keypath.{index-text}
 use Rattle.edits.specs.Find.{place}
-use Rattle.edits.specs.Keypath.{get-by, delete-by, on-path}
+use Rattle.edits.specs.Path.{get-by, delete-by, on-path}
 
 -- ---- records
 

@@ -26,12 +26,16 @@ use Rattle.builders.specs.Order.{in-order}
 use Rattle.builders.specs.Build.{count}
 use Rattle.builders.proofs.InOrders.{rising-in-order}
 use Rattle.builders.proofs.Knowns.{an-array}
-use Rattle.edits.specs.Path.{Step}
+use Rattle.edits.specs.Keypath.{Step}
 use Rattle.edits.specs.Find.{step-place, step-name, item-at, step-into}
 use Rattle.edits.specs.Delete.{change-member, anew}
 use Rattle.layout.specs.Parts.{nth-part}
 use Rattle.edits.specs.Spot.{spot}
-use Rattle.edits.specs.Cut.{Left, InRuns, left-of, count-parts, Table, PartOf, parts-of, without, without-member, manner-of}
+use Rattle.edits.specs.Cut.{Stores}
+use Rattle.edits.specs.Manner.{InRuns, manner-of}
+use Rattle.edits.specs.Remains.{remains-of}
+use Rattle.layout.specs.Parts.{count-parts, PartOf, parts-of}
+use Rattle.edits.specs.Runs.{Table, without, without-member}
 use Rattle.layout.specs.declared.parts.PartAt.{PartAt}
 use Rattle.edits.specs.declared.find.Spot.the-variants.{At}
 use Rattle.edits.specs.declared.delete.Manner.the-variants.{Items as ByItems, Rising as ByRising, Unsorted, Neither}
@@ -87,11 +91,11 @@ no-manner s (Scalar m) e a p q = let z : _≡_ {A = ℕ} 0 1 = cc in let w : ⊥
 no-manner s (Refused r) e a p q = let z : _≡_ {A = ℕ} 0 1 = cc in let w : ⊥ = omega arith in absurd w
 
 -- The same bytes, written in another way.
-pub left-as : (r : ℕ) (before after : Bytes) (at : ℕ) (b c : Bytes) → c ≡ b → Left r before after at b → Left r before after at c
-left-as r before after at b c e h = rw e h
+pub stores-as : (r : ℕ) (before after : Bytes) (at : ℕ) (b c : Bytes) → c ≡ b → Stores r before after at b → Stores r before after at c
+stores-as r before after at b c e h = rw e h
 
-pub left-length : {r : ℕ} {before after : Bytes} {at : ℕ} {b : Bytes} → Left r before after at b → length after ≡ length before
-left-length h = ap length (h .stored) ∙ length-patch _ _ _
+pub stores-length : {r : ℕ} {before after : Bytes} {at : ℕ} {b : Bytes} → Stores r before after at b → length after ≡ length before
+stores-length h = ap length (h .stored) ∙ length-patch _ _ _
 
 -- A list without one of its places.
 without-split : (l : List Part) (q : Part) (r : List Part) (k : ℕ) → length l ≡ k → without k (l ++ (q ∷ r)) ≡ l ++ r
@@ -157,8 +161,8 @@ module _ (s : Bytes) (a : PartAt) (p : Step) (ts : Items) (c : Contains 64 s (ar
           let l : length (sp .left ++ (part u ∷ sp .right)) ≡ n = omega (arith, size-all, length-append (sp .left) (part u ∷ sp .right)) in
           rw (hk, sp .changed u, l)
 
-  array-gone-by : left-of s (p ∷ []) ≡ record-of (2 ^ 31 + (n - 1)) (without (a .index) (parts-of s n))
-  unfolding left-of
+  array-gone-by : remains-of s (p ∷ []) ≡ record-of (2 ^ 31 + (n - 1)) (without (a .index) (parts-of s n))
+  unfolding remains-of
   array-gone-by =
       let l : length (sp .left ++ sp .right) ≡ n - 1 = omega (arith, size-all, length-append (sp .left) (sp .right)) in
       let w : without (a .index) (parts-of s n) ≡ sp .left ++ sp .right =
@@ -167,7 +171,7 @@ module _ (s : Bytes) (a : PartAt) (p : Step) (ts : Items) (c : Contains 64 s (ar
 
 pub array-led : (s : Bytes) (n : ℕ) (a : PartAt) (p : Step) → Octets s → checked (nested 64 s) ≡ Readable → length s ≤ 65536
     → header s ≡ Array n → spot (header s) s p ≡ At a
-    → Led s n a p × (left-of s (p ∷ []) ≡ record-of (2 ^ 31 + (n - 1)) (without (a .index) (parts-of s n)))
+    → Led s n a p × (remains-of s (p ∷ []) ≡ record-of (2 ^ 31 + (n - 1)) (without (a .index) (parts-of s n)))
 array-led s n a p o c l h q =
     let k = contains 64 s o l c in
     let w = an-array (k .0) n (sym (k .1 .head) ∙ h) in
@@ -232,8 +236,8 @@ module _ (s : Bytes) (n : ℕ) (a : PartAt) (p : Step) (v : Value-at s n a p) (h
           let l : length (sp .vals-left ++ (part u ∷ sp .vals-right)) ≡ n = omega (arith, vals-all, length-append (sp .vals-left) (part u ∷ sp .vals-right)) in
           rw (stays (some u), sp .keys-changed u, sp .vals-changed u, l, append-assoc (name-parts (names ms)) (sp .vals-left) (part u ∷ sp .vals-right))
 
-  rising-gone-by : left-of s (p ∷ []) ≡ record-of (2 ^ 30 + (n - 1)) (without-member n (a .index - n) (parts-of s (n + n)))
-  unfolding left-of
+  rising-gone-by : remains-of s (p ∷ []) ≡ record-of (2 ^ 30 + (n - 1)) (without-member n (a .index - n) (parts-of s (n + n)))
+  unfolding remains-of
   rising-gone-by =
       let k : a .index - n ≡ sp .count = omega (arith, v .index) in
       let l : length (sp .vals-left ++ sp .vals-right) ≡ n - 1 = omega (arith, vals-all, length-append (sp .vals-left) (sp .vals-right)) in
@@ -249,7 +253,7 @@ module _ (s : Bytes) (n : ℕ) (a : PartAt) (p : Step) (v : Value-at s n a p) (h
 
 pub rising-led : (s : Bytes) (n : ℕ) (a : PartAt) (p : Step) → Octets s → checked (nested 64 s) ≡ Readable → length s ≤ 65536
     → header s ≡ Object n → rises s n ≡ true → spot (header s) s p ≡ At a
-    → Led s (n + n) a p × (n ≤ a .index) × (left-of s (p ∷ []) ≡ record-of (2 ^ 30 + (n - 1)) (without-member n (a .index - n) (parts-of s (n + n))))
+    → Led s (n + n) a p × (n ≤ a .index) × (remains-of s (p ∷ []) ≡ record-of (2 ^ 30 + (n - 1)) (without-member n (a .index - n) (parts-of s (n + n))))
 rising-led s n a p o c l h up q =
     let v = value-at s n a p o c l h q in (
       rising-led-by s n a p v (v .stands) up,

@@ -1,6 +1,6 @@
 -- The laws of the edits, from the leaf up.
 pub mod Indexes
-pub mod Decimals
+pub mod IndexTexts
 pub mod Keys
 pub mod Paths
 pub mod Parts

@@ -11,7 +11,7 @@ use Rattle.layout.proofs.Answers.{from-require}
 use Rattle.layout.proofs.Decoding.{read-is}
 use Rattle.builders.specs.Build.{append, build, on-two}
 use Rattle.builders.proofs.Results.{Keeps, result-made, append-keeps, build-keeps}
-use Rattle.edits.specs.Keypath.{get-by, delete-by, on-path}
+use Rattle.edits.specs.Path.{get-by, delete-by, on-path}
 use Rattle.edits.specs.Concat.{concat}
 use Rattle.edits.specs.Strip.{strip, on-one}
 use Rattle.edits.proofs.Concats.{concat-keeps}

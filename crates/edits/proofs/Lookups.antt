@@ -31,18 +31,18 @@ use Rattle.layout.proofs.Nestings.{head-of, readable-gives, refused-as}
 use Rattle.layout.proofs.Patches.{in-as}
 use Rattle.layout.specs.declared.parts.ItemAt.{ItemAt}
 use Rattle.builders.proofs.Knowns.{Known, known}
-use Rattle.edits.specs.Path.{Step, path-of}
+use Rattle.edits.specs.Keypath.{Step, path-of}
 use Rattle.edits.specs.Find.{_then_, step-into, look-up}
-use Rattle.edits.specs.Keypath.{get-by, on-path}
+use Rattle.edits.specs.Path.{get-by, on-path}
 use Rattle.edits.specs.Steps.{code-key, step, part-steps, steps-told}
-use Rattle.edits.specs.Held.{Held, Stands, Leads, finding, Finds, written}
+use Rattle.edits.specs.Held.{Held, Stands, Leads, finding, Finds, item-record}
 use Rattle.edits.specs.declared.keypath.Steps.{Steps}
 use Rattle.edits.specs.declared.keypath.Steps.the-variants.{Count, Refused as NoPath}
 use Rattle.edits.specs.declared.path.Item.{Item}
 use Rattle.edits.specs.declared.path.Item.the-variants.{Nothing, At}
 use Rattle.edits.proofs.Keys.{next-step}
 use Rattle.edits.proofs.Paths.{length-part-steps, steps-counted, steps-refused}
-use Rattle.edits.proofs.Helds.{agree-none, agree-some, found-none, found-some, root-held, held-written}
+use Rattle.edits.proofs.Helds.{agree-none, agree-some, found-none, found-some, root-held, held-record}
 use Rattle.edits.proofs.OnPaths.{path-left, path-path, path-absent, path-done}
 
 -- The steps of a path of `n`.
@@ -205,8 +205,8 @@ module _ (a path o : Bytes) (room : ℕ) (c : Check) (hc : c ≡ checked (read a
               pub get-stands : Stands a x
               get-stands = (item .0, item .2)
 
-              pub get-item : (e : Ending) (o′ : Bytes) → EndedIn e o o′ (into room (written a x))
+              pub get-item : (e : Ending) (o′ : Bytes) → EndedIn e o o′ (into room (item-record a x))
                   → EndedIn e o o′ (on-path get-by a path room)
               get-item e o′ h =
                   get-done (item .0) (item .1) e o′
-                  (in-as _ (written a x) (encode (item .0)) (held-written a x (item .0) (item .2)) h)
+                  (in-as _ (item-record a x) (encode (item .0)) (held-record a x (item .0) (item .2)) h)

@@ -13,7 +13,8 @@ use Rattle.layout.specs.Read.{header}
 use Rattle.layout.specs.declared.refusal.Refusal.{Refusal}
 use Rattle.layout.specs.declared.util.Header.{Header}
 use Rattle.layout.specs.declared.util.Header.the-variants.{Array, Object, Scalar, Refused}
-use Rattle.edits.specs.Cut.{manner-of, name-of}
+use Rattle.edits.specs.Manner.{manner-of}
+use Rattle.edits.specs.Cut.{name-of}
 use Rattle.layout.specs.Parts.{members-of}
 use Rattle.edits.specs.declared.delete.Manner.the-variants.{Items, Rising, Unsorted, Neither}
 

@@ -16,9 +16,9 @@ use Rattle.layout.specs.Value.{Taken}
 use Rattle.builders.specs.Order.{in-order, find}
 use Rattle.builders.specs.Build.{count, join}
 use Rattle.builders.proofs.InOrders.{in-order-rising, rising-in-order, find-in-order}
-use Rattle.edits.specs.Path.{Step, index, name}
+use Rattle.edits.specs.Keypath.{Step, index, name}
 use Rattle.edits.specs.Find.{_then_, place, step-place, step-name, item-at, step-into, look-up}
-use Rattle.edits.specs.Delete.{change-item, change-at, change-member, anew, left, or-same, delete}
+use Rattle.edits.specs.Delete.{change-item, change-at, change-member, anew, remains, or-same, delete}
 use Rattle.edits.proofs.Deletes.{some-inj, nothing-some, then-some, found-or-not, find-other, find-changed, find-gone, change-rising, change-taken, step-below, item-there, item-past, item-changed, item-other, item-before, item-behind, count-changed, count-gone, change-split}
 use Rattle.edits.proofs.Kept.{look-up-kept}
 
@@ -43,20 +43,20 @@ pub deleted-whole : (t : Tree) → delete [] t ≡ t
 deleted-whole t = refl
 
 pub deleted-missing : (p : List Step) (t : Tree) → look-up p t ≡ nothing → delete p t ≡ t
-deleted-missing p t e = ap (λ (o : Option Tree). or-same t (o then λ _. left p t)) e
+deleted-missing p t e = ap (λ (o : Option Tree). or-same t (o then λ _. remains p t)) e
 
 -- Any other path: the container is written anew.
 pub deleted-found : (s : Step) (p : List Step) (t c v : Tree) → step-into s t ≡ some c → look-up p c ≡ some v
-    → delete (s ∷ p) t ≡ anew (left p c) s t
+    → delete (s ∷ p) t ≡ anew (remains p c) s t
 deleted-found s p t c v h e =
-    ap (λ (o : Option Tree). or-same t ((o then look-up p) then λ _. some (anew (o then left p) s t))) h
-    ∙ ap (λ (o : Option Tree). or-same t (o then λ _. some (anew (left p c) s t))) e
+    ap (λ (o : Option Tree). or-same t ((o then look-up p) then λ _. some (anew (o then remains p) s t))) h
+    ∙ ap (λ (o : Option Tree). or-same t (o then λ _. some (anew (remains p c) s t))) e
 
 -- What is left of a container is the container without what the path finds.
-left-deleted : (r : List Step) (s : Step) (p : List Step) (t v : Tree) → look-up (r ++ (s ∷ p)) t ≡ some v
-    → left (r ++ (s ∷ p)) t ≡ some (delete (r ++ (s ∷ p)) t)
-left-deleted [] s p t v e = sym (ap (λ (o : Option Tree). some (or-same t (o then λ _. left (s ∷ p) t))) e)
-left-deleted (q ∷ r) s p t v e = sym (ap (λ (o : Option Tree). some (or-same t (o then λ _. left (q ∷ (r ++ (s ∷ p))) t))) e)
+remains-deleted : (r : List Step) (s : Step) (p : List Step) (t v : Tree) → look-up (r ++ (s ∷ p)) t ≡ some v
+    → remains (r ++ (s ∷ p)) t ≡ some (delete (r ++ (s ∷ p)) t)
+remains-deleted [] s p t v e = sym (ap (λ (o : Option Tree). some (or-same t (o then λ _. remains (s ∷ p) t))) e)
+remains-deleted (q ∷ r) s p t v e = sym (ap (λ (o : Option Tree). some (or-same t (o then λ _. remains (q ∷ (r ++ (s ∷ p))) t))) e)
 
 -- A container with another item in the place of one that a step finds: the step finds that item.
 array-anew : (s : Step) (ts : Items) (i : ℕ) (u : Tree) → step-place s (count ts) ≡ some i
@@ -81,7 +81,7 @@ within-found (q ∷ r) s p t u v e h =
     let f = then-some (step-into q t) (look-up r) u e in
     let found : look-up (r ++ (s ∷ p)) (f .0) ≡ some v = look-up-behind r (s ∷ p) (f .0) u (f .2) ∙ h in
     let is : delete (q ∷ (r ++ (s ∷ p))) t ≡ anew (some (delete (r ++ (s ∷ p)) (f .0))) q t =
-    deleted-found q (r ++ (s ∷ p)) t (f .0) v (f .1) found ∙ ap (λ (o : Option Tree). anew o q t) (left-deleted r s p (f .0) v found) in
+    deleted-found q (r ++ (s ∷ p)) t (f .0) v (f .1) found ∙ ap (λ (o : Option Tree). anew o q t) (remains-deleted r s p (f .0) v found) in
     ap (look-up (q ∷ r)) is
     ∙ ap (λ (o : Option Tree). o then look-up r) (into-anew q t (f .0) (delete (r ++ (s ∷ p)) (f .0)) (f .1))
     ∙ within-found r s p (f .0) u v (f .2) h
@@ -135,7 +135,7 @@ module _ (ms : Members) (s : Step) where
       let g = then-some (find (step-name s) ms) (look-up p) (f .0) (f .1) in
       ap (look-up (s′ ∷ q)) (deleted-found s p (object ms) (g .0) (f .0) (g .1) (g .2))
       ∙ ap (λ (o : Option Tree). o then look-up q)
-      (find-in-order (step-name s′) (change-member (left p (g .0)) (step-name s) ms) ∙ find-other (left p (g .0)) (step-name s) (step-name s′) ms h))
+      (find-in-order (step-name s′) (change-member (remains p (g .0)) (step-name s) ms) ∙ find-other (remains p (g .0)) (step-name s) (step-name s′) ms h))
       (found-or-not (look-up (s ∷ p) (object ms)))
 
 module _ (r : List Step) (t : Tree) (ms : Members) (e : look-up r t ≡ some (object ms)) (s : Step) where
@@ -165,7 +165,7 @@ module _ (r : List Step) (t : Tree) (ms : Members) (e : look-up r t ≡ some (ob
       → (ns : Members) × (look-up r (delete (r ++ (s ∷ p)) t) ≡ some (object ns)) × Rising (names ns)
   deleted-in-order p v h =
       let g = then-some (find (step-name s) ms) (look-up p) v h in
-      let ns = change-member (left p (g .0)) (step-name s) ms in (
+      let ns = change-member (remains p (g .0)) (step-name s) ms in (
         in-order ns,
         deleted-within r s p t (object ms) e
             ∙ ap some (deleted-found s p (object ms) (g .0) v (g .1) (g .2)),
@@ -192,13 +192,13 @@ back-finds k ts h = rw (lt-ltb k (count ts) h)
 
 module _ (ts : Items) (s : Step) where
   array-found : (p : List Step) (i : ℕ) (v : Tree) → step-place s (count ts) ≡ some i → look-up (s ∷ p) (array ts) ≡ some v
-      → (c : Tree) × (item-at ts i ≡ some c) × (delete (s ∷ p) (array ts) ≡ array (change-item (left p c) i ts))
+      → (c : Tree) × (item-at ts i ≡ some c) × (delete (s ∷ p) (array ts) ≡ array (change-item (remains p c) i ts))
   array-found p i v h e =
       let g = then-some (step-into s (array ts)) (look-up p) v e in (
         g .0,
         ap (λ (o : Option ℕ). o then item-at ts) (sym h) ∙ g .1,
         deleted-found s p (array ts) (g .0) v (g .1) (g .2)
-            ∙ ap (λ (o : Option ℕ). array (change-at (left p (g .0)) o ts)) h,
+            ∙ ap (λ (o : Option ℕ). array (change-at (remains p (g .0)) o ts)) h,
       )
 
   item-gone : (i : ℕ) → step-place s (count ts) ≡ some i → delete (s ∷ []) (array ts) ≡ array (change-item nothing i ts)
@@ -219,7 +219,7 @@ module _ (ts : Items) (s : Step) where
       let a = array-found (n ∷ p) (k .0) (f .0) (k .1) (f .1) in
       ap (look-up (s′ ∷ q)) (a .2)
       ∙ ap (λ (o : Option Tree). o then look-up q)
-      (elsewhere (anew (step-into n (a .0) then left p) n (a .0)) (k .0) (λ w. h (w ∙ sym (k .1)))))
+      (elsewhere (anew (step-into n (a .0) then remains p) n (a .0)) (k .0) (λ w. h (w ∙ sym (k .1)))))
       (found-or-not (look-up (s ∷ n ∷ p) (array ts)))
     where
       other : (u : Tree) (i : ℕ) (o : Option ℕ) → (o ≡ some i → ⊥) → (o then item-at (change-item (some u) i ts)) ≡ (o then item-at ts)

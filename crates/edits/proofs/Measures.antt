@@ -8,7 +8,8 @@ use lib.Dec.{eqb}
 use lib.ListN.{length, drop, drop-of-length-le}
 use Rattle.layout.specs.Bytes.{Bytes}
 use Rattle.layout.specs.Parts.{name-in, value-in, bytes-at}
-use Rattle.builders.specs.Search.{bound, least, sorted}
+use Rattle.builders.specs.Search.{bound, least}
+use Rattle.builders.specs.Sorted.{sorted}
 use Rattle.builders.specs.Weave.{column}
 use Rattle.layout.specs.declared.parts.MemberAt.{MemberAt}
 use Rattle.builders.specs.declared.search.Found.{Found}

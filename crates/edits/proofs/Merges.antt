@@ -21,7 +21,7 @@ use Rattle.layout.specs.Parts.{members-of}
 use Rattle.edits.specs.Members.{all-ahead, Next}
 use Rattle.edits.specs.Merge.{chosen, Objects, moved-member, moved-all, in-a-row, merged, behind-all}
 use Rattle.edits.specs.declared.members.Ahead.{Ahead}
-use Rattle.edits.specs.declared.members.Taken.{Taken}
+use Rattle.edits.specs.declared.members.NextMember.{NextMember}
 use Rattle.edits.specs.declared.merge.Turn.{Turn}
 use Rattle.edits.specs.declared.merge.Turn.the-variants.{Left, Right, Both, End}
 use Rattle.edits.proofs.Sorteds.{Object-at, object-at}
@@ -46,7 +46,7 @@ starts-ready s n h a e = rw e (ahead-ready s n All start (all-ahead s n) (ahead-
 module _ (l : Bytes) (m : ℕ) (r : Bytes) (n : ℕ) where
   module _ (o : Bytes) (to : Places) where
     -- The loop: `i` members of both in byte order are stored, up to the last name taken, and the rest is to come.
-    pub record Merging (out : Bytes) (x y : Taken) (at : Places) (i : ℕ) : Type 0 where
+    pub record Merging (out : Bytes) (x y : NextMember) (at : Places) (i : ℕ) : Type 0 where
       pub right-object : Object-at r n
       pub last : Bytes
       pub kept : Stored (name-in (r ++ l)) (value-in (r ++ l)) own-entry (in-a-row l m r n) o to out last at i
@@ -54,7 +54,7 @@ module _ (l : Bytes) (m : ℕ) (r : Bytes) (n : ℕ) where
       pub right : Side r n (bound (eqb i 0) last) y
 
     pub merging-starts : Object-at l m → Object-at r n → (a c : Ahead) → a ≡ all-ahead l m → c ≡ all-ahead r n
-        → (x y : Taken) → Next l All start a x → Next r All start c y → Merging o x y to 0
+        → (x y : NextMember) → Next l All start a x → Next r All start c y → Merging o x y to 0
     merging-starts hl hr a c el er x y hx hy =
         record {
           right-object = hr;
@@ -65,7 +65,7 @@ module _ (l : Bytes) (m : ℕ) (r : Bytes) (n : ℕ) where
         }
 
     -- The places are near, and so near enough for a member to be stored there.
-    pub merging-within : (out : Bytes) (x y : Taken) (at : Places) (i : ℕ) → Merging out x y at i → i ≤ m + n → m + n ≤ 16384
+    pub merging-within : (out : Bytes) (x y : NextMember) (at : Places) (i : ℕ) → Merging out x y at i → i ≤ m + n → m + n ≤ 16384
         → (to .«key_jentry» < 2 ^ 32) × (to .«val_jentry» < 2 ^ 32) × (to .key < 2 ^ 32) × (to .val < 2 ^ 32)
         → (at .«key_jentry» < 2 ^ 48) × (at .«val_jentry» < 2 ^ 48) × (at .key < 2 ^ 48) × (at .val < 2 ^ 48)
     merging-within out x y at i h k f w = (
@@ -75,14 +75,14 @@ module _ (l : Bytes) (m : ℕ) (r : Bytes) (n : ℕ) where
       omega (arith, h .kept .near-val),
     )
 
-    pub merging-near : (out : Bytes) (x y : Taken) (at : Places) (i : ℕ) → Merging out x y at i → i ≤ m + n → m + n ≤ 16384
+    pub merging-near : (out : Bytes) (x y : NextMember) (at : Places) (i : ℕ) → Merging out x y at i → i ≤ m + n → m + n ≤ 16384
         → (to .«key_jentry» < 2 ^ 32) × (to .«val_jentry» < 2 ^ 32) × (to .key < 2 ^ 32) × (to .val < 2 ^ 32)
         → (at .«key_jentry» < 2 ^ 60) × (at .«val_jentry» < 2 ^ 60) × (at .key < 2 ^ 60) × (at .val < 2 ^ 60)
     merging-near out x y at i h k f w =
         let b = merging-within out x y at i h k f w in
         (omega (arith, b .0), omega (arith, b .1), omega (arith, b .2), omega (arith, b .3))
 
-    module _ (out : Bytes) (x y : Taken) (at : Places) (i : ℕ) (h : Merging out x y at i) where
+    module _ (out : Bytes) (x y : NextMember) (at : Places) (i : ℕ) (h : Merging out x y at i) where
       -- What put_merged promises: the members of both are stored, and the places are those behind them.
       abbrev AllStored : Type 0
       AllStored =
@@ -139,11 +139,11 @@ module _ (l : Bytes) (m : ℕ) (r : Bytes) (n : ℕ) where
         later : eqb (i + 1) 0 ≡ false
         later = ne-eqb (i + 1) 0 (λ q. omega arith)
 
-        anew : (s : Bytes) (k : ℕ) (a : Ahead) (z : Taken) (p w : Bytes) → p ≡ w → AheadOf s k All (after w) a → Next s All (bound false p) a z
+        anew : (s : Bytes) (k : ℕ) (a : Ahead) (z : NextMember) (p w : Bytes) → p ≡ w → AheadOf s k All (after w) a → Next s All (bound false p) a z
             → Side s k (bound (eqb (i + 1) 0) w) z
         anew s k a z p w q g f = rw later (record { from = a; ahead = g; next = rw q at f })
 
-        still : (s : Bytes) (k : ℕ) (z : Taken) (w : Bytes) → Side s k (after w) z → Side s k (bound (eqb (i + 1) 0) w) z
+        still : (s : Bytes) (k : ℕ) (z : NextMember) (w : Bytes) → Side s k (after w) z → Side s k (bound (eqb (i + 1) 0) w) z
         still s k z w g = rw later g
 
         module _ (w : MemberAt) (at′ : Places) (out′ : Bytes) where
@@ -173,8 +173,8 @@ module _ (l : Bytes) (m : ℕ) (r : Bytes) (n : ℕ) where
               (rw (sn, sv) p) (sym sn) (bytes-short (r ++ l) (w .key)) (bytes-short (r ++ l) (w .val))
 
           -- In the code's terms, where the ways meet.
-          module _ (out₂ : Bytes) (x₂ y₂ : Taken) (at₂ : Places) (eo : out₂ ≡ out′) (ea : at₂ ≡ at′) (p : Bytes) where
-            pub goes-left : (a : Ahead) (x′ : Taken) → t ≡ Left w a → p ≡ bytes-at l (w .key)
+          module _ (out₂ : Bytes) (x₂ y₂ : NextMember) (at₂ : Places) (eo : out₂ ≡ out′) (ea : at₂ ≡ at′) (p : Bytes) where
+            pub goes-left : (a : Ahead) (x′ : NextMember) → t ≡ Left w a → p ≡ bytes-at l (w .key)
                 → (at′ ≡ behind (name-in l w) (value-in l w) at)
                 × (out′ ≡ stored (name-in l) (value-in l) own-entry out (at .«key_jentry») (at .«val_jentry») (at .key) (at .val) w)
                 → Next l All (bound false p) a x′ → x₂ ≡ x′ → y₂ ≡ y → Merging out₂ x₂ y₂ at₂ (i + 1)
@@ -189,7 +189,7 @@ module _ (l : Bytes) (m : ℕ) (r : Bytes) (n : ℕ) where
                   right = still r n y (name-in l w) (g .1);
                 })
 
-            pub goes-right : (c : Ahead) (y′ : Taken) → t ≡ Right w c → p ≡ bytes-at r (w .key)
+            pub goes-right : (c : Ahead) (y′ : NextMember) → t ≡ Right w c → p ≡ bytes-at r (w .key)
                 → (at′ ≡ behind (name-in r w) (value-in r w) at)
                 × (out′ ≡ stored (name-in r) (value-in r) own-entry out (at .«key_jentry») (at .«val_jentry») (at .key) (at .val) w)
                 → Next r All (bound false p) c y′ → x₂ ≡ x → y₂ ≡ y′ → Merging out₂ x₂ y₂ at₂ (i + 1)
@@ -204,7 +204,7 @@ module _ (l : Bytes) (m : ℕ) (r : Bytes) (n : ℕ) where
                   right = anew r n c y′ p (name-in r w) ep (g .1) f;
                 })
 
-            pub goes-both : (a c : Ahead) (x′ y′ : Taken) → t ≡ Both w a c → p ≡ bytes-at r (w .key)
+            pub goes-both : (a c : Ahead) (x′ y′ : NextMember) → t ≡ Both w a c → p ≡ bytes-at r (w .key)
                 → (at′ ≡ behind (name-in r w) (value-in r w) at)
                 × (out′ ≡ stored (name-in r) (value-in r) own-entry out (at .«key_jentry») (at .«val_jentry») (at .key) (at .val) w)
                 → Next l All (bound false p) a x′ → Next r All (bound false p) c y′ → x₂ ≡ x′ → y₂ ≡ y′

@@ -15,8 +15,8 @@ use Rattle.layout.specs.declared.refusal.Refusal.the-variants.{Path}
 use Rattle.layout.specs.declared.ending.Ending.{Ending}
 use Rattle.layout.specs.declared.ending.Ending.the-variants.{Absent, Refused}
 use Rattle.layout.proofs.Pipelines.{record-fits, record-first, record-second, record-edit, record-absent, record-done}
-use Rattle.edits.specs.Path.{Step, path-of}
-use Rattle.edits.specs.Keypath.{on-path}
+use Rattle.edits.specs.Keypath.{Step, path-of}
+use Rattle.edits.specs.Path.{on-path}
 
 module _ (edit : List Step → Tree → Answer (Option Tree)) (target path o : Bytes) (room : ℕ) where
   -- The record is refused.

@@ -20,13 +20,14 @@ use Rattle.layout.specs.declared.check.Check.the-variants.{Readable}
 use Rattle.layout.proofs.Fields.{length-lt}
 use Rattle.layout.proofs.Words.{octets-take, octets-drop}
 use Rattle.layout.proofs.Readables.{nested-reads, size-payload}
-use Rattle.edits.specs.Path.{Step}
+use Rattle.edits.specs.Keypath.{Step}
 use Rattle.edits.specs.Find.{_then_, step-into, look-up}
-use Rattle.edits.specs.Delete.{left, anew, delete}
+use Rattle.edits.specs.Delete.{remains, anew, delete}
 use Rattle.edits.specs.Steps.{code-key, step}
 use Rattle.edits.specs.Spot.{spot}
 use Rattle.edits.specs.Held.{finding}
-use Rattle.edits.specs.Cut.{left-of, step-at, steps-from, way-behind, Cuts, Onward}
+use Rattle.edits.specs.Remains.{remains-of}
+use Rattle.edits.specs.Way.{step-at, steps-from, way-behind, Cuts, Onward}
 use Rattle.layout.specs.declared.parts.PartAt.{PartAt}
 use Rattle.edits.specs.declared.find.Spot.{Spot}
 use Rattle.edits.specs.declared.find.Spot.the-variants.{Nothing, At}
@@ -64,11 +65,11 @@ pub record Below (s path : Bytes) (w : Way) (a : PartAt) (allowance : ℕ) : Typ
   pub child-within : a .place + length (payload value) ≤ length s
   pub allowed : 1 ≤ allowance
   pub cuts : Cuts (payload value) path (way-behind path w) (allowance - 1)
-  pub inner : left-of (payload value) (steps-from path (way-behind path w)) ≡ payload after
+  pub inner : remains-of (payload value) (steps-from path (way-behind path w)) ≡ payload after
   pub made : kind after ≡ Container
   pub shorter : length (payload after) ≤ length (payload value)
-  pub left-is : left-of s (steps-from path w) ≡ payload (anew (some after) (step-at path (w .step)) tree)
-  pub left-shorter : length (left-of s (steps-from path w)) ≤ length s
+  pub remains-is : remains-of s (steps-from path w) ≡ payload (anew (some after) (step-at path (w .step)) tree)
+  pub remains-shorter : length (remains-of s (steps-from path w)) ≤ length s
 
 -- What is left of a container is a container.
 pub anew-kind : (o : Option Tree) (p : Step) (t : Tree) → kind (anew o p t) ≡ kind t
@@ -82,14 +83,14 @@ anew-kind o p (array ts) = refl
 anew-kind o p (object ms) = refl
 
 -- Where a path of one step or more finds something, what is left is shorter or as long.
-left-no-longer : (p : Step) (q : List Step) (t x u : Tree) → look-up (p ∷ q) t ≡ some x → left (p ∷ q) t ≡ some u → length (payload u) ≤ length (payload t)
-left-no-longer p q t x u e h =
+remains-no-longer : (p : Step) (q : List Step) (t x u : Tree) → look-up (p ∷ q) t ≡ some x → remains (p ∷ q) t ≡ some u → length (payload u) ≤ length (payload t)
+remains-no-longer p q t x u e h =
     let d : delete (p ∷ q) t ≡ u = rw (e, some-inj h) in
     omega (arith, delete-kept (p ∷ q) t .payload, ap size d, size-payload t, size-payload u)
 
 below-by : (s path : Bytes) (w : Way) (a : PartAt) (allowance : ℕ) (p₂ : Step) (q₂ : List Step) → Octets s → Cuts s path w allowance
     → Onward s path w a → steps-from path (way-behind path w) ≡ p₂ ∷ q₂ → (t : Tree) → Contains allowance s t → Below s path w a allowance
-unfolding left-of finding
+unfolding remains-of finding
 below-by s path w a allowance p₂ q₂ o c h e₂ t k =
     let p : Step = step-at path (w .step) in
     let all : steps-from path w ≡ step-at path (w .step) ∷ p₂ ∷ q₂ = steps-cons path w (c .more) ∙ ap (λ (l : List Step). step-at path (w .step) ∷ l) e₂ in
@@ -109,15 +110,15 @@ below-by s path w a allowance p₂ q₂ o c h e₂ t k =
     nested-reads (allowance - 1) (payload (sp .tree)) (sp .tree) ov (omega (arith, len, c .short)) .1 (same, ins .valid (k .valid), omega (arith, ins .deep, k .deep)) in
     let r₆ : nested 64 (payload (sp .tree)) ≡ gives (sp .tree) =
     nested-reads 64 (payload (sp .tree)) (sp .tree) ov (omega (arith, len, c .short)) .1 (same, ins .valid (k .valid), omega (arith, ins .deep, k .deep, c .allowed)) in
-    let li : left-of s (steps-from path w) ≡ payload (anew (some (anew (step-into p₂ (sp .tree) then left q₂) p₂ (sp .tree))) (step-at path (w .step)) t) =
+    let li : remains-of s (steps-from path w) ≡ payload (anew (some (anew (step-into p₂ (sp .tree) then remains q₂) p₂ (sp .tree))) (step-at path (w .step)) t) =
     rw (all, k₆ .reads, sp .found) in
-    let ls : length (payload (anew (some (anew (step-into p₂ (sp .tree) then left q₂) p₂ (sp .tree))) (step-at path (w .step)) t)) ≤ length (payload t) =
-    left-no-longer (step-at path (w .step)) (p₂ ∷ q₂) t (c .finds .0)
-    (anew (some (anew (step-into p₂ (sp .tree) then left q₂) p₂ (sp .tree))) (step-at path (w .step)) t) found-all (rw (sp .found)) in
+    let ls : length (payload (anew (some (anew (step-into p₂ (sp .tree) then remains q₂) p₂ (sp .tree))) (step-at path (w .step)) t)) ≤ length (payload t) =
+    remains-no-longer (step-at path (w .step)) (p₂ ∷ q₂) t (c .finds .0)
+    (anew (some (anew (step-into p₂ (sp .tree) then remains q₂) p₂ (sp .tree))) (step-at path (w .step)) t) found-all (rw (sp .found)) in
     record {
       tree = t;
       value = sp .tree;
-      after = anew (step-into p₂ (sp .tree) then left q₂) p₂ (sp .tree);
+      after = anew (step-into p₂ (sp .tree) then remains q₂) p₂ (sp .tree);
       contained = k₆;
       found = sp .found;
       container = kv;
@@ -135,10 +136,10 @@ below-by s path w a allowance p₂ q₂ o c h e₂ t k =
             finds = (c .finds .0, rw (e₂, r₆) found-in);
           };
       inner = rw (e₂, r₆);
-      made = anew-kind (step-into p₂ (sp .tree) then left q₂) p₂ (sp .tree) ∙ kv;
-      shorter = left-no-longer p₂ q₂ (sp .tree) (c .finds .0) (anew (step-into p₂ (sp .tree) then left q₂) p₂ (sp .tree)) found-in refl;
-      left-is = li;
-      left-shorter = omega (arith, ap length li, ls, ap length (k .bytes));
+      made = anew-kind (step-into p₂ (sp .tree) then remains q₂) p₂ (sp .tree) ∙ kv;
+      shorter = remains-no-longer p₂ q₂ (sp .tree) (c .finds .0) (anew (step-into p₂ (sp .tree) then remains q₂) p₂ (sp .tree)) found-in refl;
+      remains-is = li;
+      remains-shorter = omega (arith, ap length li, ls, ap length (k .bytes));
     }
 
 pub below : (s path : Bytes) (w : Way) (a : PartAt) (allowance : ℕ) → Octets s → Cuts s path w allowance → Onward s path w a → Below s path w a allowance
@@ -149,8 +150,8 @@ below s path w a allowance o c h =
     below-by s path w a allowance _ _ o c h e₂ (k .0) (k .1)
 
 -- What is left of a container in which the rest of a path finds an item is no longer than it.
-pub cuts-shorter : (s path : Bytes) (w : Way) (allowance : ℕ) → Octets s → Cuts s path w allowance → length (left-of s (steps-from path w)) ≤ length s
-unfolding left-of finding
+pub cuts-shorter : (s path : Bytes) (w : Way) (allowance : ℕ) → Octets s → Cuts s path w allowance → length (remains-of s (steps-from path w)) ≤ length s
+unfolding remains-of finding
 cuts-shorter s path w allowance o c =
     let k = contains allowance s o (c .short) (c .readable) in
     let k₆ : Contains 64 s (k .0) = contains-more allowance 64 s (k .0) o (c .allowed) (k .1) in
@@ -158,12 +159,12 @@ cuts-shorter s path w allowance o c =
     let p : Step = step-at path (w .step) in
     let q : List Step = steps-from path (way-behind path w) in
     let found : look-up (step-at path (w .step) ∷ steps-from path (way-behind path w)) (k .0) ≡ some (c .finds .0) = rw (all, k₆ .reads) at (c .finds .1) in
-    let u : Tree = anew (step-into (step-at path (w .step)) (k .0) then left (steps-from path (way-behind path w))) (step-at path (w .step)) (k .0) in
+    let u : Tree = anew (step-into (step-at path (w .step)) (k .0) then remains (steps-from path (way-behind path w))) (step-at path (w .step)) (k .0) in
     rw (all, k₆ .reads)
     (omega (
       arith,
-      left-no-longer (step-at path (w .step)) (steps-from path (way-behind path w)) (k .0) (c .finds .0)
-          (anew (step-into (step-at path (w .step)) (k .0) then left (steps-from path (way-behind path w))) (step-at path (w .step)) (k .0)) found refl,
+      remains-no-longer (step-at path (w .step)) (steps-from path (way-behind path w)) (k .0) (c .finds .0)
+          (anew (step-into (step-at path (w .step)) (k .0) then remains (steps-from path (way-behind path w))) (step-at path (w .step)) (k .0)) found refl,
       ap length (k₆ .bytes),
     ))
 

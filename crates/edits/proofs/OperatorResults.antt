@@ -18,7 +18,8 @@ use Rattle.layout.proofs.Encoding.{read-encode}
 use Rattle.layout.proofs.Readables.{length-encode}
 use Rattle.layout.specs.Pipeline.{written}
 use Rattle.builders.specs.Build.{on-two}
-use Rattle.builders.proofs.Results.{Made, written-result, result-made}
+use Rattle.layout.proofs.Pipelines.{written-result}
+use Rattle.builders.proofs.Results.{Made, result-made}
 use Rattle.edits.specs.Concat.{concat}
 use Rattle.edits.specs.Strip.{stripped, unrepeated, strip, on-one}
 use Rattle.edits.proofs.Strips.{strip-sound, strip-shrinks, strip-again, sound-unrepeated, strip-gives, strip-given}

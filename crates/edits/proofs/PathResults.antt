@@ -2,44 +2,28 @@
 use Prim.Native.Nat.{ℕ, _≤_}
 use native.Mathlib.Omega.{arith}
 use mathlib.Core.Path.{_≡_, refl, ap, sym, _∙_}
-use mathlib.Core.Bool.{Bool, true, false, cond}
 use mathlib.Core.List.{List}
-use mathlib.Core.Option.{Option, none as nothing, some}
-use lib.Dec.{ltb}
+use mathlib.Core.Option.{Option, some}
 use lib.ListN.{length}
 use Rattle.layout.specs.Bytes.{Bytes, Octets}
-use Rattle.layout.specs.Answer.{Answer, gives, refused, _>>=_}
+use Rattle.layout.specs.Answer.{Answer, gives, _>>=_}
 use Rattle.layout.specs.Tree.{Tree, null, boolean, number, string, extension, array, object}
 use Rattle.layout.specs.Encode.{encode}
 use Rattle.layout.specs.Read.{read}
 use Rattle.layout.specs.Sound.{Sound}
-use Rattle.layout.specs.Ended.{result, refusal, into}
-use Rattle.layout.specs.declared.refusal.Refusal.the-variants.{Buffer}
+use Rattle.layout.specs.Ended.{result}
 use Rattle.layout.proofs.Answers.{from-bind, gives-inj, refused-gives}
 use Rattle.layout.proofs.Decoding.{read-sound}
 use Rattle.layout.proofs.Encoding.{read-encode}
 use Rattle.layout.proofs.Readables.{length-encode}
-use Rattle.edits.specs.Path.{Step, path-of}
-use Rattle.edits.specs.Find.{look-up}
+use Rattle.edits.specs.Keypath.{Step, path-of}
 use Rattle.edits.specs.Delete.{delete, deletable}
 use Rattle.layout.specs.Pipeline.{found, on-record}
-use Rattle.edits.specs.Keypath.{get-by, delete-by, on-path}
+use Rattle.layout.proofs.Pipelines.{found-result}
+use Rattle.edits.specs.Path.{get-by, delete-by, on-path}
 use Rattle.edits.proofs.Deletes.{some-inj}
 use Rattle.edits.proofs.Lookups.{get-is}
 use Rattle.edits.proofs.Kept.{NoMore, look-up-kept, delete-kept}
-
-into-result : (room : ℕ) (x b : Bytes) → into room x ≡ result b → b ≡ x
-unfolding into
-into-result room x b = go (ltb room (length x))
-  where
-    go : (t : Bool) → cond t (refusal Buffer) (result x) ≡ result b → b ≡ x
-    go true q = let z : _≡_ {A = ℕ} 0 1 = cc in let w : ⊥ = omega arith in absurd w
-    go false q = cc
-
-found-result : (room : ℕ) (m : Answer (Option Tree)) (b : Bytes) → found room m ≡ result b → (v : Tree) × (m ≡ gives (some v)) × (b ≡ encode v)
-found-result room (refused r) b e = let z : _≡_ {A = ℕ} 0 1 = cc in let w : ⊥ = omega arith in absurd w
-found-result room (gives nothing) b e = let z : _≡_ {A = ℕ} 0 1 = cc in let w : ⊥ = omega arith in absurd w
-found-result room (gives (some v)) b e = (v, refl, into-result room (encode v) b e)
 
 pub on-path-is : (edit : List Step → Tree → Answer (Option Tree)) (target path : Bytes) (room : ℕ)
     → on-path edit target path room ≡ found room (read target >>= λ t. path-of path >>= λ p. edit p t)

@@ -29,7 +29,7 @@ use Rattle.layout.proofs.Places.{length-parts}
 use Rattle.layout.proofs.Nestings.{readable-gives, refused-as, head-of, header-read}
 use Rattle.builders.proofs.Knowns.{Known, known}
 use Rattle.builders.proofs.Builds.{array-parts, array-known}
-use Rattle.edits.specs.Path.{Step, index, in-range, integer, step-of, steps-of, path-in, or-path, path-of}
+use Rattle.edits.specs.Keypath.{Step, index, in-range, integer, step-of, steps-of, path-in, or-path, path-of}
 use Rattle.edits.specs.Steps.{int-key, number-key, code-key, is-step, step, part-key, are-steps, part-steps, steps-told}
 use Rattle.edits.specs.declared.keypath.KeyPath.{KeyPath}
 use Rattle.edits.specs.declared.keypath.KeyPath.the-variants.{Index, Other}

@@ -15,8 +15,10 @@ use Rattle.layout.specs.Parts.{bytes-at, name-in, value-in}
 use Rattle.builders.specs.Weave.{behind, own-entry, stored}
 use Rattle.layout.specs.declared.parts.MemberAt.{MemberAt}
 use Rattle.layout.specs.declared.parts.Places.{Places}
-use Rattle.edits.specs.Path.{Step}
-use Rattle.edits.specs.Cut.{Left, Cuts, left-of, steps-from, anew-value, anew-entry}
+use Rattle.edits.specs.Keypath.{Step}
+use Rattle.edits.specs.Cut.{Stores, anew-value, anew-entry}
+use Rattle.edits.specs.Way.{Cuts, steps-from}
+use Rattle.edits.specs.Remains.{remains-of}
 use Rattle.edits.specs.declared.delete.Way.{Way}
 use Rattle.edits.proofs.Onwards.{cuts-shorter}
 
@@ -41,7 +43,7 @@ module _ (s path name : Bytes) (m : MemberAt) (w : Way) (at : Places) (key : Byt
     pub value-cuts : Cuts value path w allowance × (at .val ≤ 65536 * (64 - allowance))
     value-cuts = rw hv (pre (is-named true t))
 
-    module _ (o : Octets s) (len : ℕ) (o₂ o₃ : Bytes) (l : Left len o₂ o₃ (at .val) (left-of value (steps-from path w))) where
+    module _ (o : Octets s) (len : ℕ) (o₂ o₃ : Bytes) (l : Stores len o₂ o₃ (at .val) (remains-of value (steps-from path w))) where
       pub value-short : len ≤ 65536
       value-short =
           let ov : Octets value = rw hv (octets-take (length-of (m .val .jentry)) (drop (m .val .place) s) (octets-drop (m .val .place) s o)) in
@@ -55,16 +57,16 @@ module _ (s path name : Bytes) (m : MemberAt) (w : Way) (at : Places) (key : Byt
           × (o₄ ≡ stored (name-in s) (anew-value s name steps) (anew-entry s name steps) o₀ (at .«key_jentry») (at .«val_jentry») (at .key) (at .val) m)
       named-stored o₀ o₁ o₄ e e₁ e₂ ee e₄ hc hd =
           let n : same-bytes name (name-in s m) ≡ true = is-named true t in
-          let ln : len ≡ length (left-of (value-in s m) (steps-from path w)) = l .length-is ∙ ap (λ (v : Bytes). length (left-of v (steps-from path w))) hv in
-          let ez : e ≡ entry-of 5 (length (left-of (value-in s m) (steps-from path w))) = ee ∙ omega (arith, ln, value-short) in
-          let st : o₃ ≡ patch o₂ (at .val) (left-of (value-in s m) (steps-from path w)) =
-          l .stored ∙ ap (λ (v : Bytes). patch o₂ (at .val) (left-of v (steps-from path w))) hv in
+          let ln : len ≡ length (remains-of (value-in s m) (steps-from path w)) = l .length-is ∙ ap (λ (v : Bytes). length (remains-of v (steps-from path w))) hv in
+          let ez : e ≡ entry-of 5 (length (remains-of (value-in s m) (steps-from path w))) = ee ∙ omega (arith, ln, value-short) in
+          let st : o₃ ≡ patch o₂ (at .val) (remains-of (value-in s m) (steps-from path w)) =
+          l .stored ∙ ap (λ (v : Bytes). patch o₂ (at .val) (remains-of v (steps-from path w))) hv in
           let lb = length-be32 e in (
             rw (n, hk, ln),
             rw n
                 (e₄ ∙ ap (λ (x : Bytes). patch x (at .«val_jentry») (be32 e)) (st ∙ rw (e₂, e₁, hk))
                 ∙ reordered o₀ (at .«key_jentry») (at .«val_jentry») (at .key) (at .val) (be32 (m .key .jentry)) (be32 e) (bytes-at s (m .key))
-                (left-of (value-in s m) (steps-from path w)) (omega arith) (omega arith)
+                (remains-of (value-in s m) (steps-from path w)) (omega arith) (omega arith)
                 ∙ rw ez),
           )
 

@@ -13,7 +13,7 @@ use Rattle.layout.proofs.Level.{entries-length}
 use Rattle.layout.proofs.Decoding.{payloads-append}
 use Rattle.layout.proofs.Patches.{patch-append, patch-comm}
 use Rattle.builders.proofs.Weaves.{patch-then, entries-append}
-use Rattle.edits.specs.Cut.{run-entries, run-payloads, run-behind}
+use Rattle.edits.specs.Runs.{run-entries, run-payloads, run-behind}
 use Rattle.layout.specs.declared.parts.PartAt.{PartAt}
 use Rattle.layout.specs.declared.parts.Cursor.{Cursor}
 use Rattle.edits.proofs.Rows.{table-behind, payloads-behind}

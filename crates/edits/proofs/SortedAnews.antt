@@ -29,7 +29,8 @@ use Rattle.layout.proofs.Encoding.{object-fits}
 use Rattle.layout.proofs.Values.{In, rising-tail, rising-all, ≺-irrefl}
 use Rattle.builders.specs.Order.{by, find, in-order}
 use Rattle.layout.specs.Parts.{name-in, value-in, members-at}
-use Rattle.builders.specs.Search.{kept-of, sorted, nth}
+use Rattle.builders.specs.Search.{kept-of, nth}
+use Rattle.builders.specs.Sorted.{sorted}
 use Rattle.builders.specs.Weave.{own-entry, woven, column}
 use Rattle.builders.specs.declared.search.Kept.the-variants.{All}
 use Rattle.layout.specs.declared.parts.MemberAt.{MemberAt}
@@ -40,10 +41,12 @@ use Rattle.builders.proofs.InOrders.{in-order-rising, find-in-order}
 use Rattle.builders.proofs.Searches.{kept-all, nth-inside}
 use Rattle.builders.proofs.Storing.{column-cons}
 use Rattle.builders.proofs.Stands.{Stands, Stand, stand-sorted}
-use Rattle.edits.specs.Path.{Step}
+use Rattle.edits.specs.Keypath.{Step}
 use Rattle.edits.specs.Find.{step-name, step-into}
 use Rattle.edits.specs.Delete.{change-member, anew}
-use Rattle.edits.specs.Cut.{Left, Cuts, Onward, left-of, step-at, steps-from, way-behind, name-of, anew-value, anew-entry}
+use Rattle.edits.specs.Cut.{Stores, name-of, anew-value, anew-entry}
+use Rattle.edits.specs.Way.{Cuts, Onward, step-at, steps-from, way-behind}
+use Rattle.edits.specs.Remains.{remains-of}
 use Rattle.layout.specs.Parts.{members-of}
 use Rattle.edits.specs.Members.{places-for, in-turn, sizes-of}
 use Rattle.layout.specs.declared.parts.PartAt.{PartAt}
@@ -78,7 +81,7 @@ nth-in name value entry (x ∷ xs) (member k t ms) h (suc i) m e = inr (nth-in n
 
 -- Members some of which have the name, the value of those being `before`, and what is put in its stead.
 module _ (s n : Bytes) (rest : List Step) (before after : Tree)
-    (here : left-of (payload before) rest ≡ payload after) (made : kind after ≡ Container) where
+    (here : remains-of (payload before) rest ≡ payload after) (made : kind after ≡ Container) where
   abbrev name : MemberAt → Bytes
   name = name-in s
 
@@ -95,7 +98,7 @@ module _ (s n : Bytes) (rest : List Step) (before after : Tree)
   this-head : (x : MemberAt) (m : Bytes) → Stands (name-in s) (value-in s) own-entry x m before → same-bytes n (name-in s x) ≡ true
       → Stands (name-in s) (anew-value s n rest) (anew-entry s n rest) x m after
   this-head x m h g =
-      let l : left-of (value-in s x) rest ≡ payload after = ap (λ (b : Bytes). left-of b rest) (h .3) ∙ here in
+      let l : remains-of (value-in s x) rest ≡ payload after = ap (λ (b : Bytes). remains-of b rest) (h .3) ∙ here in
       (h .0, rw (g, l, made), h .2, rw (g, l))
 
   -- Where no name is the one meant, all stays.
@@ -230,15 +233,15 @@ module _ (s path : Bytes) (n : ℕ) (val : PartAt) (w : Way) (allowance : ℕ) (
     finds : find name (in-order ms) ≡ some (down .value)
     finds = rw named (find-in-order key ms ∙ at-value .found ∙ ap some (sym same-value))
 
-    inner : left-of (payload (down .value)) steps ≡ payload (down .after)
+    inner : remains-of (payload (down .value)) steps ≡ payload (down .after)
     inner = rw en (down .inner)
 
     standing : Stand (name-in s) (anew-value s name steps) (anew-entry s name steps) all (change-member (some (down .after)) name (in-order ms))
     standing = stand-anew s name steps (down .value) (down .after) inner (down .made) all (in-order ms) (in-order-rising ms) finds own
 
-    left-is : left-of s (steps-from path w) ≡ payload (object (change-member (some (down .after)) name (in-order ms)))
-    left-is =
-        down .left-is
+    remains-is : remains-of s (steps-from path w) ≡ payload (object (change-member (some (down .after)) name (in-order ms)))
+    remains-is =
+        down .remains-is
         ∙ ap (λ (t : Tree). payload (anew (some (down .after)) (step-at path (w .step)) t)) same-tree
         ∙ ap (λ (q : Members). payload (object q)) (change-in-order key (down .after) ms)
         ∙ ap (λ (k : Bytes). payload (object (change-member (some (down .after)) k (in-order ms)))) (sym named)
@@ -249,12 +252,12 @@ module _ (s path : Bytes) (n : ℕ) (val : PartAt) (w : Way) (allowance : ℕ) (
     keyed : z .keys ≡ length (column (name-in s) all)
     keyed = ap (λ (x : Sizes). x .keys) ez
 
-    summed : 4 + 8 * z .count + z .keys + length (column (anew-value s name steps) all) ≡ length (left-of s (steps-from path w))
+    summed : 4 + 8 * z .count + z .keys + length (column (anew-value s name steps) all) ≡ length (remains-of s (steps-from path w))
     summed =
-        omega (arith, counted, keyed, ap length left-is, stand-sizes (name-in s) (anew-value s name steps) (anew-entry s name steps) all (change-member (some (down .after)) name (in-order ms)) standing)
+        omega (arith, counted, keyed, ap length remains-is, stand-sizes (name-in s) (anew-value s name steps) (anew-entry s name steps) all (change-member (some (down .after)) name (in-order ms)) standing)
 
     pub anew-room : 4 + 8 * z .count + z .keys + length (column (anew-value s name steps) all) ≤ 65536
-    anew-room = omega (arith, summed, down .left-shorter, c .short)
+    anew-room = omega (arith, summed, down .remains-shorter, c .short)
 
     -- The member whose value is written anew: what the nested call asks.
     pub anew-cuts : (i : ℕ) (m : MemberAt) → nth all i ≡ FoundAt m → same-bytes name (name-in s m) ≡ true → Cuts (value-in s m) path next (allowance - 1)
@@ -269,15 +272,15 @@ module _ (s path : Bytes) (n : ℕ) (val : PartAt) (w : Way) (allowance : ℕ) (
     pub anew-count : (i : ℕ) (m : MemberAt) → nth all i ≡ FoundAt m → i < z .count
     anew-count i m e = omega (arith, counted, nth-inside all i m e)
 
-    pub anew-left : (to : Places) (at v end : ℕ) (b b₁ b₂ : Bytes) → to ≡ places-for z at → v ≡ bitOr (2 ^ 30) (z .count)
+    pub anew-remains : (to : Places) (at v end : ℕ) (b b₁ b₂ : Bytes) → to ≡ places-for z at → v ≡ bitOr (2 ^ 30) (z .count)
         → b₁ ≡ patch b at (be32 v) → b₂ ≡ woven (name-in s) (anew-value s name steps) (anew-entry s name steps) b₁ (to .«key_jentry») (to .«val_jentry») (to .key) (to .val) all
         → end ≡ to .val + length (column (anew-value s name steps) all)
-        → Left (end - at) b b₂ at (left-of s (steps-from path w))
-    anew-left to at v end b b₁ b₂ et ev e₁ e₂ ee =
+        → Stores (end - at) b b₂ at (remains-of s (steps-from path w))
+    anew-remains to at v end b b₁ b₂ et ev e₁ e₂ ee =
         let q : v ≡ 2 ^ 30 + z .count = ev ∙ object-word (z .count) (omega (arith, anew-room)) in
         let tv : to .val ≡ at + 4 + 4 * z .count + 4 * z .count + z .keys = ap (λ (x : Places). x .val) et in
-        rw left-is (record {
-          length-is = omega (arith, ee, tv, summed, ap length left-is);
+        rw remains-is (record {
+          length-is = omega (arith, ee, tv, summed, ap length remains-is);
           stored =
               stand-woven (name-in s) (anew-value s name steps) (anew-entry s name steps) all (change-member (some (down .after)) name (in-order ms)) standing b b₁ b₂ at z counted keyed
               (rw q at e₁) (rw et at e₂);

@@ -36,12 +36,13 @@ use Rattle.layout.specs.declared.parts.MemberAt.{MemberAt}
 use Rattle.layout.specs.declared.parts.Places.{Places}
 use Rattle.builders.proofs.Stands.{Stand, stand-from, stand-names, stand-values, stand-sorted}
 use Rattle.builders.proofs.Weaves.{entries-append, woven-record}
-use Rattle.edits.specs.Path.{Step}
+use Rattle.edits.specs.Keypath.{Step}
 use Rattle.edits.specs.Find.{step-name}
 use Rattle.edits.specs.Delete.{change-member, delete}
 use Rattle.layout.specs.Parts.{nth-part}
 use Rattle.edits.specs.Spot.{first, one-more, spot}
-use Rattle.edits.specs.Cut.{Left, left-of}
+use Rattle.edits.specs.Cut.{Stores}
+use Rattle.edits.specs.Remains.{remains-of}
 use Rattle.layout.specs.Parts.{members-of}
 use Rattle.edits.specs.Members.{places-for, in-turn, sizes-of}
 use Rattle.layout.specs.declared.parts.PartAt.{PartAt}
@@ -271,11 +272,11 @@ value-at s n val p o c l h q =
 pub record Gone (s : Bytes) (n : ℕ) (val : PartAt) (p : Step) : Type 0 where
   pub rest : Members
   pub stand : Stand (name-in s) (value-in s) own-entry (in-turn s (members-of s n) n (But (val .index - n))) rest
-  pub left : left-of s (p ∷ []) ≡ payload (object rest)
+  pub left : remains-of s (p ∷ []) ≡ payload (object rest)
   pub shorter : length (payload (object rest)) ≤ length s
 
 pub gone : (s : Bytes) (n : ℕ) (val : PartAt) (p : Step) → Value-at s n val p → Gone s n val p
-unfolding left-of
+unfolding remains-of
 gone s n val p v =
     let ms : Members = v .members in
     let sp = member-split (step-name p) (v .members) (v .value) (v .found) in
@@ -330,7 +331,7 @@ module _ (s : Bytes) (n : ℕ) (val : PartAt) (p : Step) (v : Value-at s n val p
       → o₁ ≡ patch o at (be32 w)
       → o₂ ≡ woven (name-in s) (value-in s) own-entry o₁ (to .«key_jentry») (to .«val_jentry») (to .key) (to .val)
       (in-turn s from n (But (val .index - n)))
-      → Left (to .val + z .vals - at) o o₂ at (left-of s (p ∷ []))
+      → Stores (to .val + z .vals - at) o o₂ at (remains-of s (p ∷ []))
   gone-stored to o o₁ o₂ at w et ew e₁ e₂ =
       let q : w ≡ 2 ^ 30 + z .count = ew ∙ object-word (z .count) (omega (arith, gone-room)) in
       rw (gone s n val p v .left) (record {

@@ -24,7 +24,7 @@ use Rattle.builders.specs.Order.{find}
 use Rattle.builders.specs.Build.{count}
 use Rattle.layout.specs.Parts.{texts}
 use Rattle.builders.proofs.Builds.{count-parts}
-use Rattle.edits.specs.Path.{Step}
+use Rattle.edits.specs.Keypath.{Step}
 use Rattle.edits.specs.Find.{step-place, step-name, item-at, step-into}
 use Rattle.layout.specs.Parts.{nth-part}
 use Rattle.edits.specs.Spot.{first, spot-at, spot-member, spot}

@@ -20,8 +20,8 @@ use Rattle.builders.proofs.Storing.{column-cons, column-none}
 use Rattle.edits.specs.Members.{behind-ahead, kept-ahead, sizes-of, Near, Standing, Next}
 use Rattle.edits.specs.declared.members.Ahead.{Ahead}
 use Rattle.edits.specs.declared.members.Sizes.{Sizes}
-use Rattle.edits.specs.declared.members.Taken.{Taken}
-use Rattle.edits.specs.declared.members.Taken.the-variants.{End, Member}
+use Rattle.edits.specs.declared.members.NextMember.{NextMember}
+use Rattle.edits.specs.declared.members.NextMember.the-variants.{End, Member}
 
 -- What is ahead stays near, and becomes less.
 pub near-on : (a : Ahead) (m : MemberAt) (next : Ahead) → Near a → a .index < a .count → next ≡ behind-ahead a m → Near next
@@ -121,7 +121,7 @@ module _ (s : Bytes) (kept : Kept) (all : Ahead) where
 
 -- The next in byte order, by how it was taken.
 module _ (s : Bytes) (kept : Kept) (last : Bound) (a : Ahead) where
-  pub next-stands : (r : Taken) → a .«is_rising» ≡ true → Standing s kept a r → Next s kept last a r
+  pub next-stands : (r : NextMember) → a .«is_rising» ≡ true → Standing s kept a r → Next s kept last a r
   next-stands r t st = record { stands = λ _. st; searched = λ f. let z : true ≡ false = sym t ∙ f in let y : _≡_ {A = ℕ} 0 1 = cc in let w : ⊥ = omega arith in absurd w }
 
   -- All are searched.

@@ -28,7 +28,8 @@ use Rattle.layout.proofs.Answers.{gives-inj}
 use Rattle.layout.proofs.Values.{rising-tail, rising-all, ≺-irrefl}
 use Rattle.builders.specs.Order.{by, insert, insert-all, in-order, find, distinct}
 use Rattle.layout.specs.Parts.{name-in, value-in, members-at}
-use Rattle.builders.specs.Search.{is-kept, kept-of, Bound, bound, least, sorted, nth}
+use Rattle.builders.specs.Search.{is-kept, kept-of, Bound, bound, least, nth}
+use Rattle.builders.specs.Sorted.{sorted}
 use Rattle.builders.specs.Weave.{own-entry, stored, woven, column}
 use Rattle.builders.specs.declared.search.Kept.the-variants.{NonNull}
 use Rattle.layout.specs.declared.parts.MemberAt.{MemberAt}

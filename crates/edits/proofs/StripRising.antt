@@ -23,7 +23,7 @@ use Rattle.edits.specs.Stripping.{stripped-of, unrepeated-of, Strippable
 use Rattle.edits.specs.Members.{places-for, sizes-of, behind-ahead, kept-ahead, all-ahead, Near, Next}
 use Rattle.edits.specs.declared.members.Ahead.{Ahead}
 use Rattle.edits.specs.declared.members.Sizes.{Sizes}
-use Rattle.edits.specs.declared.members.Taken.the-variants.{Member}
+use Rattle.edits.specs.declared.members.NextMember.the-variants.{Member}
 use Rattle.edits.specs.declared.strip.Stripped.{Stripped}
 use Rattle.edits.specs.declared.strip.Stripped.the-variants.{Len, Repeated}
 use Rattle.edits.proofs.Standings.{near-on, one-kept, one-passed, none-left, next-stands}

@@ -23,7 +23,7 @@ use Rattle.builders.specs.Build.{count}
 use Rattle.builders.proofs.InOrders.{unlike, has-not, distinct-cons, rising-distinct, rising-cons, in-order-rising, rising-in-order, find-in-order, in-order-valid, in-order-sound, in-order-depth, gather, gather-in-order}
 use Rattle.builders.proofs.Results.{is-true}
 use Rattle.builders.proofs.Twos.{and-false}
-use Rattle.edits.specs.Path.{Step, name, index}
+use Rattle.edits.specs.Keypath.{Step, name, index}
 use Rattle.edits.specs.Find.{_then_, step-place, step-name, item-at, step-into, look-up}
 use Rattle.edits.specs.Strip.{is-null, kept, stripped, stripped-items, stripped-members, unrepeated, unrepeated-items, unrepeated-members, strip}
 use Rattle.edits.proofs.Deletes.{some-inj, nothing-some, then-some, by-equal, find-first, find-later, found-in, not-in}

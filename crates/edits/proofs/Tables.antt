@@ -27,7 +27,8 @@ use Rattle.layout.proofs.Readables.{nested-reads, record-of-length}
 use Rattle.layout.proofs.Nestings.{head-of, header-encode, readable-gives}
 use Rattle.layout.proofs.Sounds.{rising-test, rising-names}
 use Rattle.layout.proofs.Places.{parts-at-record, take-parts}
-use Rattle.edits.specs.Cut.{count-parts, Table, parts-of}
+use Rattle.layout.specs.Parts.{count-parts, parts-of}
+use Rattle.edits.specs.Runs.{Table}
 
 -- A container that reads as `t`, where `a` levels are left.
 pub record Contains (a : ℕ) (s : Bytes) (t : Tree) : Type 0 where

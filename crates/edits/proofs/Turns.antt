@@ -22,8 +22,8 @@ use Rattle.layout.specs.Parts.{members-of}
 use Rattle.edits.specs.Members.{Next}
 use Rattle.edits.specs.Merge.{chosen, moved-member, moved-all, in-a-row}
 use Rattle.edits.specs.declared.members.Ahead.{Ahead}
-use Rattle.edits.specs.declared.members.Taken.{Taken}
-use Rattle.edits.specs.declared.members.Taken.the-variants.{End as NoMember, Member}
+use Rattle.edits.specs.declared.members.NextMember.{NextMember}
+use Rattle.edits.specs.declared.members.NextMember.the-variants.{End as NoMember, Member}
 use Rattle.edits.specs.declared.merge.Turn.{Turn}
 use Rattle.edits.specs.declared.merge.Turn.the-variants.{Left, Right, Both, End}
 use Rattle.edits.proofs.Sorteds.{Object-at}
@@ -32,7 +32,7 @@ use Rattle.edits.proofs.Choices.{lesser, search-both, found-each, searc
 use Rattle.edits.proofs.Moves.{moved-name, SameName, SameValue, same-names, same-values}
 
 -- Which is taken, where both sides have a next member.
-module _ (l r : Bytes) (x y : Taken) (i k : MemberAt) (a c : Ahead) (p : x ≡ Member i a) (q : y ≡ Member k c) (u v : Bytes) (o : Ordering)
+module _ (l r : Bytes) (x y : NextMember) (i k : MemberAt) (a c : Ahead) (p : x ≡ Member i a) (q : y ≡ Member k c) (u v : Bytes) (o : Ordering)
     (eu : u ≡ bytes-at l (i .key)) (ev : v ≡ bytes-at r (k .key)) (eo : o ≡ order u v) where
   compared : order (name-in l i) (name-in r k) ≡ o
   compared = sym (eo ∙ ap₂ order eu ev)
@@ -61,12 +61,12 @@ FromRight w (Both k a c) = w ≡ k
 FromRight w End = ⊥
 
 -- A side behind a bound: its next member, from what was ahead when it was looked for.
-pub record Side (s : Bytes) (n : ℕ) (b : Bound) (t : Taken) : Type 0 where
+pub record Side (s : Bytes) (n : ℕ) (b : Bound) (t : NextMember) : Type 0 where
   pub from : Ahead
   pub ahead : AheadOf s n All b from
   pub next : Next s All b from t
 
-module _ (s : Bytes) (n : ℕ) (b : Bound) (t : Taken) (h : Side s n b t) where
+module _ (s : Bytes) (n : ℕ) (b : Bound) (t : NextMember) (h : Side s n b t) where
   side-is : found-of t ≡ least (name-in s) b Nothing (members-at s s (members-of s n) n)
   side-is =
       next-is s n All b (h .from) (h .ahead) t (h .next)
@@ -98,7 +98,7 @@ module _ (l : Bytes) (m : ℕ) (r : Bytes) (n : ℕ) where
   rights = members-at r r (members-of r n) n
 
   -- Where a turn leaves both sides: the next of a side is still to be looked for where it was taken or passed over.
-  abbrev pub Onward : Taken → Taken → Turn → Type 0
+  abbrev pub Onward : NextMember → NextMember → Turn → Type 0
   Onward x y (Left i a) = AheadOf l m All (after (name-in l i)) a × Side r n (after (name-in l i)) y
   Onward x y (Right k c) = Side l m (after (name-in r k)) x × AheadOf r n All (after (name-in r k)) c
   Onward x y (Both k a c) = AheadOf l m All (after (name-in r k)) a × AheadOf r n All (after (name-in r k)) c
@@ -121,7 +121,7 @@ module _ (l : Bytes) (m : ℕ) (r : Bytes) (n : ℕ) where
         (search-agrees (name-in (r ++ l)) (name-in r) b rights (same-names r l rights (hr .members) (hr .stand)))
         (search-moved (name-in l) (name-in (r ++ l)) (length r) (moved-name r l) b lefts)
 
-    chosen-is : (x y : Taken) → found-of y ≡ least (name-in r) b Nothing rights
+    chosen-is : (x y : NextMember) → found-of y ≡ least (name-in r) b Nothing rights
         → turn-found (length r) (chosen l r x y) ≡ lesser (name-in (r ++ l)) (found-of y) (moved-found (length r) (found-of x))
     unfolding before
     chosen-is NoMember NoMember f = refl
@@ -137,7 +137,7 @@ module _ (l : Bytes) (m : ℕ) (r : Bytes) (n : ℕ) where
         go Greater = refl
 
     -- The bound moves to the name taken: the side that gave it is behind it, and of the other side nothing but an equal name.
-    onward-is : (x y : Taken) → Side l m b x → Side r n b y → Onward x y (chosen l r x y)
+    onward-is : (x y : NextMember) → Side l m b x → Side r n b y → Onward x y (chosen l r x y)
     onward-is NoMember NoMember e f = tt
     onward-is NoMember (Member k c) e f = (
       side-passed l m b NoMember e (name-in r k) (side-over r n b (Member k c) f k c refl) tt,
@@ -164,7 +164,7 @@ module _ (l : Bytes) (m : ℕ) (r : Bytes) (n : ℕ) where
           side-taken r n b (Member k c) f k c refl,
         )
 
-    module _ (x y : Taken) (hx : Side l m b x) (hy : Side r n b y) (t : Turn) (e : t ≡ chosen l r x y) where
+    module _ (x y : NextMember) (hx : Side l m b x) (hy : Side r n b y) (t : Turn) (e : t ≡ chosen l r x y) where
       -- A turn takes the next of both.
       pub turn-is : turn-found (length r) t ≡ least (name-in (r ++ l)) b Nothing (in-a-row l m r n)
       turn-is =
@@ -180,7 +180,7 @@ module _ (l : Bytes) (m : ℕ) (r : Bytes) (n : ℕ) where
       from-right : (w : MemberAt) → FromRight w t → At w ≡ least (name-in r) b Nothing rights
       from-right w p = go x y (subst (FromRight w) e p) ∙ side-is r n b y hy
         where
-          go : (u v : Taken) → FromRight w (chosen l r u v) → At w ≡ found-of v
+          go : (u v : NextMember) → FromRight w (chosen l r u v) → At w ≡ found-of v
           go NoMember NoMember p = absurd p
           go NoMember (Member k d) p = ap At p
           go (Member i a) NoMember p = absurd p

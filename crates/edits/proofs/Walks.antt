@@ -29,8 +29,8 @@ use Rattle.layout.specs.Parts.{members-of, behind-member}
 use Rattle.edits.specs.Members.{all-ahead, Near, Standing, Next}
 use Rattle.edits.specs.Merge.{chosen, merged, behind-members, behind-all}
 use Rattle.edits.specs.declared.members.Ahead.{Ahead}
-use Rattle.edits.specs.declared.members.Taken.{Taken}
-use Rattle.edits.specs.declared.members.Taken.the-variants.{End as NoMember, Member}
+use Rattle.edits.specs.declared.members.NextMember.{NextMember}
+use Rattle.edits.specs.declared.members.NextMember.the-variants.{End as NoMember, Member}
 use Rattle.edits.specs.declared.merge.Turn.the-variants.{Left, Right, Both, End}
 use Rattle.edits.proofs.Sorteds.{Object-at}
 use Rattle.edits.proofs.Standings.{one-kept, none-left, near-on, column-short, next-stands}
@@ -210,18 +210,18 @@ module _ (s : Bytes) (n : ℕ) (During : Bytes → Places → Places → ℕ →
 abbrev pub standing-at : Places → ℕ → ℕ → Ahead
 standing-at at i n = record { at = at; index = i; count = n; «is_rising» = true }
 
-unfoldable pub taken-at : Bytes → Places → ℕ → ℕ → Taken
-taken-at s at i n =
+unfoldable pub standing-member : Bytes → Places → ℕ → ℕ → NextMember
+standing-member s at i n =
     cond (ltb i n) (Member (member-here s at) (standing-at (behind-member at (member-here s at)) (i + 1) n)) NoMember
 
 module _ (s : Bytes) (at : Places) (i n : ℕ) where
   taken-more : (m : MemberAt) → m ≡ member-here s at → i < n
-      → taken-at s at i n ≡ Member m (standing-at (behind-member at m) (i + 1) n)
-  unfolding taken-at
+      → standing-member s at i n ≡ Member m (standing-at (behind-member at m) (i + 1) n)
+  unfolding standing-member
   taken-more m e h = rw (lt-ltb i n h, e)
 
-  taken-none : n ≤ i → taken-at s at i n ≡ NoMember
-  unfolding taken-at
+  taken-none : n ≤ i → standing-member s at i n ≡ NoMember
+  unfolding standing-member
   taken-none h = rw (le-ltb i n h)
 
   module _ (h : Near (standing-at at i n)) where
@@ -236,8 +236,8 @@ module _ (s : Bytes) (at : Places) (i n : ℕ) where
       omega (arith, h .val, h .inside, h .few),
     )
 
-    stands-at : Standing s All (standing-at at i n) (taken-at s at i n)
-    unfolding taken-at is-kept
+    stands-at : Standing s All (standing-at at i n) (standing-member s at i n)
+    unfolding standing-member is-kept
     stands-at = go (ltb i n) refl
       where
         go : (b : Bool) → ltb i n ≡ b
@@ -251,8 +251,8 @@ module _ (s : Bytes) (at : Places) (i n : ℕ) where
             )
         go false q = none-left s All (standing-at at i n) (ltb-false i n q)
 
-    next-at : (b : Bound) → Next s All b (standing-at at i n) (taken-at s at i n)
-    next-at b = next-stands s All b (standing-at at i n) (taken-at s at i n) refl stands-at
+    next-at : (b : Bound) → Next s All b (standing-at at i n) (standing-member s at i n)
+    next-at b = next-stands s All b (standing-at at i n) (standing-member s at i n) refl stands-at
 
 -- There is a next one on both sides.
 pub both-more : (i m j n : ℕ) → (ltb i m && ltb j n) ≡ true → (i < m) × (j < n)
@@ -265,7 +265,7 @@ module _ (l : Bytes) (m : ℕ) (r : Bytes) (n : ℕ) (o : Bytes) (to : Places) w
     pub few : done ≤ i + j
     pub left-near : Near (standing-at x i m)
     pub right-near : Near (standing-at y j n)
-    pub merging : Merging l m r n o to out (taken-at l x i m) (taken-at r y j n) at done
+    pub merging : Merging l m r n o to out (standing-member l x i m) (standing-member r y j n) at done
 
   pub walking-starts : Object-at l m × Object-at r n → rises l m ≡ true → rises r n ≡ true
       → (x y : Places) → x ≡ members-of l m → y ≡ members-of r n → Walking o x y to 0 0
@@ -282,19 +282,19 @@ module _ (l : Bytes) (m : ℕ) (r : Bytes) (n : ℕ) (o : Bytes) (to : Places) w
         right-near = nr;
         merging =
             merging-starts l m r n o to (w .0) (w .1) (standing-at (members-of l m) 0 m) (standing-at (members-of r n) 0 n) el er
-            (taken-at l (members-of l m) 0 m) (taken-at r (members-of r n) 0 n) (next-at l (members-of l m) 0 m nl start)
+            (standing-member l (members-of l m) 0 m) (standing-member r (members-of r n) 0 n) (next-at l (members-of l m) 0 m nl start)
             (next-at r (members-of r n) 0 n nr start);
       })
 
   module _ (out : Bytes) (x y at : Places) (i j : ℕ) (h : Walking out x y at i j) where
     pub walking-near : m + n ≤ 16384 → Under (2 ^ 32) to → Under (2 ^ 48) at
     walking-near f w =
-        merging-within l m r n o to out (taken-at l x i m) (taken-at r y j n) at (h .done) (h .merging)
+        merging-within l m r n o to out (standing-member l x i m) (standing-member r y j n) at (h .done) (h .merging)
         (omega (arith, h .few, h .left-near .inside, h .right-near .inside)) f w
 
     -- A member is stored, and its side is behind it; of equal names both sides are.
     left-on : (w : MemberAt) → i < m
-        → Left w (standing-at (behind-member x w) (i + 1) m) ≡ chosen l r (taken-at l x i m) (taken-at r y j n)
+        → Left w (standing-at (behind-member x w) (i + 1) m) ≡ chosen l r (standing-member l x i m) (standing-member r y j n)
         → Walking (put-here l out at w) (behind-member x w) y (behind (name-in l w) (value-in l w) at) (i + 1) j
     left-on w lt e =
         let near = near-behind l x i m (h .left-near) w lt in
@@ -304,14 +304,14 @@ module _ (l : Bytes) (m : ℕ) (r : Bytes) (n : ℕ) (o : Bytes) (to : Places) w
           left-near = near;
           right-near = h .right-near;
           merging =
-              goes-left l m r n o to out (taken-at l x i m) (taken-at r y j n) at (h .done) (h .merging) _ e w _ _ _ _ _ _
+              goes-left l m r n o to out (standing-member l x i m) (standing-member r y j n) at (h .done) (h .merging) _ e w _ _ _ _ _ _
               refl refl (name-in l w)
-              (standing-at (behind-member x w) (i + 1) m) (taken-at l (behind-member x w) (i + 1) m) refl refl (refl, refl)
+              (standing-at (behind-member x w) (i + 1) m) (standing-member l (behind-member x w) (i + 1) m) refl refl (refl, refl)
               (next-at l (behind-member x w) (i + 1) m near (bound false (name-in l w))) refl refl;
         }
 
     right-on : (w : MemberAt) → j < n
-        → Right w (standing-at (behind-member y w) (j + 1) n) ≡ chosen l r (taken-at l x i m) (taken-at r y j n)
+        → Right w (standing-at (behind-member y w) (j + 1) n) ≡ chosen l r (standing-member l x i m) (standing-member r y j n)
         → Walking (put-here r out at w) x (behind-member y w) (behind (name-in r w) (value-in r w) at) i (j + 1)
     right-on w lt e =
         let near = near-behind r y j n (h .right-near) w lt in
@@ -321,15 +321,15 @@ module _ (l : Bytes) (m : ℕ) (r : Bytes) (n : ℕ) (o : Bytes) (to : Places) w
           left-near = h .left-near;
           right-near = near;
           merging =
-              goes-right l m r n o to out (taken-at l x i m) (taken-at r y j n) at (h .done) (h .merging) _ e w _ _ _ _ _ _
+              goes-right l m r n o to out (standing-member l x i m) (standing-member r y j n) at (h .done) (h .merging) _ e w _ _ _ _ _ _
               refl refl (name-in r w)
-              (standing-at (behind-member y w) (j + 1) n) (taken-at r (behind-member y w) (j + 1) n) refl refl (refl, refl)
+              (standing-at (behind-member y w) (j + 1) n) (standing-member r (behind-member y w) (j + 1) n) refl refl (refl, refl)
               (next-at r (behind-member y w) (j + 1) n near (bound false (name-in r w))) refl refl;
         }
 
     both-on : (v w : MemberAt) → i < m → j < n
         → Both w (standing-at (behind-member x v) (i + 1) m) (standing-at (behind-member y w) (j + 1) n)
-        ≡ chosen l r (taken-at l x i m) (taken-at r y j n)
+        ≡ chosen l r (standing-member l x i m) (standing-member r y j n)
         → Walking (put-here r out at w) (behind-member x v) (behind-member y w)
         (behind (name-in r w) (value-in r w) at) (i + 1) (j + 1)
     both-on v w lt lt′ e =
@@ -341,10 +341,10 @@ module _ (l : Bytes) (m : ℕ) (r : Bytes) (n : ℕ) (o : Bytes) (to : Places) w
           left-near = nl;
           right-near = nr;
           merging =
-              goes-both l m r n o to out (taken-at l x i m) (taken-at r y j n) at (h .done) (h .merging) _ e w _ _ _ _ _ _
+              goes-both l m r n o to out (standing-member l x i m) (standing-member r y j n) at (h .done) (h .merging) _ e w _ _ _ _ _ _
               refl refl (name-in r w)
               (standing-at (behind-member x v) (i + 1) m) (standing-at (behind-member y w) (j + 1) n)
-              (taken-at l (behind-member x v) (i + 1) m) (taken-at r (behind-member y w) (j + 1) n) refl refl (refl, refl)
+              (standing-member l (behind-member x v) (i + 1) m) (standing-member r (behind-member y w) (j + 1) n) refl refl (refl, refl)
               (next-at l (behind-member x v) (i + 1) m nl (bound false (name-in r w)))
               (next-at r (behind-member y w) (j + 1) n nr (bound false (name-in r w))) refl refl;
         }
@@ -380,7 +380,7 @@ module _ (l : Bytes) (m : ℕ) (r : Bytes) (n : ℕ) (o : Bytes) (to : Places) w
 
   walking-ends : (out : Bytes) (x y at : Places) (i j : ℕ) → m ≤ i → n ≤ j → Walking out x y at i j → AllPut out at
   walking-ends out x y at i j le le′ h =
-      merging-end l m r n o to out (taken-at l x i m) (taken-at r y j n) at (h .done) (h .merging) End
+      merging-end l m r n o to out (standing-member l x i m) (standing-member r y j n) at (h .done) (h .merging) End
       (rw (taken-none l x i m le, taken-none r y j n le′)) refl
 
   -- Where one side is at its end, the rest of the other is stored as it stands.

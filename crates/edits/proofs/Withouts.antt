@@ -12,7 +12,9 @@ use Rattle.layout.specs.Encode.{record-of}
 use Rattle.layout.specs.Patch.{patch}
 use Rattle.layout.proofs.Level.{AllFit}
 use Rattle.layout.specs.Parts.{nth-part, next-part}
-use Rattle.edits.specs.Cut.{Left, PartOf, parts-of, without, without-member, run-entries, run-payloads, run-behind}
+use Rattle.edits.specs.Cut.{Stores}
+use Rattle.layout.specs.Parts.{PartOf, parts-of}
+use Rattle.edits.specs.Runs.{without, without-member, run-entries, run-payloads, run-behind}
 use Rattle.layout.specs.declared.parts.PartAt.{PartAt}
 use Rattle.layout.specs.declared.parts.Cursor.{Cursor}
 use Rattle.edits.proofs.Tables.{Parted}
@@ -32,7 +34,7 @@ module _ (s : Bytes) (n : ℕ) (a : PartAt) (d : Part-at s n a) (o o₁ o₂ o�
       → next ≡ next-part s a
       → (end ≡ run-behind next (record { index = n; place = length s }) middle)
       × (o₃ ≡ patch (patch o₂ (middle .jentry) (run-entries s next (record { index = n; place = length s }))) (middle .place) (run-payloads s next (record { index = n; place = length s })))
-      → Left (end .place - at) o o₃ at (record-of (2 ^ 31 + (n - 1)) (without (a .index) (parts-of s n)))
+      → Stores (end .place - at) o o₃ at (record-of (2 ^ 31 + (n - 1)) (without (a .index) (parts-of s n)))
   array-gone ew e₁ sj sp h₁ en h₂ =
       let q : w ≡ 2 ^ 31 + (n - 1) = ew ∙ array-word (n - 1) (omega (arith, d .table, d .short)) in
       rw (← q) (without-stored s n a d o o₁ o₂ o₃ at w start middle end next e₁ sj sp h₁ en h₂)
@@ -105,7 +107,7 @@ module _ (s : Bytes) (n : ℕ) (p : Parted s (n + n)) (val : PartAt) (h : PartOf
         → after ≡ next-part s val
         → (end ≡ run-behind after last vals)
         × (o₄ ≡ patch (patch o₃ (vals .jentry) (run-entries s after last)) (vals .place) (run-payloads s after last))
-        → Left (end .place - at) o o₄ at (record-of (2 ^ 30 + (n - 1)) (without-member n (val .index - n) (parts-of s (n + n))))
+        → Stores (end .place - at) o o₄ at (record-of (2 ^ 30 + (n - 1)) (without-member n (val .index - n) (parts-of s (n + n))))
     object-gone ew ep e₁ sj sp h₁ en h₂ ea h₃ =
         let q : w ≡ 2 ^ 30 + (n - 1) = ew ∙ object-word (n - 1) (omega (arith, p .table, p .short)) in
         let z : val .index - n - 0 ≡ val .index - n = omega arith in

@@ -23,7 +23,7 @@ use Rattle.layout.specs.declared.sound.Soundness.the-variants.{Unsound}
 use Rattle.builders.specs.Order.{has}
 use Rattle.builders.specs.Build.{on-two}
 use Rattle.edits.specs.Find.{place}
-use Rattle.edits.specs.Keypath.{get-by, delete-by, on-path}
+use Rattle.edits.specs.Path.{get-by, delete-by, on-path}
 use Rattle.edits.specs.Concat.{concat}
 use Rattle.edits.specs.Strip.{strip, on-one}
 

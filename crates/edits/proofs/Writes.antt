@@ -20,7 +20,9 @@ use Rattle.layout.specs.declared.ending.Ending.the-variants.{Done, Refused}
 use Rattle.layout.proofs.Patches.{patch-empty, in-short, in-full}
 use Rattle.edits.specs.Steps.{part-steps}
 use Rattle.edits.specs.Held.{finding}
-use Rattle.edits.specs.Cut.{Left, Cuts, left-of, steps-from}
+use Rattle.edits.specs.Cut.{Stores}
+use Rattle.edits.specs.Way.{Cuts, steps-from}
+use Rattle.edits.specs.Remains.{remains-of}
 use Rattle.edits.specs.declared.delete.Way.{Way}
 use Rattle.edits.proofs.Onwards.{cuts-shorter}
 
@@ -46,22 +48,22 @@ whole-cuts s path n c l few more f =
 
 -- A buffer that is as long as the record has room.
 pub room-enough : (s path : Bytes) (n : ℕ) (o : Bytes) (room : ℕ) (o′ : Bytes) (len : ℕ) → Octets s → Cuts s path (whole-way n) 64 → length s ≤ room
-    → Left len o o′ 0 (left-of s (steps-from path (whole-way n)))
-    → EndedIn (Done len) o o′ (into room (left-of s (part-steps (parts-at path 0 (4 + 4 * n) n))))
+    → Stores len o o′ 0 (remains-of s (steps-from path (whole-way n)))
+    → EndedIn (Done len) o o′ (into room (remains-of s (part-steps (parts-at path 0 (4 + 4 * n) n))))
 room-enough s path n o room o′ len b c h l =
-    let e = ap (left-of s) (steps-whole path n) in
-    let q : len ≡ length (left-of s (part-steps (parts-at path 0 (4 + 4 * n) n))) = l .length-is ∙ ap length e in
-    let k : length (left-of s (part-steps (parts-at path 0 (4 + 4 * n) n))) ≤ room =
+    let e = ap (remains-of s) (steps-whole path n) in
+    let q : len ≡ length (remains-of s (part-steps (parts-at path 0 (4 + 4 * n) n))) = l .length-is ∙ ap length e in
+    let k : length (remains-of s (part-steps (parts-at path 0 (4 + 4 * n) n))) ≤ room =
     omega (arith, q, l .length-is, cuts-shorter s path (whole-way n) 64 b c, h) in
     in-full _ o room o′ len k q (l .stored ∙ ap (patch o 0) e)
 
 -- What was measured on no bytes.
-module _ (s path : Bytes) (n : ℕ) (o : Bytes) (room : ℕ) (e : Bytes) (len : ℕ) (d : Left len [] e 0 (left-of s (steps-from path (whole-way n)))) where
+module _ (s path : Bytes) (n : ℕ) (o : Bytes) (room : ℕ) (e : Bytes) (len : ℕ) (d : Stores len [] e 0 (remains-of s (steps-from path (whole-way n)))) where
   abbrev result : Bytes
-  result = left-of s (part-steps (parts-at path 0 (4 + 4 * n) n))
+  result = remains-of s (part-steps (parts-at path 0 (4 + 4 * n) n))
 
-  as-steps : left-of s (steps-from path (whole-way n)) ≡ result
-  as-steps = ap (left-of s) (steps-whole path n)
+  as-steps : remains-of s (steps-from path (whole-way n)) ≡ result
+  as-steps = ap (remains-of s) (steps-whole path n)
 
   measured : len ≡ length result
   measured = d .length-is ∙ ap length as-steps
@@ -72,7 +74,7 @@ module _ (s path : Bytes) (n : ℕ) (o : Bytes) (room : ℕ) (e : Bytes) (len : 
   pub no-room : room < len → EndedIn (Refused Buffer) o (e ++ o) (into room result)
   no-room h = rw untouched (in-short result o room (omega (arith, measured, h)))
 
-  pub has-room : (len₂ : ℕ) (o′ : Bytes) → len ≤ room → Left len₂ (e ++ o) o′ 0 (left-of s (steps-from path (whole-way n)))
+  pub has-room : (len₂ : ℕ) (o′ : Bytes) → len ≤ room → Stores len₂ (e ++ o) o′ 0 (remains-of s (steps-from path (whole-way n)))
       → EndedIn (Done len) o o′ (into room result)
   has-room len₂ o′ h l =
       in-full result o room o′ len (omega (arith, measured, h)) measured (l .stored ∙ rw (untouched, as-steps))

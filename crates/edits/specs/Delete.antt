@@ -10,7 +10,7 @@ use Rattle.layout.specs.Order.{order}
 use Rattle.layout.specs.declared.refusal.Refusal.the-variants.{Kind}
 use Rattle.builders.specs.Order.{by, in-order}
 use Rattle.builders.specs.Build.{count}
-use Rattle.edits.specs.Path.{Step}
+use Rattle.edits.specs.Keypath.{Step}
 use Rattle.edits.specs.Find.{_then_, step-place, step-name, step-into, look-up}
 
 -- What is left of an item: itself, changed or not, or nothing where it is gone.
@@ -51,9 +51,9 @@ anew o s (object ms) = object (in-order (change-member o (step-name s) ms))
 
 -- What is left of a tree without the item that a path finds in it: nothing, where that is the tree itself. It means something
 -- only where the path finds one.
-abbrev pub left : List Step → Tree → Option Tree
-left [] t = nothing
-left (s ∷ p) t = some (anew (step-into s t then left p) s t)
+abbrev pub remains : List Step → Tree → Option Tree
+remains [] t = nothing
+remains (s ∷ p) t = some (anew (step-into s t then remains p) s t)
 
 abbrev pub or-same : Tree → Option Tree → Tree
 or-same t nothing = t
@@ -61,7 +61,7 @@ or-same t (some u) = u
 
 -- What `left` gives where the path finds an item; the tree itself where it finds none, and for the empty path.
 abbrev pub delete : List Step → Tree → Tree
-delete p t = or-same t (look-up p t then λ _. left p t)
+delete p t = or-same t (look-up p t then λ _. remains p t)
 
 -- 7: "delete on a root null, boolean, number or string".
 abbrev pub deletable : Tree → Answer Tree

@@ -9,7 +9,7 @@ use Rattle.layout.specs.Bytes.{Bytes}
 use Rattle.layout.specs.Tree.{Tree, null, boolean, number, string, extension, array, object, Items, none, item}
 use Rattle.builders.specs.Order.{find}
 use Rattle.builders.specs.Build.{count}
-use Rattle.edits.specs.Path.{Step, name, index, index-text}
+use Rattle.edits.specs.Keypath.{Step, name, index, index-text}
 
 -- One step and then the next, as long as something is found.
 infixl 40 _then_

@@ -15,7 +15,7 @@ use Rattle.layout.specs.Encode.{entry-word, payload, part}
 use Rattle.layout.specs.Read.{nested}
 use Rattle.layout.specs.Parts.{bytes-at}
 use Rattle.layout.specs.declared.parts.ItemAt.{ItemAt}
-use Rattle.edits.specs.Path.{Step}
+use Rattle.edits.specs.Keypath.{Step}
 use Rattle.edits.specs.Find.{step-into, look-up}
 use Rattle.edits.specs.declared.path.Item.{Item}
 use Rattle.edits.specs.declared.path.Item.the-variants.{Nothing, At}
@@ -53,5 +53,5 @@ abbrev pub Finds : Bytes → List Step → Item → Type 0
 Finds s p r = Agree s (finding s p) r
 
 -- The record of an item: a container as it is, anything else behind a scalar's header and its entry.
-unfoldable pub written : Bytes → ItemAt → Bytes
-written s x = cond (eqb (code-of (x .jentry)) 5) (bytes-at s x) (be32 (2 ^ 29) ++ (be32 (x .jentry) ++ bytes-at s x))
+unfoldable pub item-record : Bytes → ItemAt → Bytes
+item-record s x = cond (eqb (code-of (x .jentry)) 5) (bytes-at s x) (be32 (2 ^ 29) ++ (be32 (x .jentry) ++ bytes-at s x))

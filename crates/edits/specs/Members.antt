@@ -9,7 +9,8 @@ use lib.ListN.{length}
 use Rattle.layout.specs.Bytes.{Bytes}
 use Rattle.layout.specs.Place.{parts-at, rising-parts}
 use Rattle.layout.specs.Parts.{name-in, value-in, members-at, members-of, behind-member}
-use Rattle.builders.specs.Search.{kept-of, Bound, least, sorted}
+use Rattle.builders.specs.Search.{kept-of, Bound, least}
+use Rattle.builders.specs.Sorted.{sorted}
 use Rattle.builders.specs.Weave.{column}
 use Rattle.builders.specs.declared.search.Kept.{Kept}
 use Rattle.layout.specs.declared.parts.MemberAt.{MemberAt}
@@ -17,8 +18,8 @@ use Rattle.layout.specs.declared.parts.Places.{Places}
 use Rattle.builders.specs.declared.search.Found.the-variants.{Nothing, At}
 use Rattle.edits.specs.declared.members.Sizes.{Sizes}
 use Rattle.edits.specs.declared.members.Ahead.{Ahead}
-use Rattle.edits.specs.declared.members.Taken.{Taken}
-use Rattle.edits.specs.declared.members.Taken.the-variants.{End, Member}
+use Rattle.edits.specs.declared.members.NextMember.{NextMember}
+use Rattle.edits.specs.declared.members.NextMember.the-variants.{End, Member}
 
 -- Members in byte order, and their sizes.
 abbrev pub in-turn : Bytes → Places → ℕ → Kept → List MemberAt
@@ -66,17 +67,17 @@ pub record Near (a : Ahead) : Type 0 where
   pub val : a .at .val ≤ 2 ^ 31 + 2 ^ 28 * a .index
 
 -- The next member as it stands, and what is ahead behind it.
-abbrev pub Standing : Bytes → Kept → Ahead → Taken → Type 0
+abbrev pub Standing : Bytes → Kept → Ahead → NextMember → Type 0
 Standing s kept a End = kept-ahead s kept a ≡ []
 Standing s kept a (Member m b) =
     (kept-ahead s kept a ≡ m ∷ kept-ahead s kept b) × (b .«is_rising» ≡ a .«is_rising») × Near b
 
 -- The next member by the search, behind which the same are searched.
-abbrev pub Searching : Bytes → Kept → Bound → Ahead → Taken → Type 0
+abbrev pub Searching : Bytes → Kept → Bound → Ahead → NextMember → Type 0
 Searching s kept last a End = least (name-in s) last Nothing (kept-ahead s kept a) ≡ Nothing
 Searching s kept last a (Member m b) = (least (name-in s) last Nothing (kept-ahead s kept a) ≡ At m) × (b ≡ a)
 
 -- The next member in byte order, behind the last one taken.
-pub record Next (s : Bytes) (kept : Kept) (last : Bound) (a : Ahead) (r : Taken) : Type 0 where
+pub record Next (s : Bytes) (kept : Kept) (last : Bound) (a : Ahead) (r : NextMember) : Type 0 where
   pub stands : a .«is_rising» ≡ true → Standing s kept a r
   pub searched : a .«is_rising» ≡ false → Searching s kept last a r

@@ -13,19 +13,19 @@ use Rattle.layout.specs.declared.check.Check.the-variants.{Readable}
 use Rattle.layout.specs.declared.util.Header.the-variants.{Object}
 use Rattle.builders.specs.Order.{by}
 use Rattle.layout.specs.Parts.{name-in, value-in, members-at}
-use Rattle.builders.specs.Search.{sorted}
+use Rattle.builders.specs.Sorted.{sorted}
 use Rattle.builders.specs.Weave.{column}
 use Rattle.layout.specs.declared.parts.ItemAt.{ItemAt}
 use Rattle.layout.specs.declared.parts.MemberAt.{MemberAt}
 use Rattle.layout.specs.declared.parts.Places.{Places}
 use Rattle.layout.specs.Parts.{members-of}
-use Rattle.edits.specs.declared.members.Taken.{Taken}
-use Rattle.edits.specs.declared.members.Taken.the-variants.{End as NoMember, Member}
+use Rattle.edits.specs.declared.members.NextMember.{NextMember}
+use Rattle.edits.specs.declared.members.NextMember.the-variants.{End as NoMember, Member}
 use Rattle.edits.specs.declared.merge.Turn.{Turn}
 use Rattle.edits.specs.declared.merge.Turn.the-variants.{Left, Right, Both, End}
 
 -- Which of the next members of both sides is taken.
-abbrev pub chosen : Bytes → Bytes → Taken → Taken → Turn
+abbrev pub chosen : Bytes → Bytes → NextMember → NextMember → Turn
 chosen l r NoMember NoMember = End
 chosen l r NoMember (Member k b) = Right k b
 chosen l r (Member m a) NoMember = Left m a

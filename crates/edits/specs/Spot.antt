@@ -12,7 +12,7 @@ use Rattle.layout.specs.declared.util.Header.{Header}
 use Rattle.layout.specs.declared.util.Header.the-variants.{Array, Object, Scalar, Refused}
 use Rattle.layout.specs.Order.{same-bytes}
 use Rattle.layout.specs.Parts.{texts, nth-part}
-use Rattle.edits.specs.Path.{Step}
+use Rattle.edits.specs.Keypath.{Step}
 use Rattle.edits.specs.Find.{step-place, step-name}
 use Rattle.layout.specs.declared.parts.PartAt.{PartAt}
 use Rattle.edits.specs.declared.find.Place.{Place}
@@ -25,9 +25,9 @@ place-told nothing = NoPlace
 place-told (some k) = AtPlace k
 
 -- A sum, which may be negative, as a place among `n` items.
-unfoldable pub inside : ℤ → ℕ → Option ℕ
-inside (pos k) n = cond (ltb k n) (some k) nothing
-inside (negsuc k) n = nothing
+unfoldable pub among : ℤ → ℕ → Option ℕ
+among (pos k) n = cond (ltb k n) (some k) nothing
+among (negsuc k) n = nothing
 
 -- Which of the names is the first that has equal bytes.
 abbrev pub one-more : Option ℕ → Option ℕ

@@ -14,7 +14,7 @@ use Rattle.layout.specs.Entry.{code}
 use Rattle.layout.specs.Number.{decoded}
 use Rattle.layout.specs.declared.number.Number.{Number}
 use Rattle.layout.specs.declared.number.Number.the-variants.{Nan, Infinity, NegInfinity, Int64, UInt64, Float64, Decimal64, WideDecimal, Refused as NotListed}
-use Rattle.edits.specs.Path.{Step, name, index}
+use Rattle.edits.specs.Keypath.{Step, name, index}
 use Rattle.edits.specs.Find.{place}
 use Rattle.edits.specs.declared.keypath.KeyPath.{KeyPath}
 use Rattle.edits.specs.declared.keypath.KeyPath.the-variants.{Index, Name, Other}

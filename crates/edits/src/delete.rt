@@ -55,12 +55,19 @@ ghost use Rattle.layout.specs.Parts.{«name-in» as nameIn, «value-in» as val
 ghost use Rattle.builders.specs.Weave.{behind, stored};
 ghost use Rattle.edits.specs.Steps.{«part-steps» as partSteps};
 ghost use Rattle.edits.specs.Held.{finding};
-ghost use Rattle.edits.specs.Cut.{Left, LedTo, LeftBy, Cuts, Onward, InRuns, Table, PartOf, without, «without-member» as withoutMember};
-ghost use Rattle.edits.specs.Cut.{«left-of» as leftOf, «steps-from» as stepsFrom, «parts-of» as partsOf};
-ghost use Rattle.edits.specs.Cut.{«run-entries» as runEntries, «run-payloads» as runPayloads, «run-behind» as runBehind};
+ghost use Rattle.edits.specs.Cut.{Stores, LedTo, StoresBy};
+ghost use Rattle.edits.specs.Way.{Cuts, Onward};
+ghost use Rattle.edits.specs.Manner.{InRuns};
+ghost use Rattle.edits.specs.Runs.{Table, without, «without-member» as withoutMember};
+ghost use Rattle.layout.specs.Parts.{PartOf};
+ghost use Rattle.edits.specs.Remains.{«remains-of» as remainsOf};
+ghost use Rattle.edits.specs.Way.{«steps-from» as stepsFrom};
+ghost use Rattle.layout.specs.Parts.{«parts-of» as partsOf};
+ghost use Rattle.edits.specs.Runs.{«run-entries» as runEntries, «run-payloads» as runPayloads, «run-behind» as runBehind};
 ghost use Rattle.edits.specs.Cut.{«name-of» as nameOf};
-ghost use Rattle.edits.specs.Cut.{«way-behind» as wayBehind, «anew-value» as anewValue, «anew-entry» as anewEntry};
-ghost use Rattle.edits.specs.Cut.{«manner-of» as mannerOf};
+ghost use Rattle.edits.specs.Way.{«way-behind» as wayBehind};
+ghost use Rattle.edits.specs.Cut.{«anew-value» as anewValue, «anew-entry» as anewEntry};
+ghost use Rattle.edits.specs.Manner.{«manner-of» as mannerOf};
 
 // A path of `count` steps, of which `step` is the next.
 pub struct Way {
@@ -119,7 +126,7 @@ fn put_run(s: &[u8], from: PartAt, to: PartAt, out: &mut [u8], at: Cursor) -> Cu
 // Stores an array of n items without one of them, and gives its length.
 fn put_array_without(s: &[u8], n: usize, item: PartAt, out: &mut [u8], at: usize) -> usize
     requires { ⌜ Table (now s) n × PartOf (now s) n item × (at ≤ 2 ^ 23) ⌝ }
-    ensures { λ r. ⌜ Left r (now (out .entry)) (now (out .exit)) at
+    ensures { λ r. ⌜ Stores r (now (out .entry)) (now (out .exit)) at
         (recordOf (2 ^ 31 + (n - 1)) (without (item .index) (partsOf (now (s .entry)) n))) ⌝ }
 {
     let first = PartAt {
@@ -143,7 +150,7 @@ fn put_array_without(s: &[u8], n: usize, item: PartAt, out: &mut [u8], at: usize
 // Stores an object of n members whose names rise, without the one with this value, and gives its length.
 fn put_object_without(s: &[u8], n: usize, val: PartAt, out: &mut [u8], at: usize) -> usize
     requires { ⌜ Table (now s) (n + n) × PartOf (now s) (n + n) val × (n ≤ val .index) × (at ≤ 2 ^ 23) ⌝ }
-    ensures { λ r. ⌜ Left r (now (out .entry)) (now (out .exit)) at
+    ensures { λ r. ⌜ Stores r (now (out .entry)) (now (out .exit)) at
         (recordOf (2 ^ 30 + (n - 1)) (withoutMember n (val .index - n) (partsOf (now (s .entry)) (n + n)))) ⌝ }
 {
     let first = PartAt {
@@ -190,7 +197,7 @@ fn name_of(s: &[u8], n: usize, k: usize) -> &[u8]
 fn put_sorted_without(s: &[u8], n: usize, val: PartAt, out: &mut [u8], at: usize) -> usize
     requires { ⌜ (checked (nested 64 (now s)) ≡ Readable) × (length (now s) ≤ 65536) × (header (now s) ≡ Header.Object n)
         × LedTo (now s) val × (at ≤ 2 ^ 23) ⌝ }
-    ensures { λ r. ⌜ LeftBy (now (s .entry)) val r (now (out .entry)) (now (out .exit)) at ⌝ }
+    ensures { λ r. ⌜ StoresBy (now (s .entry)) val r (now (out .entry)) (now (out .exit)) at ⌝ }
 {
     let from = members_of(s, n);
     let kept = Kept::But(val.index - n);
@@ -205,7 +212,7 @@ fn put_sorted_without(s: &[u8], n: usize, val: PartAt, out: &mut [u8], at: usize
 fn put_without(s: &[u8], part: PartAt, out: &mut [u8], at: usize) -> usize
     requires { ⌜ (checked (nested 64 (now s)) ≡ Readable) × (length (now s) ≤ 65536)
         × LedTo (now s) part × (at ≤ 2 ^ 23) ⌝ }
-    ensures { λ r. ⌜ LeftBy (now (s .entry)) part r (now (out .entry)) (now (out .exit)) at ⌝ }
+    ensures { λ r. ⌜ StoresBy (now (s .entry)) part r (now (out .entry)) (now (out .exit)) at ⌝ }
 {
     match manner_of(s) {
         Manner::Items(n) => put_array_without(s, n, part, out, at),
@@ -239,7 +246,7 @@ fn put_part_anew(
 ) -> usize
     requires { ⌜ Cuts (now s) (now path) way allowance × Onward (now s) (now path) way part × InRuns (now s) total
         × (at ≤ 65536 * (64 - allowance)) ⌝ }
-    ensures { λ r. ⌜ Left r (now (out .entry)) (now (out .exit)) at (leftOf (now (s .entry)) (stepsFrom (now (path .entry)) way)) ⌝ }
+    ensures { λ r. ⌜ Stores r (now (out .entry)) (now (out .exit)) at (remainsOf (now (s .entry)) (stepsFrom (now (path .entry)) way)) ⌝ }
 {
     let first = PartAt {
         index: 0,
@@ -333,7 +340,7 @@ fn put_sorted_anew(
 ) -> usize
     requires { ⌜ Cuts (now s) (now path) way allowance × Onward (now s) (now path) way val × (header (now s) ≡ Header.Object n)
         × (at ≤ 65536 * (64 - allowance)) ⌝ }
-    ensures { λ r. ⌜ Left r (now (out .entry)) (now (out .exit)) at (leftOf (now (s .entry)) (stepsFrom (now (path .entry)) way)) ⌝ }
+    ensures { λ r. ⌜ Stores r (now (out .entry)) (now (out .exit)) at (remainsOf (now (s .entry)) (stepsFrom (now (path .entry)) way)) ⌝ }
 {
     let from = members_of(s, n);
     let name = name_of(s, n, val.index - n);
@@ -357,7 +364,7 @@ fn put_sorted_anew(
 // Stores a container without the item that the rest of a path finds in it, and gives its length.
 fn put_deleted(s: &[u8], path: &[u8], way: Way, out: &mut [u8], at: usize, allowance: u32) -> usize
     requires { ⌜ Cuts (now s) (now path) way allowance × (at ≤ 65536 * (64 - allowance)) ⌝ }
-    ensures { λ r. ⌜ Left r (now (out .entry)) (now (out .exit)) at (leftOf (now (s .entry)) (stepsFrom (now (path .entry)) way)) ⌝ }
+    ensures { λ r. ⌜ Stores r (now (out .entry)) (now (out .exit)) at (remainsOf (now (s .entry)) (stepsFrom (now (path .entry)) way)) ⌝ }
 {
     let jentry = read_jentry(path, way.step.index);
     let text = slice(path, way.step.place, payload_len(jentry) as usize);
@@ -381,7 +388,7 @@ pub(crate) fn write_deleted(s: &[u8], path: &[u8], n: usize, out: &mut [u8], roo
     requires { ⌜ (checked (nested 64 (now s)) ≡ Readable) × (length (now s) ≤ 65536) × (n < 2 ^ 29) × (0 < n)
         × ((t : Tree) × (finding (now s) (partSteps (partsAt (now path) 0 (4 + 4 * n) n)) ≡ some t)) ⌝ }
     ensures { λ e. ⌜ EndedIn e (now (out .entry)) (now (out .exit))
-        (into room (leftOf (now (s .entry)) (partSteps (partsAt (now (path .entry)) 0 (4 + 4 * n) n)))) ⌝ }
+        (into room (remainsOf (now (s .entry)) (partSteps (partsAt (now (path .entry)) 0 (4 + 4 * n) n)))) ⌝ }
 {
     let way = Way {
         step: PartAt {

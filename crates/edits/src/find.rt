@@ -19,7 +19,7 @@ ghost use Rattle.layout.specs.Place.{«parts-at» as partsAt};
 ghost use Rattle.layout.specs.Read.{header};
 ghost use Rattle.layout.specs.Parts.{texts};
 ghost use Rattle.edits.specs.Steps.{«code-key» as codeKey, «key-place» as keyPlace, step};
-ghost use Rattle.edits.specs.Spot.{«place-told» as placeTold, inside, first, «spot-at» as spotAt};
+ghost use Rattle.edits.specs.Spot.{«place-told» as placeTold, among, first, «spot-at» as spotAt};
 ghost use Rattle.edits.specs.Spot.{«spot-member» as spotMember, spot};
 ghost use Rattle.edits.specs.Find.{place, «step-name» as stepName};
 
@@ -40,7 +40,7 @@ pub enum Place {
 
 // The item at a place, where there is one.
 fn place_in(z: i64, n: usize) -> Place
-    ensures { λ r. ⌜ r ≡ placeTold (inside z n) ⌝ }
+    ensures { λ r. ⌜ r ≡ placeTold (among z n) ⌝ }
 {
     if z < 0 {
         return Place::Nothing;

@@ -5,6 +5,7 @@ use layout::constants::HEADER_SIZE;
 use layout::constants::JENTRY_SIZE;
 use layout::constants::NUMBER_CODE;
 use layout::constants::STRING_CODE;
+use layout::decimal::put_decimal;
 use layout::jentry::payload_len;
 use layout::jentry::read_jentry;
 use layout::jentry::type_code;
@@ -19,7 +20,7 @@ ghost use lib.ListN.{length};
 ghost use Rattle.layout.specs.Entry.{«code-of» as codeOf};
 ghost use Rattle.layout.specs.Patch.{patch};
 ghost use Rattle.layout.specs.Place.{«parts-at» as partsAt};
-ghost use Rattle.edits.specs.Path.{decimal, «index-text» as indexText, «path-of» as pathOf};
+ghost use Rattle.edits.specs.Keypath.{«index-text» as indexText, «path-of» as pathOf};
 ghost use Rattle.edits.specs.Steps.{«number-key» as numberKey, «int-key» as intKey, «code-key» as codeKey};
 ghost use Rattle.edits.specs.Steps.{«are-steps» as areSteps, «steps-told» as stepsTold};
 
@@ -32,8 +33,6 @@ const UINT_INDEX_MAX: u64 = 0x7fff_ffff;
 
 // No index has more decimal digits.
 const INDEX_DIGITS: u32 = 10;
-
-const DIGIT_ZERO: u32 = 48;
 
 const MINUS_SIGN: u8 = 0x2d;
 
@@ -124,7 +123,7 @@ fn are_steps(path: &[u8], n: usize) -> bool
 }
 
 // Reads a path whole, before any step is taken.
-pub(crate) fn check_path(path: &[u8]) -> Steps
+pub fn check_path(path: &[u8]) -> Steps
     ensures { λ r. ⌜ r ≡ stepsTold (pathOf (now (path .entry))) ⌝ }
 {
     if let Check::Refused(_) = check_record(path) {
@@ -139,24 +138,6 @@ pub(crate) fn check_path(path: &[u8]) -> Steps
     Steps::Refused
 }
 
-// Stores the decimal digits of a number below 10^most, and gives the place behind them.
-fn put_decimal(v: u32, most: u32, out: &mut [u8], at: usize) -> usize
-    requires { ⌜ (most ≤ 10) × (at ≤ 2) ⌝ }
-    ensures is { λ r. ⌜ (r ≡ at + length (decimal most v)) × (length (decimal most v) ≤ most) ⌝ }
-    ensures kept { λ _. ⌜ now (out .exit) ≡ patch (now (out .entry)) at (decimal most v) ⌝ }
-{
-    if most == 0 {
-        return at;
-    }
-    if v < 10 {
-        put(out, at, (DIGIT_ZERO + v) as u8);
-        return at + 1;
-    }
-    let end = put_decimal(v / 10, most - 1, out, at);
-    put(out, end, (DIGIT_ZERO + v % 10) as u8);
-    end + 1
-}
-
 // Stores the decimal text of an index, and gives its length.
 pub(crate) fn put_index(i: i32, out: &mut [u8]) -> usize
     ensures is { λ r. ⌜ (r ≡ length (indexText i)) × (r ≤ 11) ⌝ }
@@ -165,7 +146,7 @@ pub(crate) fn put_index(i: i32, out: &mut [u8]) -> usize
     let v = i as i64;
     if v < 0 {
         put(out, 0, MINUS_SIGN);
-        return put_decimal((-v) as u32, INDEX_DIGITS, out, 1);
+        return put_decimal((-v) as u64, INDEX_DIGITS, out, 1);
     }
-    put_decimal(v as u32, INDEX_DIGITS, out, 0)
+    put_decimal(v as u64, INDEX_DIGITS, out, 0)
 }

@@ -40,7 +40,7 @@ pub struct Ahead {
 }
 
 // The next member, and what is ahead behind it; or the end.
-pub enum Taken {
+pub enum NextMember {
     Member(MemberAt, Ahead),
     End,
 }
@@ -114,7 +114,7 @@ pub(crate) fn ahead_behind(ahead: Ahead, member: MemberAt) -> Ahead
 }
 
 // The next member as they stand, those left out aside.
-fn next_standing(s: &[u8], ahead: Ahead, kept: Kept) -> Taken
+fn next_standing(s: &[u8], ahead: Ahead, kept: Kept) -> NextMember
     requires { ⌜ Near ahead ⌝ }
     ensures { λ r. ⌜ Standing (now (s .entry)) kept ahead r ⌝ }
 {
@@ -123,11 +123,11 @@ fn next_standing(s: &[u8], ahead: Ahead, kept: Kept) -> Taken
         let member = read_member(s, s, here.at);
         let next = ahead_behind(here, member);
         if is_kept(kept, here.index, member) {
-            return Taken::Member(member, next);
+            return NextMember::Member(member, next);
         }
         here = next;
     }
-    Taken::End
+    NextMember::End
 }
 
 // The sizes of the members ahead, those left out aside.
@@ -163,7 +163,7 @@ pub(crate) fn next_in_order(
     kept: Kept,
     is_first: bool,
     last: &[u8],
-) -> Taken
+) -> NextMember
     requires { ⌜ Near ahead × (ahead .«is_rising» ≡ false → ahead .index ≡ 0) ⌝ }
     ensures { λ r. ⌜ Next (now (s .entry)) kept (bound «is_first» (now (last .entry))) ahead r ⌝ }
 {
@@ -171,7 +171,7 @@ pub(crate) fn next_in_order(
         return next_standing(s, ahead, kept);
     }
     let Found::At(member) = next_member(s, s, ahead.at, ahead.count, kept, is_first, last) else {
-        return Taken::End;
+        return NextMember::End;
     };
-    Taken::Member(member, ahead)
+    NextMember::Member(member, ahead)
 }

@@ -1,8 +1,8 @@
 // Two objects written as one: the members of both in byte order of their names, of equal names the right one's. Where names rise on
 // both sides this is one walk through both.
 use crate::members::Ahead;
+use crate::members::NextMember;
 use crate::members::Sizes;
-use crate::members::Taken;
 use crate::members::members_ahead;
 use crate::members::next_in_order;
 use crate::members::places_for;
@@ -50,16 +50,16 @@ pub enum Turn {
 }
 
 // Which of the next members of both sides is taken; of equal names the right one's, and the left one's is passed over.
-fn turn_of(left: &[u8], l: Taken, right: &[u8], r: Taken) -> Turn
+fn turn_of(left: &[u8], l: NextMember, right: &[u8], r: NextMember) -> Turn
     ensures { λ t. ⌜ t ≡ chosen (now (left .entry)) (now (right .entry)) l r ⌝ }
 {
-    let Taken::Member(left_member, left_next) = l else {
-        let Taken::Member(right_member, right_next) = r else {
+    let NextMember::Member(left_member, left_next) = l else {
+        let NextMember::Member(right_member, right_next) = r else {
             return Turn::End;
         };
         return Turn::Right(right_member, right_next);
     };
-    let Taken::Member(right_member, right_next) = r else {
+    let NextMember::Member(right_member, right_next) = r else {
         return Turn::Left(left_member, left_next);
     };
     match compare(

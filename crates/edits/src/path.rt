@@ -36,8 +36,8 @@ ghost use Rattle.layout.specs.Ended.{Ended, into};
 ghost use Rattle.layout.specs.Room.{EndedIn};
 ghost use Rattle.layout.specs.declared.check.Check.the-variants.{Readable};
 ghost use Rattle.edits.specs.Steps.{«code-key» as codeKey, step, «part-steps» as partSteps};
-ghost use Rattle.edits.specs.Keypath.{«get-by» as getBy, «delete-by» as deleteBy, «on-path» as onPath};
-ghost use Rattle.edits.specs.Held.{Stands, Leads, Finds, written};
+ghost use Rattle.edits.specs.Path.{«get-by» as getBy, «delete-by» as deleteBy, «on-path» as onPath};
+ghost use Rattle.edits.specs.Held.{Stands, Leads, Finds, «item-record» as itemRecord};
 
 // What a path finds in a record.
 pub enum Item {
@@ -101,7 +101,7 @@ pub(crate) fn write_copy(s: &[u8], out: &mut [u8], room: usize) -> Ending
 // Stores an item as a record, where it goes into `room` bytes: a container as it is, anything else as a scalar record.
 fn write_item(s: &[u8], item: ItemAt, out: &mut [u8], room: usize) -> Ending
     requires { ⌜ Stands (now s) item ⌝ }
-    ensures { λ e. ⌜ EndedIn e (now (out .entry)) (now (out .exit)) (into room (written (now (s .entry)) item)) ⌝ }
+    ensures { λ e. ⌜ EndedIn e (now (out .entry)) (now (out .exit)) (into room (itemRecord (now (s .entry)) item)) ⌝ }
 {
     let payload = payload_at(s, item);
     if type_code(item.jentry) == CONTAINER_CODE {

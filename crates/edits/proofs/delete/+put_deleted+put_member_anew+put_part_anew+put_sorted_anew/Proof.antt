@@ -1,12 +1,13 @@
 -- `edits::delete::put_deleted` and what it calls in a cycle meet their contracts: the allowance falls with each level.
 use Rattle.edits.proofs.Onwards.{leads-on, leads-nowhere, last-step, whole-levels}
-use Rattle.edits.proofs.Leds.{manner-array, manner-object, manner-search, no-manner, left-as}
-use Rattle.edits.specs.Cut.{left-of}
+use Rattle.edits.proofs.Leds.{manner-array, manner-object, manner-search, no-manner, stores-as}
+use Rattle.edits.specs.Remains.{remains-of}
 use Rattle.layout.proofs.Checks.{told-object}
 use mathlib.Core.Logic.{inl, inr}
 use mathlib.Core.Path.{sym, _∙_}
-use Rattle.edits.proofs.SortedAnews.{at-value, allows, anew-room, anew-count, anew-cuts, value-anew-short, anew-left}
-use Rattle.edits.specs.Cut.{steps-from, anew-value, anew-entry}
+use Rattle.edits.proofs.SortedAnews.{at-value, allows, anew-room, anew-count, anew-cuts, value-anew-short, anew-remains}
+use Rattle.edits.specs.Way.{steps-from}
+use Rattle.edits.specs.Cut.{anew-value, anew-entry}
 use Rattle.builders.proofs.Storing.{sought-nth, sought-end, sought-all, Stored, begins, goes, ends-early, ends-full, ends-val, few-searched}
 use Rattle.builders.proofs.Searches.{bytes-short}
 use Rattle.layout.specs.declared.parts.Places.{Places}
@@ -16,7 +17,7 @@ use Rattle.builders.specs.Search.{kept-of}
 use Prim.Native.Nat.{_-_}
 use Rattle.edits.proofs.Reweaves.{value-cuts, value-short, named-stored, other-stored, stored-length}
 use Rattle.builders.proofs.Storing.{payload-short}
-use Rattle.edits.proofs.Leds.{left-length}
+use Rattle.edits.proofs.Leds.{stores-length}
 use Rattle.edits.proofs.Anews.{here, down, child-cuts, child-short, part-anew-stored}
 use Rattle.layout.specs.declared.parts.Cursor.{Cursor}
 use Rattle.layout.specs.declared.parts.PartAt.{PartAt}
@@ -161,10 +162,10 @@ put-deleted-put-without-requires : (t : ℕ) → put-deleted-lts.Need-put-withou
 put-deleted-put-without-requires t c κs = ((whole-levels (c .before .before .before .before .before .before .before .before .before .before .before .before .before .before .args .s .now) (c .before .before .before .before .before .before .before .before .before .before .before .before .before .before .args .path .now) (c .before .before .before .before .before .before .before .before .before .before .before .before .before .before .args .way) (c .before .before .before .before .before .before .before .before .before .before .before .before .before .before .args .allowance) (octets-of (c .before .before .before .before .before .before .before .before .before .before .before .before .before .before .args .s .now) (λ i. omega (arith, c .before .before .before .before .before .before .before .before .before .before .before .before .before .shared-slice-known .given i))) (c .before .before .before .before .before .before .before .before .before .before .before .before .before .before .pre .1 .0)), c .before .before .before .before .before .before .before .before .before .before .before .before .before .before .pre .1 .0 .short, (_, (leads-on (c .before .before .before .before .before .before .before .before .before .before .before .before .before .before .args .s .now) (c .before .before .before .before .before .before .before .before .before .before .before .before .before .before .args .path .now) (c .before .before .before .before .before .before .before .before .before .before .before .before .before .before .args .way) _ _ _ (c .before .before .before .before .before .before .before .before .before .before .read-jentry .ensures) (c .before .before .before .before .before .before .before .before .before .payload-len .ensures) (c .before .before .before .before .before .before .before .before .slice .ensures) _ (c .before .before .before .before .before .before .before .find-step .ensures) _ (c .before .before .before .before .before .part .given .1))), omega (arith, c .before .before .before .before .before .before .before .before .before .before .before .before .before .before .pre .1 .1, c .before .before .before .before .before .before .before .before .before .before .before .before .before .before .pre .1 .0 .allowed))
 
 put-deleted-same-length : (t : ℕ) → put-deleted-lts.Need-same-length (put-deleted-claims t) (put-deleted-at t) put-deleted.Post
-put-deleted-same-length t c = left-length (left-as _ _ _ _ _ _ (ap (left-of (c .before .before .before .before .before .before .before .before .before .before .before .before .before .before .before .before .before .args .s .now)) (last-step (c .before .before .before .before .before .before .before .before .before .before .before .before .before .before .before .before .before .args .path .now) (c .before .before .before .before .before .before .before .before .before .before .before .before .before .before .before .before .before .args .way) (c .before .before .before .before .if1 .taken))) (c .before .before .put-without .ensures _ (leads-on (c .before .before .before .before .before .before .before .before .before .before .before .before .before .before .before .before .before .args .s .now) (c .before .before .before .before .before .before .before .before .before .before .before .before .before .before .before .before .before .args .path .now) (c .before .before .before .before .before .before .before .before .before .before .before .before .before .before .before .before .before .args .way) _ _ _ (c .before .before .before .before .before .before .before .before .before .before .before .before .before .read-jentry .ensures) (c .before .before .before .before .before .before .before .before .before .before .before .before .payload-len .ensures) (c .before .before .before .before .before .before .before .before .before .before .before .slice .ensures) _ (c .before .before .before .before .before .before .before .before .before .before .find-step .ensures) _ (c .before .before .before .before .before .before .before .before .part .given .1))))
+put-deleted-same-length t c = stores-length (stores-as _ _ _ _ _ _ (ap (remains-of (c .before .before .before .before .before .before .before .before .before .before .before .before .before .before .before .before .before .args .s .now)) (last-step (c .before .before .before .before .before .before .before .before .before .before .before .before .before .before .before .before .before .args .path .now) (c .before .before .before .before .before .before .before .before .before .before .before .before .before .before .before .before .before .args .way) (c .before .before .before .before .if1 .taken))) (c .before .before .put-without .ensures _ (leads-on (c .before .before .before .before .before .before .before .before .before .before .before .before .before .before .before .before .before .args .s .now) (c .before .before .before .before .before .before .before .before .before .before .before .before .before .before .before .before .before .args .path .now) (c .before .before .before .before .before .before .before .before .before .before .before .before .before .before .before .before .before .args .way) _ _ _ (c .before .before .before .before .before .before .before .before .before .before .before .before .before .read-jentry .ensures) (c .before .before .before .before .before .before .before .before .before .before .before .before .payload-len .ensures) (c .before .before .before .before .before .before .before .before .before .before .before .slice .ensures) _ (c .before .before .before .before .before .before .before .before .before .before .find-step .ensures) _ (c .before .before .before .before .before .before .before .before .part .given .1))))
 
 put-deleted-returns-2 : (t : ℕ) → put-deleted-lts.Need-returns-2 (put-deleted-claims t) (put-deleted-at t) put-deleted.Post
-put-deleted-returns-2 t c = left-as _ _ _ _ _ _ (ap (left-of (c .before .before .before .before .before .before .before .before .before .before .before .before .before .before .before .before .before .args .s .now)) (last-step (c .before .before .before .before .before .before .before .before .before .before .before .before .before .before .before .before .before .args .path .now) (c .before .before .before .before .before .before .before .before .before .before .before .before .before .before .before .before .before .args .way) (c .before .before .before .before .if1 .taken))) (c .before .before .put-without .ensures _ (leads-on (c .before .before .before .before .before .before .before .before .before .before .before .before .before .before .before .before .before .args .s .now) (c .before .before .before .before .before .before .before .before .before .before .before .before .before .before .before .before .before .args .path .now) (c .before .before .before .before .before .before .before .before .before .before .before .before .before .before .before .before .before .args .way) _ _ _ (c .before .before .before .before .before .before .before .before .before .before .before .before .before .read-jentry .ensures) (c .before .before .before .before .before .before .before .before .before .before .before .before .payload-len .ensures) (c .before .before .before .before .before .before .before .before .before .before .before .slice .ensures) _ (c .before .before .before .before .before .before .before .before .before .before .find-step .ensures) _ (c .before .before .before .before .before .before .before .before .part .given .1)))
+put-deleted-returns-2 t c = stores-as _ _ _ _ _ _ (ap (remains-of (c .before .before .before .before .before .before .before .before .before .before .before .before .before .before .before .before .before .args .s .now)) (last-step (c .before .before .before .before .before .before .before .before .before .before .before .before .before .before .before .before .before .args .path .now) (c .before .before .before .before .before .before .before .before .before .before .before .before .before .before .before .before .before .args .way) (c .before .before .before .before .if1 .taken))) (c .before .before .put-without .ensures _ (leads-on (c .before .before .before .before .before .before .before .before .before .before .before .before .before .before .before .before .before .args .s .now) (c .before .before .before .before .before .before .before .before .before .before .before .before .before .before .before .before .before .args .path .now) (c .before .before .before .before .before .before .before .before .before .before .before .before .before .before .before .before .before .args .way) _ _ _ (c .before .before .before .before .before .before .before .before .before .before .before .before .before .read-jentry .ensures) (c .before .before .before .before .before .before .before .before .before .before .before .before .payload-len .ensures) (c .before .before .before .before .before .before .before .before .before .before .before .slice .ensures) _ (c .before .before .before .before .before .before .before .before .before .before .find-step .ensures) _ (c .before .before .before .before .before .before .before .before .part .given .1)))
 
 put-deleted-put-part-anew-requires : (t : ℕ) → put-deleted-lts.Need-put-part-anew-requires (put-deleted-claims t) (put-deleted-at t) put-deleted.Post
 put-deleted-put-part-anew-requires t c κs = (omega (arith, c .before .before .before .before .before .before .before .before .before .before .before .before .before .before .before .before .before .before .pre .0), (c .before .before .before .before .before .before .before .before .before .before .before .before .before .before .before .before .before .before .pre .1 .0, (record { leads = leads-on (c .before .before .before .before .before .before .before .before .before .before .before .before .before .before .before .before .before .before .args .s .now) (c .before .before .before .before .before .before .before .before .before .before .before .before .before .before .before .before .before .before .args .path .now) (c .before .before .before .before .before .before .before .before .before .before .before .before .before .before .before .before .before .before .args .way) _ _ _ (c .before .before .before .before .before .before .before .before .before .before .before .before .before .before .read-jentry .ensures) (c .before .before .before .before .before .before .before .before .before .before .before .before .before .payload-len .ensures) (c .before .before .before .before .before .before .before .before .before .before .before .before .slice .ensures) _ (c .before .before .before .before .before .before .before .before .before .before .before .find-step .ensures) _ (c .before .before .before .before .before .before .before .before .before .part .given .1); more = omega (arith, c .before .before .before .before .before .if1 .left, c .before .before .before .before .before .before .before .before .before .before .before .before .before .before .before .before .before .before .pre .1 .0 .more) }), inl (manner-array (c .before .before .before .before .before .before .before .before .before .before .before .before .before .before .before .before .before .before .args .s .now) _ _ (sym (c .before .before .n .given .1) ∙ c .before .before .before .before .manner-of .ensures)), c .before .before .before .before .before .before .before .before .before .before .before .before .before .before .before .before .before .before .pre .1 .1))
@@ -179,19 +180,19 @@ put-deleted-put-sorted-anew-requires : (t : ℕ) → put-deleted-lts.Need-put-so
 put-deleted-put-sorted-anew-requires t c κs = (omega (arith, c .before .before .before .before .before .before .before .before .before .before .before .before .before .before .before .before .before .before .pre .0), (c .before .before .before .before .before .before .before .before .before .before .before .before .before .before .before .before .before .before .pre .1 .0, (record { leads = leads-on (c .before .before .before .before .before .before .before .before .before .before .before .before .before .before .before .before .before .before .args .s .now) (c .before .before .before .before .before .before .before .before .before .before .before .before .before .before .before .before .before .before .args .path .now) (c .before .before .before .before .before .before .before .before .before .before .before .before .before .before .before .before .before .before .args .way) _ _ _ (c .before .before .before .before .before .before .before .before .before .before .before .before .before .before .read-jentry .ensures) (c .before .before .before .before .before .before .before .before .before .before .before .before .before .payload-len .ensures) (c .before .before .before .before .before .before .before .before .before .before .before .before .slice .ensures) _ (c .before .before .before .before .before .before .before .before .before .before .before .find-step .ensures) _ (c .before .before .before .before .before .before .before .before .before .part .given .1); more = omega (arith, c .before .before .before .before .before .if1 .left, c .before .before .before .before .before .before .before .before .before .before .before .before .before .before .before .before .before .before .pre .1 .0 .more) }), (manner-search (c .before .before .before .before .before .before .before .before .before .before .before .before .before .before .before .before .before .before .args .s .now) _ _ (sym (c .before .before .n3 .given .1) ∙ c .before .before .before .before .manner-of .ensures)), c .before .before .before .before .before .before .before .before .before .before .before .before .before .before .before .before .before .before .pre .1 .1))
 
 put-deleted-same-length-2 : (t : ℕ) → put-deleted-lts.Need-same-length-2 (put-deleted-claims t) (put-deleted-at t) put-deleted.Post
-put-deleted-same-length-2 t c = left-length (c .before .before .put-part-anew .ensures)
+put-deleted-same-length-2 t c = stores-length (c .before .before .put-part-anew .ensures)
 
 put-deleted-returns-3 : (t : ℕ) → put-deleted-lts.Need-returns-3 (put-deleted-claims t) (put-deleted-at t) put-deleted.Post
 put-deleted-returns-3 t c = c .before .before .put-part-anew .ensures
 
 put-deleted-same-length-3 : (t : ℕ) → put-deleted-lts.Need-same-length-3 (put-deleted-claims t) (put-deleted-at t) put-deleted.Post
-put-deleted-same-length-3 t c = left-length (c .before .before .put-part-anew2 .ensures)
+put-deleted-same-length-3 t c = stores-length (c .before .before .put-part-anew2 .ensures)
 
 put-deleted-returns-4 : (t : ℕ) → put-deleted-lts.Need-returns-4 (put-deleted-claims t) (put-deleted-at t) put-deleted.Post
 put-deleted-returns-4 t c = c .before .before .put-part-anew2 .ensures
 
 put-deleted-same-length-4 : (t : ℕ) → put-deleted-lts.Need-same-length-4 (put-deleted-claims t) (put-deleted-at t) put-deleted.Post
-put-deleted-same-length-4 t c = left-length (c .before .before .put-sorted-anew .ensures)
+put-deleted-same-length-4 t c = stores-length (c .before .before .put-sorted-anew .ensures)
 
 put-deleted-returns-5 : (t : ℕ) → put-deleted-lts.Need-returns-5 (put-deleted-claims t) (put-deleted-at t) put-deleted.Post
 put-deleted-returns-5 t c = c .before .before .put-sorted-anew .ensures
@@ -284,7 +285,7 @@ put-part-anew-sub-result : (t : ℕ) → put-part-anew-lts.Need-sub-result (put-
 put-part-anew-sub-result t c = let d = here (c .before .before .before .before .before .before .before .before .before .before .before .before .before .before .before .before .before .before .before .before .before .before .before .before .before .before .before .before .before .before .before .before .args .s .now) (c .before .before .before .before .before .before .before .before .before .before .before .before .before .before .before .before .before .before .before .before .before .before .before .before .before .before .before .before .before .before .before .before .args .path .now) (c .before .before .before .before .before .before .before .before .before .before .before .before .before .before .before .before .before .before .before .before .before .before .before .before .before .before .before .before .before .before .before .before .args .total) (c .before .before .before .before .before .before .before .before .before .before .before .before .before .before .before .before .before .before .before .before .before .before .before .before .before .before .before .before .before .before .before .before .args .part) (c .before .before .before .before .before .before .before .before .before .before .before .before .before .before .before .before .before .before .before .before .before .before .before .before .before .before .before .before .before .before .before .before .args .way) (c .before .before .before .before .before .before .before .before .before .before .before .before .before .before .before .before .before .before .before .before .before .before .before .before .before .before .before .before .before .before .before .before .args .allowance) (octets-of (c .before .before .before .before .before .before .before .before .before .before .before .before .before .before .before .before .before .before .before .before .before .before .before .before .before .before .before .before .before .before .before .before .args .s .now) (λ i. omega (arith, c .before .before .before .before .before .before .before .before .before .before .before .before .before .before .before .before .before .before .before .before .before .before .before .before .before .before .before .before .before .before .before .shared-slice-known .given i))) (c .before .before .before .before .before .before .before .before .before .before .before .before .before .before .before .before .before .before .before .before .before .before .before .before .before .before .before .before .before .before .before .before .pre .1 .0) (c .before .before .before .before .before .before .before .before .before .before .before .before .before .before .before .before .before .before .before .before .before .before .before .before .before .before .before .before .before .before .before .before .pre .1 .1) (c .before .before .before .before .before .before .before .before .before .before .before .before .before .before .before .before .before .before .before .before .before .before .before .before .before .before .before .before .before .before .before .before .pre .1 .2) in let w = down (c .before .before .before .before .before .before .before .before .before .before .before .before .before .before .before .before .before .before .before .before .before .before .before .before .before .before .before .before .before .before .before .before .args .s .now) (c .before .before .before .before .before .before .before .before .before .before .before .before .before .before .before .before .before .before .before .before .before .before .before .before .before .before .before .before .before .before .before .before .args .path .now) (c .before .before .before .before .before .before .before .before .before .before .before .before .before .before .before .before .before .before .before .before .before .before .before .before .before .before .before .before .before .before .before .before .args .total) (c .before .before .before .before .before .before .before .before .before .before .before .before .before .before .before .before .before .before .before .before .before .before .before .before .before .before .before .before .before .before .before .before .args .part) (c .before .before .before .before .before .before .before .before .before .before .before .before .before .before .before .before .before .before .before .before .before .before .before .before .before .before .before .before .before .before .before .before .args .way) (c .before .before .before .before .before .before .before .before .before .before .before .before .before .before .before .before .before .before .before .before .before .before .before .before .before .before .before .before .before .before .before .before .args .allowance) (octets-of (c .before .before .before .before .before .before .before .before .before .before .before .before .before .before .before .before .before .before .before .before .before .before .before .before .before .before .before .before .before .before .before .before .args .s .now) (λ i. omega (arith, c .before .before .before .before .before .before .before .before .before .before .before .before .before .before .before .before .before .before .before .before .before .before .before .before .before .before .before .before .before .before .before .shared-slice-known .given i))) (c .before .before .before .before .before .before .before .before .before .before .before .before .before .before .before .before .before .before .before .before .before .before .before .before .before .before .before .before .before .before .before .before .pre .1 .0) (c .before .before .before .before .before .before .before .before .before .before .before .before .before .before .before .before .before .before .before .before .before .before .before .before .before .before .before .before .before .before .before .before .pre .1 .1) (c .before .before .before .before .before .before .before .before .before .before .before .before .before .before .before .before .before .before .before .before .before .before .before .before .before .before .before .before .before .before .before .before .pre .1 .2) in let f0 = child-short (c .before .before .before .before .before .before .before .before .before .before .before .before .before .before .before .before .before .before .before .before .before .before .before .before .before .before .before .before .before .before .before .before .args .s .now) (c .before .before .before .before .before .before .before .before .before .before .before .before .before .before .before .before .before .before .before .before .before .before .before .before .before .before .before .before .before .before .before .before .args .path .now) (c .before .before .before .before .before .before .before .before .before .before .before .before .before .before .before .before .before .before .before .before .before .before .before .before .before .before .before .before .before .before .before .before .args .total) (c .before .before .before .before .before .before .before .before .before .before .before .before .before .before .before .before .before .before .before .before .before .before .before .before .before .before .before .before .before .before .before .before .args .part) (c .before .before .before .before .before .before .before .before .before .before .before .before .before .before .before .before .before .before .before .before .before .before .before .before .before .before .before .before .before .before .before .before .args .way) (c .before .before .before .before .before .before .before .before .before .before .before .before .before .before .before .before .before .before .before .before .before .before .before .before .before .before .before .before .before .before .before .before .args .allowance) (octets-of (c .before .before .before .before .before .before .before .before .before .before .before .before .before .before .before .before .before .before .before .before .before .before .before .before .before .before .before .before .before .before .before .before .args .s .now) (λ i. omega (arith, c .before .before .before .before .before .before .before .before .before .before .before .before .before .before .before .before .before .before .before .before .before .before .before .before .before .before .before .before .before .before .before .shared-slice-known .given i))) (c .before .before .before .before .before .before .before .before .before .before .before .before .before .before .before .before .before .before .before .before .before .before .before .before .before .before .before .before .before .before .before .before .pre .1 .0) (c .before .before .before .before .before .before .before .before .before .before .before .before .before .before .before .before .before .before .before .before .before .before .before .before .before .before .before .before .before .before .before .before .pre .1 .1) (c .before .before .before .before .before .before .before .before .before .before .before .before .before .before .before .before .before .before .before .before .before .before .before .before .before .before .before .before .before .before .before .before .pre .1 .2) _ _ (c .before .before .before .before .before .before .before .before .before .before .before .before .before .before .before .before .before .before .before .before .before .before .before .before .before .before .before .before .part-behind .ensures) (c .before .before .before .before .before .before .before .before .before .before .before .before .before .before .before .before .way-behind .ensures) _ _ _ _ (c .before .before .before .before .before .before .before .before .before .before .before .before .before .before .put-deleted .ensures) in let f1 = ap (λ (x : PartAt). x .index) (c .before .before .before .before .before .before .before .before .before .before .before .before .before .before .before .before .before .before .before .before .before .before .before .before .before .before .before .before .part-behind .ensures) in let f2 = ap (λ (x : PartAt). x .place) (c .before .before .before .before .before .before .before .before .before .before .before .before .before .before .before .before .before .before .before .before .before .before .before .before .before .before .before .before .part-behind .ensures) in let f3 = ap (λ (x : Cursor). x .jentry) (c .before .before .before .before .before .before .before .before .before .before .before .before .before .before .before .before .before .before .before .before .put-run .ensures .0) in let f4 = ap (λ (x : Cursor). x .place) (c .before .before .before .before .before .before .before .before .before .before .before .before .before .before .before .before .before .before .before .before .put-run .ensures .0) in let f5 = ap (λ (x : Cursor). x .jentry) (c .before .before .before .put-run2 .ensures .0) in let f6 = ap (λ (x : Cursor). x .place) (c .before .before .before .put-run2 .ensures .0) in omega (arith, d .table, d .short, d .count, d .place, d .size, d .end, w .allowed, c .before .before .before .before .before .before .before .before .before .before .before .before .before .before .before .before .before .before .before .before .before .before .before .before .before .before .before .before .before .before .before .before .pre .1 .0 .allowed, c .before .before .before .before .before .before .before .before .before .before .before .before .before .before .before .before .before .before .before .before .before .before .before .before .before .before .before .before .before .before .before .before .pre .1 .3, c .before .before .before .before .before .before .before .before .before .before .before .before .before .before .before .before .before .before .before .before .before .before .before .before .before .before .before .before .before .before .before .before .pre .0, f0, f1, f2, f3, f4, f5, f6)
 
 put-part-anew-same-length : (t : ℕ) → put-part-anew-lts.Need-same-length (put-part-anew-claims t) (put-part-anew-at t) put-part-anew.Post
-put-part-anew-same-length t c = left-length (part-anew-stored (c .before .before .before .before .before .before .before .before .before .before .before .before .before .before .before .before .before .before .before .before .before .before .before .before .before .before .before .before .before .before .before .before .args .s .now) (c .before .before .before .before .before .before .before .before .before .before .before .before .before .before .before .before .before .before .before .before .before .before .before .before .before .before .before .before .before .before .before .before .args .path .now) (c .before .before .before .before .before .before .before .before .before .before .before .before .before .before .before .before .before .before .before .before .before .before .before .before .before .before .before .before .before .before .before .before .args .total) (c .before .before .before .before .before .before .before .before .before .before .before .before .before .before .before .before .before .before .before .before .before .before .before .before .before .before .before .before .before .before .before .before .args .part) (c .before .before .before .before .before .before .before .before .before .before .before .before .before .before .before .before .before .before .before .before .before .before .before .before .before .before .before .before .before .before .before .before .args .way) (c .before .before .before .before .before .before .before .before .before .before .before .before .before .before .before .before .before .before .before .before .before .before .before .before .before .before .before .before .before .before .before .before .args .allowance) (octets-of (c .before .before .before .before .before .before .before .before .before .before .before .before .before .before .before .before .before .before .before .before .before .before .before .before .before .before .before .before .before .before .before .before .args .s .now) (λ i. omega (arith, c .before .before .before .before .before .before .before .before .before .before .before .before .before .before .before .before .before .before .before .before .before .before .before .before .before .before .before .before .before .before .before .shared-slice-known .given i))) (c .before .before .before .before .before .before .before .before .before .before .before .before .before .before .before .before .before .before .before .before .before .before .before .before .before .before .before .before .before .before .before .before .pre .1 .0) (c .before .before .before .before .before .before .before .before .before .before .before .before .before .before .before .before .before .before .before .before .before .before .before .before .before .before .before .before .before .before .before .before .pre .1 .1) (c .before .before .before .before .before .before .before .before .before .before .before .before .before .before .before .before .before .before .before .before .before .before .before .before .before .before .before .before .before .before .before .before .pre .1 .2) _ _ (c .before .before .before .before .before .before .before .before .before .before .before .before .before .before .before .before .before .before .before .before .before .before .before .before .before .before .before .before .part-behind .ensures) (c .before .before .before .before .before .before .before .before .before .before .before .before .before .before .before .before .way-behind .ensures) _ _ _ _ _ _ _ _ _ _ _ _ _ _ (c .before .before .before .before .before .before .before .before .before .before .before .before .before .before .before .before .before .before .before .before .before .before .before .before .before .read-u32 .ensures) (c .before .before .before .before .before .before .before .before .before .before .before .before .before .before .before .before .before .before .before .before .before .before .before .before .put-u32 .ensures) refl refl (c .before .before .before .before .before .before .before .before .before .before .before .before .before .before .before .before .before .before .before .before .put-run .ensures) (c .before .before .before .before .before .before .before .before .before .before .before .before .before .before .put-deleted .ensures) (c .before .before .before .before .before .before .before .before .before .before .encoded .ensures) (c .before .before .before .before .before .before .before .before .before .put-u322 .ensures) refl refl (c .before .before .before .put-run2 .ensures))
+put-part-anew-same-length t c = stores-length (part-anew-stored (c .before .before .before .before .before .before .before .before .before .before .before .before .before .before .before .before .before .before .before .before .before .before .before .before .before .before .before .before .before .before .before .before .args .s .now) (c .before .before .before .before .before .before .before .before .before .before .before .before .before .before .before .before .before .before .before .before .before .before .before .before .before .before .before .before .before .before .before .before .args .path .now) (c .before .before .before .before .before .before .before .before .before .before .before .before .before .before .before .before .before .before .before .before .before .before .before .before .before .before .before .before .before .before .before .before .args .total) (c .before .before .before .before .before .before .before .before .before .before .before .before .before .before .before .before .before .before .before .before .before .before .before .before .before .before .before .before .before .before .before .before .args .part) (c .before .before .before .before .before .before .before .before .before .before .before .before .before .before .before .before .before .before .before .before .before .before .before .before .before .before .before .before .before .before .before .before .args .way) (c .before .before .before .before .before .before .before .before .before .before .before .before .before .before .before .before .before .before .before .before .before .before .before .before .before .before .before .before .before .before .before .before .args .allowance) (octets-of (c .before .before .before .before .before .before .before .before .before .before .before .before .before .before .before .before .before .before .before .before .before .before .before .before .before .before .before .before .before .before .before .before .args .s .now) (λ i. omega (arith, c .before .before .before .before .before .before .before .before .before .before .before .before .before .before .before .before .before .before .before .before .before .before .before .before .before .before .before .before .before .before .before .shared-slice-known .given i))) (c .before .before .before .before .before .before .before .before .before .before .before .before .before .before .before .before .before .before .before .before .before .before .before .before .before .before .before .before .before .before .before .before .pre .1 .0) (c .before .before .before .before .before .before .before .before .before .before .before .before .before .before .before .before .before .before .before .before .before .before .before .before .before .before .before .before .before .before .before .before .pre .1 .1) (c .before .before .before .before .before .before .before .before .before .before .before .before .before .before .before .before .before .before .before .before .before .before .before .before .before .before .before .before .before .before .before .before .pre .1 .2) _ _ (c .before .before .before .before .before .before .before .before .before .before .before .before .before .before .before .before .before .before .before .before .before .before .before .before .before .before .before .before .part-behind .ensures) (c .before .before .before .before .before .before .before .before .before .before .before .before .before .before .before .before .way-behind .ensures) _ _ _ _ _ _ _ _ _ _ _ _ _ _ (c .before .before .before .before .before .before .before .before .before .before .before .before .before .before .before .before .before .before .before .before .before .before .before .before .before .read-u32 .ensures) (c .before .before .before .before .before .before .before .before .before .before .before .before .before .before .before .before .before .before .before .before .before .before .before .before .put-u32 .ensures) refl refl (c .before .before .before .before .before .before .before .before .before .before .before .before .before .before .before .before .before .before .before .before .put-run .ensures) (c .before .before .before .before .before .before .before .before .before .before .before .before .before .before .put-deleted .ensures) (c .before .before .before .before .before .before .before .before .before .before .encoded .ensures) (c .before .before .before .before .before .before .before .before .before .put-u322 .ensures) refl refl (c .before .before .before .put-run2 .ensures))
 
 put-part-anew-returns : (t : ℕ) → put-part-anew-lts.Need-returns (put-part-anew-claims t) (put-part-anew-at t) put-part-anew.Post
 put-part-anew-returns t c = part-anew-stored (c .before .before .before .before .before .before .before .before .before .before .before .before .before .before .before .before .before .before .before .before .before .before .before .before .before .before .before .before .before .before .before .before .args .s .now) (c .before .before .before .before .before .before .before .before .before .before .before .before .before .before .before .before .before .before .before .before .before .before .before .before .before .before .before .before .before .before .before .before .args .path .now) (c .before .before .before .before .before .before .before .before .before .before .before .before .before .before .before .before .before .before .before .before .before .before .before .before .before .before .before .before .before .before .before .before .args .total) (c .before .before .before .before .before .before .before .before .before .before .before .before .before .before .before .before .before .before .before .before .before .before .before .before .before .before .before .before .before .before .before .before .args .part) (c .before .before .before .before .before .before .before .before .before .before .before .before .before .before .before .before .before .before .before .before .before .before .before .before .before .before .before .before .before .before .before .before .args .way) (c .before .before .before .before .before .before .before .before .before .before .before .before .before .before .before .before .before .before .before .before .before .before .before .before .before .before .before .before .before .before .before .before .args .allowance) (octets-of (c .before .before .before .before .before .before .before .before .before .before .before .before .before .before .before .before .before .before .before .before .before .before .before .before .before .before .before .before .before .before .before .before .args .s .now) (λ i. omega (arith, c .before .before .before .before .before .before .before .before .before .before .before .before .before .before .before .before .before .before .before .before .before .before .before .before .before .before .before .before .before .before .before .shared-slice-known .given i))) (c .before .before .before .before .before .before .before .before .before .before .before .before .before .before .before .before .before .before .before .before .before .before .before .before .before .before .before .before .before .before .before .before .pre .1 .0) (c .before .before .before .before .before .before .before .before .before .before .before .before .before .before .before .before .before .before .before .before .before .before .before .before .before .before .before .before .before .before .before .before .pre .1 .1) (c .before .before .before .before .before .before .before .before .before .before .before .before .before .before .before .before .before .before .before .before .before .before .before .before .before .before .before .before .before .before .before .before .pre .1 .2) _ _ (c .before .before .before .before .before .before .before .before .before .before .before .before .before .before .before .before .before .before .before .before .before .before .before .before .before .before .before .before .part-behind .ensures) (c .before .before .before .before .before .before .before .before .before .before .before .before .before .before .before .before .way-behind .ensures) _ _ _ _ _ _ _ _ _ _ _ _ _ _ (c .before .before .before .before .before .before .before .before .before .before .before .before .before .before .before .before .before .before .before .before .before .before .before .before .before .read-u32 .ensures) (c .before .before .before .before .before .before .before .before .before .before .before .before .before .before .before .before .before .before .before .before .before .before .before .before .put-u32 .ensures) refl refl (c .before .before .before .before .before .before .before .before .before .before .before .before .before .before .before .before .before .before .before .before .put-run .ensures) (c .before .before .before .before .before .before .before .before .before .before .before .before .before .before .put-deleted .ensures) (c .before .before .before .before .before .before .before .before .before .before .encoded .ensures) (c .before .before .before .before .before .before .before .before .before .put-u322 .ensures) refl refl (c .before .before .before .put-run2 .ensures)
@@ -349,10 +350,10 @@ put-sorted-anew-sub-result : (t : ℕ) → put-sorted-anew-lts.Need-sub-result (
 put-sorted-anew-sub-result t c = let t0 = ap (λ (x : Places). x .«key_jentry») (c .before .before .before .before .before .before .before .before .before .before .before .before .places-for .ensures) in let t1 = ap (λ (x : Places). x .«val_jentry») (c .before .before .before .before .before .before .before .before .before .before .before .before .places-for .ensures) in let t2 = ap (λ (x : Places). x .key) (c .before .before .before .before .before .before .before .before .before .before .before .before .places-for .ensures) in let t3 = ap (λ (x : Places). x .val) (c .before .before .before .before .before .before .before .before .before .before .before .before .places-for .ensures) in omega (arith, c .before .before .before .before .before .loop .inv .val-on, t3)
 
 put-sorted-anew-same-length : (t : ℕ) → put-sorted-anew-lts.Need-same-length (put-sorted-anew-claims t) (put-sorted-anew-at t) put-sorted-anew.Post put-sorted-anew-Inv-loop put-sorted-anew-μ-loop
-put-sorted-anew-same-length t c = left-length (anew-left (c .before .before .before .before .before .before .before .before .before .before .before .before .before .before .before .before .before .before .before .before .before .args .s .now) (c .before .before .before .before .before .before .before .before .before .before .before .before .before .before .before .before .before .before .before .before .before .args .path .now) (c .before .before .before .before .before .before .before .before .before .before .before .before .before .before .before .before .before .before .before .before .before .args .n) (c .before .before .before .before .before .before .before .before .before .before .before .before .before .before .before .before .before .before .before .before .before .args .val) (c .before .before .before .before .before .before .before .before .before .before .before .before .before .before .before .before .before .before .before .before .before .args .way) (c .before .before .before .before .before .before .before .before .before .before .before .before .before .before .before .before .before .before .before .before .before .args .allowance) (octets-of (c .before .before .before .before .before .before .before .before .before .before .before .before .before .before .before .before .before .before .before .before .before .args .s .now) (λ i. omega (arith, c .before .before .before .before .before .before .before .before .before .before .before .before .before .before .before .before .before .before .before .before .shared-slice-known .given i))) (c .before .before .before .before .before .before .before .before .before .before .before .before .before .before .before .before .before .before .before .before .before .pre .1 .0) (c .before .before .before .before .before .before .before .before .before .before .before .before .before .before .before .before .before .before .before .before .before .pre .1 .1) (c .before .before .before .before .before .before .before .before .before .before .before .before .before .before .before .before .before .before .before .before .before .pre .1 .2) _ _ _ _ (c .before .before .before .before .before .before .before .before .before .before .before .before .before .before .before .before .before .members-of .ensures) (c .before .before .before .before .before .before .before .before .before .before .before .before .before .measure-members .ensures) (c .before .before .before .before .before .before .before .before .before .before .before .before .before .before .way-behind .ensures) (c .before .before .before .before .before .before .before .before .before .before .before .before .before .before .before .name-of .ensures) _ _ _ _ _ _ _ (c .before .before .before .before .before .before .before .before .before .before .before .before .places-for .ensures) refl (c .before .before .before .before .before .before .before .before .before .put-u32 .ensures) (ends-early _ _ _ _ _ _ _ _ _ _ (c .before .before .before .before .before .loop .inv) _ (c .before .before .before .next-member .ensures) (c .before .enum-told .given .1)) (ends-val _ _ _ _ _ _ _ _ _ _ (c .before .before .before .before .before .loop .inv) (sought-end (name-in (c .before .before .before .before .before .before .before .before .before .before .before .before .before .before .before .before .before .before .before .before .before .args .s .now)) _ _ _ (c .before .before .before .before .before .loop .inv .sought) _ (c .before .before .before .next-member .ensures) (c .before .enum-told .given .1))))
+put-sorted-anew-same-length t c = stores-length (anew-remains (c .before .before .before .before .before .before .before .before .before .before .before .before .before .before .before .before .before .before .before .before .before .args .s .now) (c .before .before .before .before .before .before .before .before .before .before .before .before .before .before .before .before .before .before .before .before .before .args .path .now) (c .before .before .before .before .before .before .before .before .before .before .before .before .before .before .before .before .before .before .before .before .before .args .n) (c .before .before .before .before .before .before .before .before .before .before .before .before .before .before .before .before .before .before .before .before .before .args .val) (c .before .before .before .before .before .before .before .before .before .before .before .before .before .before .before .before .before .before .before .before .before .args .way) (c .before .before .before .before .before .before .before .before .before .before .before .before .before .before .before .before .before .before .before .before .before .args .allowance) (octets-of (c .before .before .before .before .before .before .before .before .before .before .before .before .before .before .before .before .before .before .before .before .before .args .s .now) (λ i. omega (arith, c .before .before .before .before .before .before .before .before .before .before .before .before .before .before .before .before .before .before .before .before .shared-slice-known .given i))) (c .before .before .before .before .before .before .before .before .before .before .before .before .before .before .before .before .before .before .before .before .before .pre .1 .0) (c .before .before .before .before .before .before .before .before .before .before .before .before .before .before .before .before .before .before .before .before .before .pre .1 .1) (c .before .before .before .before .before .before .before .before .before .before .before .before .before .before .before .before .before .before .before .before .before .pre .1 .2) _ _ _ _ (c .before .before .before .before .before .before .before .before .before .before .before .before .before .before .before .before .before .members-of .ensures) (c .before .before .before .before .before .before .before .before .before .before .before .before .before .measure-members .ensures) (c .before .before .before .before .before .before .before .before .before .before .before .before .before .before .way-behind .ensures) (c .before .before .before .before .before .before .before .before .before .before .before .before .before .before .before .name-of .ensures) _ _ _ _ _ _ _ (c .before .before .before .before .before .before .before .before .before .before .before .before .places-for .ensures) refl (c .before .before .before .before .before .before .before .before .before .put-u32 .ensures) (ends-early _ _ _ _ _ _ _ _ _ _ (c .before .before .before .before .before .loop .inv) _ (c .before .before .before .next-member .ensures) (c .before .enum-told .given .1)) (ends-val _ _ _ _ _ _ _ _ _ _ (c .before .before .before .before .before .loop .inv) (sought-end (name-in (c .before .before .before .before .before .before .before .before .before .before .before .before .before .before .before .before .before .before .before .before .before .args .s .now)) _ _ _ (c .before .before .before .before .before .loop .inv .sought) _ (c .before .before .before .next-member .ensures) (c .before .enum-told .given .1))))
 
 put-sorted-anew-returns : (t : ℕ) → put-sorted-anew-lts.Need-returns (put-sorted-anew-claims t) (put-sorted-anew-at t) put-sorted-anew.Post put-sorted-anew-Inv-loop put-sorted-anew-μ-loop
-put-sorted-anew-returns t c = anew-left (c .before .before .before .before .before .before .before .before .before .before .before .before .before .before .before .before .before .before .before .before .before .args .s .now) (c .before .before .before .before .before .before .before .before .before .before .before .before .before .before .before .before .before .before .before .before .before .args .path .now) (c .before .before .before .before .before .before .before .before .before .before .before .before .before .before .before .before .before .before .before .before .before .args .n) (c .before .before .before .before .before .before .before .before .before .before .before .before .before .before .before .before .before .before .before .before .before .args .val) (c .before .before .before .before .before .before .before .before .before .before .before .before .before .before .before .before .before .before .before .before .before .args .way) (c .before .before .before .before .before .before .before .before .before .before .before .before .before .before .before .before .before .before .before .before .before .args .allowance) (octets-of (c .before .before .before .before .before .before .before .before .before .before .before .before .before .before .before .before .before .before .before .before .before .args .s .now) (λ i. omega (arith, c .before .before .before .before .before .before .before .before .before .before .before .before .before .before .before .before .before .before .before .before .shared-slice-known .given i))) (c .before .before .before .before .before .before .before .before .before .before .before .before .before .before .before .before .before .before .before .before .before .pre .1 .0) (c .before .before .before .before .before .before .before .before .before .before .before .before .before .before .before .before .before .before .before .before .before .pre .1 .1) (c .before .before .before .before .before .before .before .before .before .before .before .before .before .before .before .before .before .before .before .before .before .pre .1 .2) _ _ _ _ (c .before .before .before .before .before .before .before .before .before .before .before .before .before .before .before .before .before .members-of .ensures) (c .before .before .before .before .before .before .before .before .before .before .before .before .before .measure-members .ensures) (c .before .before .before .before .before .before .before .before .before .before .before .before .before .before .way-behind .ensures) (c .before .before .before .before .before .before .before .before .before .before .before .before .before .before .before .name-of .ensures) _ _ _ _ _ _ _ (c .before .before .before .before .before .before .before .before .before .before .before .before .places-for .ensures) refl (c .before .before .before .before .before .before .before .before .before .put-u32 .ensures) (ends-early _ _ _ _ _ _ _ _ _ _ (c .before .before .before .before .before .loop .inv) _ (c .before .before .before .next-member .ensures) (c .before .enum-told .given .1)) (ends-val _ _ _ _ _ _ _ _ _ _ (c .before .before .before .before .before .loop .inv) (sought-end (name-in (c .before .before .before .before .before .before .before .before .before .before .before .before .before .before .before .before .before .before .before .before .before .args .s .now)) _ _ _ (c .before .before .before .before .before .loop .inv .sought) _ (c .before .before .before .next-member .ensures) (c .before .enum-told .given .1)))
+put-sorted-anew-returns t c = anew-remains (c .before .before .before .before .before .before .before .before .before .before .before .before .before .before .before .before .before .before .before .before .before .args .s .now) (c .before .before .before .before .before .before .before .before .before .before .before .before .before .before .before .before .before .before .before .before .before .args .path .now) (c .before .before .before .before .before .before .before .before .before .before .before .before .before .before .before .before .before .before .before .before .before .args .n) (c .before .before .before .before .before .before .before .before .before .before .before .before .before .before .before .before .before .before .before .before .before .args .val) (c .before .before .before .before .before .before .before .before .before .before .before .before .before .before .before .before .before .before .before .before .before .args .way) (c .before .before .before .before .before .before .before .before .before .before .before .before .before .before .before .before .before .before .before .before .before .args .allowance) (octets-of (c .before .before .before .before .before .before .before .before .before .before .before .before .before .before .before .before .before .before .before .before .before .args .s .now) (λ i. omega (arith, c .before .before .before .before .before .before .before .before .before .before .before .before .before .before .before .before .before .before .before .before .shared-slice-known .given i))) (c .before .before .before .before .before .before .before .before .before .before .before .before .before .before .before .before .before .before .before .before .before .pre .1 .0) (c .before .before .before .before .before .before .before .before .before .before .before .before .before .before .before .before .before .before .before .before .before .pre .1 .1) (c .before .before .before .before .before .before .before .before .before .before .before .before .before .before .before .before .before .before .before .before .before .pre .1 .2) _ _ _ _ (c .before .before .before .before .before .before .before .before .before .before .before .before .before .before .before .before .before .members-of .ensures) (c .before .before .before .before .before .before .before .before .before .before .before .before .before .measure-members .ensures) (c .before .before .before .before .before .before .before .before .before .before .before .before .before .before .way-behind .ensures) (c .before .before .before .before .before .before .before .before .before .before .before .before .before .before .before .name-of .ensures) _ _ _ _ _ _ _ (c .before .before .before .before .before .before .before .before .before .before .before .before .places-for .ensures) refl (c .before .before .before .before .before .before .before .before .before .put-u32 .ensures) (ends-early _ _ _ _ _ _ _ _ _ _ (c .before .before .before .before .before .loop .inv) _ (c .before .before .before .next-member .ensures) (c .before .enum-told .given .1)) (ends-val _ _ _ _ _ _ _ _ _ _ (c .before .before .before .before .before .loop .inv) (sought-end (name-in (c .before .before .before .before .before .before .before .before .before .before .before .before .before .before .before .before .before .before .before .before .before .args .s .now)) _ _ _ (c .before .before .before .before .before .loop .inv .sought) _ (c .before .before .before .next-member .ensures) (c .before .enum-told .given .1)))
 
 put-sorted-anew-sub-put-member-anew : (t : ℕ) → put-sorted-anew-lts.Need-sub-put-member-anew (put-sorted-anew-claims t) (put-sorted-anew-at t) put-sorted-anew.Post put-sorted-anew-Inv-loop put-sorted-anew-μ-loop
 put-sorted-anew-sub-put-member-anew t c = let a = allows (c .before .before .before .before .before .before .before .before .before .before .before .before .before .before .before .before .before .before .before .before .before .before .args .s .now) (c .before .before .before .before .before .before .before .before .before .before .before .before .before .before .before .before .before .before .before .before .before .before .args .path .now) (c .before .before .before .before .before .before .before .before .before .before .before .before .before .before .before .before .before .before .before .before .before .before .args .n) (c .before .before .before .before .before .before .before .before .before .before .before .before .before .before .before .before .before .before .before .before .before .before .args .val) (c .before .before .before .before .before .before .before .before .before .before .before .before .before .before .before .before .before .before .before .before .before .before .args .way) (c .before .before .before .before .before .before .before .before .before .before .before .before .before .before .before .before .before .before .before .before .before .before .args .allowance) (octets-of (c .before .before .before .before .before .before .before .before .before .before .before .before .before .before .before .before .before .before .before .before .before .before .args .s .now) (λ i. omega (arith, c .before .before .before .before .before .before .before .before .before .before .before .before .before .before .before .before .before .before .before .before .before .shared-slice-known .given i))) (c .before .before .before .before .before .before .before .before .before .before .before .before .before .before .before .before .before .before .before .before .before .before .pre .1 .0) (c .before .before .before .before .before .before .before .before .before .before .before .before .before .before .before .before .before .before .before .before .before .before .pre .1 .1) (c .before .before .before .before .before .before .before .before .before .before .before .before .before .before .before .before .before .before .before .before .before .before .pre .1 .2) in omega (arith, a)
@@ -392,10 +393,10 @@ put-sorted-anew-sub-result-2 : (t : ℕ) → put-sorted-anew-lts.Need-sub-result
 put-sorted-anew-sub-result-2 t c = let t0 = ap (λ (x : Places). x .«key_jentry») (c .before .before .before .before .before .before .before .before .before .places-for .ensures) in let t1 = ap (λ (x : Places). x .«val_jentry») (c .before .before .before .before .before .before .before .before .before .places-for .ensures) in let t2 = ap (λ (x : Places). x .key) (c .before .before .before .before .before .before .before .before .before .places-for .ensures) in let t3 = ap (λ (x : Places). x .val) (c .before .before .before .before .before .before .before .before .before .places-for .ensures) in omega (arith, c .before .before .loop .inv .val-on, t3)
 
 put-sorted-anew-same-length-2 : (t : ℕ) → put-sorted-anew-lts.Need-same-length-2 (put-sorted-anew-claims t) (put-sorted-anew-at t) put-sorted-anew.Post put-sorted-anew-Inv-loop put-sorted-anew-μ-loop
-put-sorted-anew-same-length-2 t c = left-length (anew-left (c .before .before .before .before .before .before .before .before .before .before .before .before .before .before .before .before .before .before .args .s .now) (c .before .before .before .before .before .before .before .before .before .before .before .before .before .before .before .before .before .before .args .path .now) (c .before .before .before .before .before .before .before .before .before .before .before .before .before .before .before .before .before .before .args .n) (c .before .before .before .before .before .before .before .before .before .before .before .before .before .before .before .before .before .before .args .val) (c .before .before .before .before .before .before .before .before .before .before .before .before .before .before .before .before .before .before .args .way) (c .before .before .before .before .before .before .before .before .before .before .before .before .before .before .before .before .before .before .args .allowance) (octets-of (c .before .before .before .before .before .before .before .before .before .before .before .before .before .before .before .before .before .before .args .s .now) (λ i. omega (arith, c .before .before .before .before .before .before .before .before .before .before .before .before .before .before .before .before .before .shared-slice-known .given i))) (c .before .before .before .before .before .before .before .before .before .before .before .before .before .before .before .before .before .before .pre .1 .0) (c .before .before .before .before .before .before .before .before .before .before .before .before .before .before .before .before .before .before .pre .1 .1) (c .before .before .before .before .before .before .before .before .before .before .before .before .before .before .before .before .before .before .pre .1 .2) _ _ _ _ (c .before .before .before .before .before .before .before .before .before .before .before .before .before .before .members-of .ensures) (c .before .before .before .before .before .before .before .before .before .before .measure-members .ensures) (c .before .before .before .before .before .before .before .before .before .before .before .way-behind .ensures) (c .before .before .before .before .before .before .before .before .before .before .before .before .name-of .ensures) _ _ _ _ _ _ _ (c .before .before .before .before .before .before .before .before .before .places-for .ensures) refl (c .before .before .before .before .before .before .put-u32 .ensures) (ends-full _ _ _ _ _ _ _ _ _ _ (c .before .before .loop .inv) _ (few-searched _ _ _ _ _) (c .before .loop-test .left)) (ends-val _ _ _ _ _ _ _ _ _ _ (c .before .before .loop .inv) (sought-all (name-in (c .before .before .before .before .before .before .before .before .before .before .before .before .before .before .before .before .before .before .args .s .now)) _ _ _ (few-searched _ _ _ _ _) (c .before .loop-test .left))))
+put-sorted-anew-same-length-2 t c = stores-length (anew-remains (c .before .before .before .before .before .before .before .before .before .before .before .before .before .before .before .before .before .before .args .s .now) (c .before .before .before .before .before .before .before .before .before .before .before .before .before .before .before .before .before .before .args .path .now) (c .before .before .before .before .before .before .before .before .before .before .before .before .before .before .before .before .before .before .args .n) (c .before .before .before .before .before .before .before .before .before .before .before .before .before .before .before .before .before .before .args .val) (c .before .before .before .before .before .before .before .before .before .before .before .before .before .before .before .before .before .before .args .way) (c .before .before .before .before .before .before .before .before .before .before .before .before .before .before .before .before .before .before .args .allowance) (octets-of (c .before .before .before .before .before .before .before .before .before .before .before .before .before .before .before .before .before .before .args .s .now) (λ i. omega (arith, c .before .before .before .before .before .before .before .before .before .before .before .before .before .before .before .before .before .shared-slice-known .given i))) (c .before .before .before .before .before .before .before .before .before .before .before .before .before .before .before .before .before .before .pre .1 .0) (c .before .before .before .before .before .before .before .before .before .before .before .before .before .before .before .before .before .before .pre .1 .1) (c .before .before .before .before .before .before .before .before .before .before .before .before .before .before .before .before .before .before .pre .1 .2) _ _ _ _ (c .before .before .before .before .before .before .before .before .before .before .before .before .before .before .members-of .ensures) (c .before .before .before .before .before .before .before .before .before .before .measure-members .ensures) (c .before .before .before .before .before .before .before .before .before .before .before .way-behind .ensures) (c .before .before .before .before .before .before .before .before .before .before .before .before .name-of .ensures) _ _ _ _ _ _ _ (c .before .before .before .before .before .before .before .before .before .places-for .ensures) refl (c .before .before .before .before .before .before .put-u32 .ensures) (ends-full _ _ _ _ _ _ _ _ _ _ (c .before .before .loop .inv) _ (few-searched _ _ _ _ _) (c .before .loop-test .left)) (ends-val _ _ _ _ _ _ _ _ _ _ (c .before .before .loop .inv) (sought-all (name-in (c .before .before .before .before .before .before .before .before .before .before .before .before .before .before .before .before .before .before .args .s .now)) _ _ _ (few-searched _ _ _ _ _) (c .before .loop-test .left))))
 
 put-sorted-anew-returns-2 : (t : ℕ) → put-sorted-anew-lts.Need-returns-2 (put-sorted-anew-claims t) (put-sorted-anew-at t) put-sorted-anew.Post put-sorted-anew-Inv-loop put-sorted-anew-μ-loop
-put-sorted-anew-returns-2 t c = anew-left (c .before .before .before .before .before .before .before .before .before .before .before .before .before .before .before .before .before .before .args .s .now) (c .before .before .before .before .before .before .before .before .before .before .before .before .before .before .before .before .before .before .args .path .now) (c .before .before .before .before .before .before .before .before .before .before .before .before .before .before .before .before .before .before .args .n) (c .before .before .before .before .before .before .before .before .before .before .before .before .before .before .before .before .before .before .args .val) (c .before .before .before .before .before .before .before .before .before .before .before .before .before .before .before .before .before .before .args .way) (c .before .before .before .before .before .before .before .before .before .before .before .before .before .before .before .before .before .before .args .allowance) (octets-of (c .before .before .before .before .before .before .before .before .before .before .before .before .before .before .before .before .before .before .args .s .now) (λ i. omega (arith, c .before .before .before .before .before .before .before .before .before .before .before .before .before .before .before .before .before .shared-slice-known .given i))) (c .before .before .before .before .before .before .before .before .before .before .before .before .before .before .before .before .before .before .pre .1 .0) (c .before .before .before .before .before .before .before .before .before .before .before .before .before .before .before .before .before .before .pre .1 .1) (c .before .before .before .before .before .before .before .before .before .before .before .before .before .before .before .before .before .before .pre .1 .2) _ _ _ _ (c .before .before .before .before .before .before .before .before .before .before .before .before .before .before .members-of .ensures) (c .before .before .before .before .before .before .before .before .before .before .measure-members .ensures) (c .before .before .before .before .before .before .before .before .before .before .before .way-behind .ensures) (c .before .before .before .before .before .before .before .before .before .before .before .before .name-of .ensures) _ _ _ _ _ _ _ (c .before .before .before .before .before .before .before .before .before .places-for .ensures) refl (c .before .before .before .before .before .before .put-u32 .ensures) (ends-full _ _ _ _ _ _ _ _ _ _ (c .before .before .loop .inv) _ (few-searched _ _ _ _ _) (c .before .loop-test .left)) (ends-val _ _ _ _ _ _ _ _ _ _ (c .before .before .loop .inv) (sought-all (name-in (c .before .before .before .before .before .before .before .before .before .before .before .before .before .before .before .before .before .before .args .s .now)) _ _ _ (few-searched _ _ _ _ _) (c .before .loop-test .left)))
+put-sorted-anew-returns-2 t c = anew-remains (c .before .before .before .before .before .before .before .before .before .before .before .before .before .before .before .before .before .before .args .s .now) (c .before .before .before .before .before .before .before .before .before .before .before .before .before .before .before .before .before .before .args .path .now) (c .before .before .before .before .before .before .before .before .before .before .before .before .before .before .before .before .before .before .args .n) (c .before .before .before .before .before .before .before .before .before .before .before .before .before .before .before .before .before .before .args .val) (c .before .before .before .before .before .before .before .before .before .before .before .before .before .before .before .before .before .before .args .way) (c .before .before .before .before .before .before .before .before .before .before .before .before .before .before .before .before .before .before .args .allowance) (octets-of (c .before .before .before .before .before .before .before .before .before .before .before .before .before .before .before .before .before .before .args .s .now) (λ i. omega (arith, c .before .before .before .before .before .before .before .before .before .before .before .before .before .before .before .before .before .shared-slice-known .given i))) (c .before .before .before .before .before .before .before .before .before .before .before .before .before .before .before .before .before .before .pre .1 .0) (c .before .before .before .before .before .before .before .before .before .before .before .before .before .before .before .before .before .before .pre .1 .1) (c .before .before .before .before .before .before .before .before .before .before .before .before .before .before .before .before .before .before .pre .1 .2) _ _ _ _ (c .before .before .before .before .before .before .before .before .before .before .before .before .before .before .members-of .ensures) (c .before .before .before .before .before .before .before .before .before .before .measure-members .ensures) (c .before .before .before .before .before .before .before .before .before .before .before .way-behind .ensures) (c .before .before .before .before .before .before .before .before .before .before .before .before .name-of .ensures) _ _ _ _ _ _ _ (c .before .before .before .before .before .before .before .before .before .places-for .ensures) refl (c .before .before .before .before .before .before .put-u32 .ensures) (ends-full _ _ _ _ _ _ _ _ _ _ (c .before .before .loop .inv) _ (few-searched _ _ _ _ _) (c .before .loop-test .left)) (ends-val _ _ _ _ _ _ _ _ _ _ (c .before .before .loop .inv) (sought-all (name-in (c .before .before .before .before .before .before .before .before .before .before .before .before .before .before .before .before .before .before .args .s .now)) _ _ _ (few-searched _ _ _ _ _) (c .before .loop-test .left)))
 
 pub +put-deleted+put-member-anew+put-part-anew+put-sorted-anew-spec : {M : Type 1} → statement M
 +put-deleted+put-member-anew+put-part-anew+put-sorted-anew-spec =

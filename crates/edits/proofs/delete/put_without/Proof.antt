@@ -2,7 +2,7 @@
 use native.Mathlib.Omega.{arith}
 use mathlib.Core.Path.{sym, _∙_}
 use Rattle.layout.proofs.Words.{octets-of}
-use Rattle.edits.proofs.Leds.{manner-array, manner-object, manner-search, no-manner, array-led, rising-led, left-as}
+use Rattle.edits.proofs.Leds.{manner-array, manner-object, manner-search, no-manner, array-led, rising-led, stores-as}
 use borrow.Author.Needs.{needs}
 use Rattle.edits.proofs.delete.put_without.Statement.{statement}
 use Rattle.edits.proofs.delete.put_without.Tie as tie
@@ -17,10 +17,10 @@ put-sorted-without-requires : tie.Need-put-sorted-without-requires
 put-sorted-without-requires c κs = (c .before .before .before .before .before .before .before .pre .0, c .before .before .before .before .before .before .before .pre .1, (manner-search (c .before .before .before .before .before .before .before .args .s .now) _ _ (sym (c .before .before .n3 .given .1) ∙ c .before .before .before .before .manner-of .ensures)), c .before .before .before .before .before .before .before .pre .2, c .before .before .before .before .before .before .before .pre .3)
 
 returns : tie.Need-returns
-returns c = λ p q. left-as _ _ _ _ _ _ ((array-led (c .before .before .before .before .before .before .before .before .before .before .args .s .now) _ (c .before .before .before .before .before .before .before .before .before .before .args .part) p (octets-of (c .before .before .before .before .before .before .before .before .before .before .args .s .now) (λ i. omega (arith, c .before .before .before .before .before .before .before .before .before .shared-slice-known .given i))) (c .before .before .before .before .before .before .before .before .before .before .pre .0) (c .before .before .before .before .before .before .before .before .before .before .pre .1) (manner-array (c .before .before .before .before .before .before .before .before .before .before .args .s .now) _ _ (sym (c .before .before .before .before .before .n .given .1) ∙ c .before .before .before .before .before .before .before .manner-of .ensures)) q) .1) (c .before .before .put-array-without .ensures)
+returns c = λ p q. stores-as _ _ _ _ _ _ ((array-led (c .before .before .before .before .before .before .before .before .before .before .args .s .now) _ (c .before .before .before .before .before .before .before .before .before .before .args .part) p (octets-of (c .before .before .before .before .before .before .before .before .before .before .args .s .now) (λ i. omega (arith, c .before .before .before .before .before .before .before .before .before .shared-slice-known .given i))) (c .before .before .before .before .before .before .before .before .before .before .pre .0) (c .before .before .before .before .before .before .before .before .before .before .pre .1) (manner-array (c .before .before .before .before .before .before .before .before .before .before .args .s .now) _ _ (sym (c .before .before .before .before .before .n .given .1) ∙ c .before .before .before .before .before .before .before .manner-of .ensures)) q) .1) (c .before .before .put-array-without .ensures)
 
 returns-2 : tie.Need-returns-2
-returns-2 c = λ p q. left-as _ _ _ _ _ _ ((let h = (manner-object (c .before .before .before .before .before .before .before .before .before .before .args .s .now) _ _ (sym (c .before .before .before .before .before .n2 .given .1) ∙ c .before .before .before .before .before .before .before .manner-of .ensures)) in rising-led (c .before .before .before .before .before .before .before .before .before .before .args .s .now) _ (c .before .before .before .before .before .before .before .before .before .before .args .part) p (octets-of (c .before .before .before .before .before .before .before .before .before .before .args .s .now) (λ i. omega (arith, c .before .before .before .before .before .before .before .before .before .shared-slice-known .given i))) (c .before .before .before .before .before .before .before .before .before .before .pre .0) (c .before .before .before .before .before .before .before .before .before .before .pre .1) (h .0) (h .1) q) .2) (c .before .before .put-object-without .ensures)
+returns-2 c = λ p q. stores-as _ _ _ _ _ _ ((let h = (manner-object (c .before .before .before .before .before .before .before .before .before .before .args .s .now) _ _ (sym (c .before .before .before .before .before .n2 .given .1) ∙ c .before .before .before .before .before .before .before .manner-of .ensures)) in rising-led (c .before .before .before .before .before .before .before .before .before .before .args .s .now) _ (c .before .before .before .before .before .before .before .before .before .before .args .part) p (octets-of (c .before .before .before .before .before .before .before .before .before .before .args .s .now) (λ i. omega (arith, c .before .before .before .before .before .before .before .before .before .shared-slice-known .given i))) (c .before .before .before .before .before .before .before .before .before .before .pre .0) (c .before .before .before .before .before .before .before .before .before .before .pre .1) (h .0) (h .1) q) .2) (c .before .before .put-object-without .ensures)
 
 returns-3 : tie.Need-returns-3
 returns-3 c = c .before .before .put-sorted-without .ensures

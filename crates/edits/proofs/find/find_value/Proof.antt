@@ -5,7 +5,7 @@ use mathlib.Core.Logic.{⊎-elim}
 use mir.Syntax.{w32}
 use mir.Val.{toZ, ofZ}
 use mir.ValLaws.{toZ-ofZ}
-use Rattle.edits.proofs.Decimals.{text-back}
+use Rattle.edits.proofs.IndexTexts.{text-back}
 use Rattle.edits.proofs.Finds.{value-name, value-index}
 use borrow.Author.Needs.{needs}
 use Rattle.edits.proofs.find.find_value.Statement.{statement}
