@@ -4,7 +4,7 @@ use native.Mathlib.Omega.{arith}
 use mathlib.Core.Path.{_≡_, refl, ap, sym, _∙_}
 use lib.ListN.{length}
 use lib.Bits.{bitOr, or-shifted}
-use Rattle.layout.specs.Bytes.{Bytes, Octets}
+use Rattle.layout.specs.Bytes.{Bytes}
 use Rattle.layout.specs.Answer.{gives, refused, _>>=_}
 use Rattle.layout.specs.Tree.{Tree, null, boolean, number, string, extension, array, object, Items, none, item}
 use Rattle.layout.specs.Encode.{item-parts}
@@ -29,7 +29,7 @@ use Rattle.builders.specs.Join.{given-count, given-start, Lies, as-one, 
 use Rattle.builders.specs.Room.{sized}
 use Rattle.builders.specs.declared.join.Given.{Given}
 use Rattle.builders.specs.declared.join.Given.the-variants.{Table}
-use Rattle.builders.proofs.Knowns.{Known, known, no-array, an-array, nested-gives, nested-refused, deep-nesting, fits-nesting}
+use Rattle.builders.proofs.Knowns.{Known, known, Both-octets, no-array, an-array, nested-gives, nested-refused, deep-nesting, fits-nesting}
 use Rattle.builders.proofs.Joins.{Gives, array-gives, one-gives, joined-encode}
 use Rattle.builders.proofs.Twos.{two-left, two-right, two-edit, two-deep, two-sized}
 
@@ -81,52 +81,81 @@ one-more : (a : Bytes) (k : ℕ) (b : Bytes) (g : Given) → Lies a (Table k) �
 unfolding given-start given-count
 one-more a k b g l e = or-shifted 1 31 (k + 1) (omega (arith, l .starts, l .short)) ∙ rw e
 
-module _ (a b o : Bytes) (room : ℕ) (oa : Octets a) (ob : Octets b) (c : Check) (hc : c ≡ checked (read a)) where
-  pub append-left : (x : Refusal) → c ≡ NotReadable x → EndedIn (Refused x) o o (on-two append a b room)
-  append-left x q = two-left append a b o room x (refused-as (read a) c x hc q)
+-- What the tests so far have shown of the array and the item, one record for each test passed.
+pub record Array-read (a b : Bytes) : Type 0 where
+  pub octets : Both-octets a b
+  pub array : checked (read a) ≡ Readable
 
-  module _ (qc : c ≡ Readable) (n : Nesting) (hn : n ≡ nesting (read b)) where
+pub record Both-read (a b : Bytes) : Type 0 where
+  pub before : Array-read a b
+  pub item : (x : Refusal) → nesting (read b) ≡ NotNested x → ⊥
+
+pub record Counted (a b : Bytes) (k : ℕ) : Type 0 where
+  pub before : Both-read a b
+  pub count : header a ≡ Array k
+
+-- The first test that fails decides the answer.
+abbrev Answers : Bytes → Bytes → Bytes → ℕ → Ending → Type 0
+Answers a b o room e = EndedIn e o o (on-two append a b room)
+
+module _ {a b : Bytes} where
+  pub append-left : Both-octets a b → {o : Bytes} (room : ℕ) {c : Check} → c ≡ checked (read a) → {x : Refusal} → c ≡ NotReadable x
+      → Answers a b o room (Refused x)
+  append-left s {o} room {c} hc {x} q = two-left append a b o room x (refused-as (read a) c x hc q)
+
+  module _ (s : Array-read a b) where
     left : (t : Tree) × Known a t
-    left = let w = readable-gives (read a) c hc qc in (w .0, known a (w .0) oa (w .1))
+    left = let w = readable-gives (read a) Readable (sym (s .array)) refl in (w .0, known a (w .0) (s .octets .left) (w .1))
 
-    pub append-right : (x : Refusal) → n ≡ NotNested x → EndedIn (Refused x) o o (on-two append a b room)
-    append-right x q = two-right append a b o room (left .0) (left .1 .reads) x (nested-refused (read b) n x hn q)
+    pub append-right : {o : Bytes} (room : ℕ) {n : Nesting} → n ≡ nesting (read b) → {x : Refusal} → n ≡ NotNested x
+        → Answers a b o room (Refused x)
+    append-right {o} room {n} hn {x} q = two-right append a b o room (left .0) (left .1 .reads) x (nested-refused (read b) n x hn q)
 
-    module _ (qn : (x : Refusal) → n ≡ NotNested x → ⊥) (h : Header) (hh : h ≡ header a) where
-      right : (u : Tree) × Known b u
-      right = let w = nested-gives (read b) n hn qn in (w .0, known b (w .0) ob (w .1))
+  module _ (s : Both-read a b) where
+    abbrev array-at : (t : Tree) × Known a t
+    array-at = left (s .before)
 
-      pub append-kind : ((k : ℕ) → h ≡ Array k → ⊥) → EndedIn (Refused Kind) o o (on-two append a b room)
-      append-kind q =
-          two-edit append a b o room (left .0) (left .1 .reads) (right .0) (right .1 .reads) Kind
-          (append-other (left .0) (right .0) (no-array (left .0) (λ k e. q k (hh ∙ left .1 .head ∙ e))))
+    right : (u : Tree) × Known b u
+    right = let w = nested-gives (read b) (nesting (read b)) refl (s .item) in (w .0, known b (w .0) (s .before .octets .right) (w .1))
 
-      module _ (k : ℕ) (qh : h ≡ Array k) where
-        items : (ts : Items) × (left .0 ≡ array ts) × (k ≡ length (item-parts ts))
-        items = an-array (left .0) k (sym (left .1 .head) ∙ sym hh ∙ qh)
+    pub append-kind : {o : Bytes} (room : ℕ) {h : Header} → h ≡ header a → ((k : ℕ) → h ≡ Array k → ⊥)
+        → Answers a b o room (Refused Kind)
+    append-kind {o} room hh q =
+        two-edit append a b o room (array-at .0) (array-at .1 .reads) (right .0) (right .1 .reads) Kind
+        (append-other (array-at .0) (right .0) (no-array (array-at .0) (λ k e. q k (hh ∙ array-at .1 .head ∙ e))))
 
-        an-items : Known a (array (items .0))
-        an-items = rw (items .1) at (left .1)
+  module _ {k : ℕ} (s : Counted a b k) where
+    abbrev array-of : (t : Tree) × Known a t
+    array-of = left (s .before .before)
 
-        pub append-deep : n ≡ Deep → EndedIn (Refused Result) o o (on-two append a b room)
-        append-deep q =
-            let d = deep-nesting (right .0) (sym q ∙ hn ∙ ap nesting (right .1 .reads)) in
-            two-deep append a b o room (array (items .0)) (an-items .reads) (right .0) (right .1 .reads) _ (append-array (items .0) (right .0))
-            (omega (arith, depth-join (items .0) (item (right .0) none)))
+    abbrev item-of : (u : Tree) × Known b u
+    item-of = right (s .before)
 
-        module _ (g : Given) (hg : g ≡ as-one (header b)) where
-          pub append-lies : Lies a (Table k) × Lies b g
-          append-lies = (array-lies a k (items .0) an-items (items .2), one-lies b g (right .0) (right .1) hg)
+    items : (ts : Items) × (array-of .0 ≡ array ts) × (k ≡ length (item-parts ts))
+    items = an-array (array-of .0) k (sym (array-of .1 .head) ∙ s .count)
 
-          pub append-ends : (n ≡ Deep → ⊥) → (e : Ending) (o′ : Bytes)
-              → EndedIn e o o′ (sized room (joined (bitOr (2 ^ 31) (k + 1)) a (Table k) b g))
-              → EndedIn e o o′ (on-two append a b room)
-          append-ends q e o′ h =
-              let d = fits-nesting (right .0) n (hn ∙ ap nesting (right .1 .reads)) q in
-              two-sized append a b o room (array (items .0)) (an-items .reads) (right .0) (right .1 .reads) _ (append-array (items .0) (right .0))
-              e o′ (joined (bitOr (2 ^ 31) (k + 1)) a (Table k) b g)
-              (omega (arith, depth-join (items .0) (item (right .0) none), an-items .deep))
-              (joined-encode (bitOr (2 ^ 31) (k + 1)) a (Table k) (items .0) b g (item (right .0) none)
-              (items-given a k (items .0) an-items (items .2)) (one-given b g (right .0) (right .1) hg)
-              (one-more a k b g (append-lies .0) (one-given b g (right .0) (right .1) hg .count)))
-              h
+    an-items : Known a (array (items .0))
+    an-items = rw (items .1) at (array-of .1)
+
+    pub append-deep : {o : Bytes} (room : ℕ) {n : Nesting} → n ≡ nesting (read b) → n ≡ Deep → Answers a b o room (Refused Result)
+    append-deep {o} room hn q =
+        let d = deep-nesting (item-of .0) (sym q ∙ hn ∙ ap nesting (item-of .1 .reads)) in
+        two-deep append a b o room (array (items .0)) (an-items .reads) (item-of .0) (item-of .1 .reads) _
+        (append-array (items .0) (item-of .0)) (omega (arith, depth-join (items .0) (item (item-of .0) none)))
+
+    module _ {g : Given} (hg : g ≡ as-one (header b)) where
+      pub append-lies : Lies a (Table k) × Lies b g
+      append-lies = (array-lies a k (items .0) an-items (items .2), one-lies b g (item-of .0) (item-of .1) hg)
+
+      pub append-ends : {n : Nesting} → n ≡ nesting (read b) → (n ≡ Deep → ⊥) → {o o′ : Bytes} (room : ℕ) {e : Ending}
+          → EndedIn e o o′ (sized room (joined (bitOr (2 ^ 31) (k + 1)) a (Table k) b g))
+          → EndedIn e o o′ (on-two append a b room)
+      append-ends {n} hn q {o} {o′} room {e} h =
+          let d = fits-nesting (item-of .0) n (hn ∙ ap nesting (item-of .1 .reads)) q in
+          let one = one-given b g (item-of .0) (item-of .1) hg in
+          two-sized append a b o room (array (items .0)) (an-items .reads) (item-of .0) (item-of .1 .reads) _
+          (append-array (items .0) (item-of .0)) e o′ (joined (bitOr (2 ^ 31) (k + 1)) a (Table k) b g)
+          (omega (arith, depth-join (items .0) (item (item-of .0) none), an-items .deep))
+          (joined-encode (bitOr (2 ^ 31) (k + 1)) a (Table k) (items .0) b g (item (item-of .0) none)
+          (items-given a k (items .0) an-items (items .2)) one (one-more a k b g (append-lies .0) (one .count)))
+          h

@@ -58,7 +58,7 @@ use Rattle.builders.proofs.Stands.{Stand, stand-sorted, stand-from}
 use Rattle.builders.proofs.Weaves.{woven-record, entries-append}
 use Rattle.builders.proofs.Joins.{Gives, few, count-table}
 use Rattle.builders.proofs.Rooms.{sized-refused, sized-done}
-use Rattle.builders.proofs.Knowns.{Known, known, no-array, an-array}
+use Rattle.builders.proofs.Knowns.{Known, known, Both-octets, no-array, an-array}
 use Rattle.builders.proofs.Appends.{array-lies, items-given}
 use Rattle.builders.proofs.Twos.{two-left, two-right, two-edit, two-sized}
 
@@ -347,12 +347,17 @@ pub record Bounds (ks vs : Bytes) (n : ℕ) : Type 0 where
   pub vals-table : 4 + 4 * n ≤ length vs
   pub vals : length vs ≤ 65536
 
-module _ (ks vs : Bytes) (ok : Octets ks) (ov : Octets vs) (n : ℕ) (pairs : Pairs ks vs n) where
+-- Bytes that are n names with n values.
+pub record Paired (ks vs : Bytes) (n : ℕ) : Type 0 where
+  pub octets : Both-octets ks vs
+  pub pairs : Pairs ks vs n
+
+module _ {ks vs : Bytes} {n : ℕ} (p : Paired ks vs n) where
   keys-known : (ts : Items) × Known ks (array ts) × (n ≡ length (item-parts ts))
-  keys-known = array-known ks n ok (pairs .names) (pairs .keys)
+  keys-known = array-known ks n (p .octets .left) (p .pairs .names) (p .pairs .keys)
 
   vals-known : (us : Items) × Known vs (array us) × (n ≡ length (item-parts us))
-  vals-known = array-known vs n ov (pairs .values) (pairs .vals)
+  vals-known = array-known vs n (p .octets .right) (p .pairs .values) (p .pairs .vals)
 
   pub pairs-lie : Lies ks (Table n) × Lies vs (Table n)
   pairs-lie = (
@@ -371,25 +376,28 @@ module _ (ks vs : Bytes) (ok : Octets ks) (ov : Octets vs) (n : ℕ) (pairs : Pa
         vals = pairs-lie .1 .short;
       }
 
+  -- How the object of these pairs ends, with the buffer `o` before the call.
   module _ (o : Bytes) (room : ℕ) where
     abbrev On : Ending → Bytes → Type 0
     On e o′ = EndedIn e o o′ (on-two build ks vs room)
 
     pub pairs-repeated : distinct (texts (parts-at ks 0 (4 + 4 * n) n)) ≡ false → On (Refused Repeated) o
     pairs-repeated =
-        build-repeated ks vs n (keys-known .0) (vals-known .0) (keys-known .1) (vals-known .1) (keys-known .2) (vals-known .2) (pairs .strings) o room
+        build-repeated ks vs n (keys-known .0) (vals-known .0) (keys-known .1) (vals-known .1) (keys-known .2) (vals-known .2)
+        (p .pairs .strings) o room
 
     pub pairs-rising : rising-parts (parts-at ks 0 (4 + 4 * n) n) ≡ true → (e : Ending) (o′ : Bytes)
         → EndedIn e o o′ (sized room (joined (bitOr (2 ^ 30) n) ks (Table n) vs (Table n))) → On e o′
     pairs-rising =
-        build-rising ks vs n (keys-known .0) (vals-known .0) (keys-known .1) (vals-known .1) (keys-known .2) (vals-known .2) (pairs .strings) o room
+        build-rising ks vs n (keys-known .0) (vals-known .0) (keys-known .1) (vals-known .1) (keys-known .2) (vals-known .2)
+        (p .pairs .strings) o room
 
     module _ (dist : distinct (texts (parts-at ks 0 (4 + 4 * n) n)) ≡ true) (len : ℕ) (el : len ≡ length ks + (length vs - 4))
         (serves : Room) (hs : serves ≡ room-for len room) where
       pub pairs-refused : (x : Refusal) → serves ≡ NoRoom x → On (Refused x) o
       pairs-refused =
           sorted-refused ks vs n (keys-known .0) (vals-known .0) (keys-known .1) (vals-known .1) (keys-known .2) (vals-known .2)
-          (pairs .strings) o room dist len el serves hs
+          (p .pairs .strings) o room dist len el serves hs
 
       pub pairs-done : (w : ℕ) (o₁ o₂ : Bytes) → serves ≡ Serves → w ≡ bitOr (2 ^ 30) n → o₁ ≡ patch o 0 (be32 w)
           → o₂ ≡ woven (name-in ks) (value-in vs) own-entry o₁ 4 (4 + 4 * n) (4 + 4 * n + 4 * n) (length ks + 4 * n)
@@ -398,58 +406,89 @@ module _ (ks vs : Bytes) (ok : Octets ks) (ov : Octets vs) (n : ℕ) (pairs : Pa
           → On (Done len) o₂
       pairs-done w o₁ o₂ qs ew e₁ e₂ =
           sorted-done ks vs n (keys-known .0) (vals-known .0) (keys-known .1) (vals-known .1) (keys-known .2) (vals-known .2)
-          (pairs .strings) o room dist len el serves hs w o₁ o₂ qs ew e₁ (rw (kept-all 0) at e₂)
+          (p .pairs .strings) o room dist len el serves hs w o₁ o₂ qs ew e₁ (rw (kept-all 0) at e₂)
 
--- Before the pairs are known: the numbers in their order.
-module _ (ks vs o : Bytes) (room : ℕ) (ok : Octets ks) (ov : Octets vs) (c : Check) (hc : c ≡ checked (read ks)) where
-  pub build-left : (x : Refusal) → c ≡ NotReadable x → EndedIn (Refused x) o o (on-two build ks vs room)
-  build-left x q = two-left build ks vs o room x (refused-as (read ks) c x hc q)
+-- Before the pairs are known: what the tests so far have shown of the names and the values, one record for each test passed.
+pub record Names-read (ks vs : Bytes) : Type 0 where
+  pub octets : Both-octets ks vs
+  pub names : checked (read ks) ≡ Readable
 
-  module _ (qc : c ≡ Readable) (d : Check) (hd : d ≡ checked (read vs)) where
+pub record Both-read (ks vs : Bytes) : Type 0 where
+  pub before : Names-read ks vs
+  pub values : checked (read vs) ≡ Readable
+
+pub record Names-counted (ks vs : Bytes) (n : ℕ) : Type 0 where
+  pub before : Both-read ks vs
+  pub count : header ks ≡ Array n
+
+pub record Both-counted (ks vs : Bytes) (n m : ℕ) : Type 0 where
+  pub before : Names-counted ks vs n
+  pub count : header vs ≡ Array m
+
+-- The first test that fails decides the answer.
+abbrev Answers : Bytes → Bytes → Bytes → ℕ → Ending → Type 0
+Answers ks vs o room e = EndedIn e o o (on-two build ks vs room)
+
+module _ {ks vs : Bytes} where
+  pub build-left : Both-octets ks vs → {o : Bytes} (room : ℕ) {c : Check} → c ≡ checked (read ks) → {x : Refusal} → c ≡ NotReadable x
+      → Answers ks vs o room (Refused x)
+  build-left s {o} room {c} hc {x} q = two-left build ks vs o room x (refused-as (read ks) c x hc q)
+
+  module _ (s : Names-read ks vs) where
     left : (t : Tree) × Known ks t
-    left = let w = readable-gives (read ks) c hc qc in (w .0, known ks (w .0) ok (w .1))
+    left = let w = readable-gives (read ks) Readable (sym (s .names)) refl in (w .0, known ks (w .0) (s .octets .left) (w .1))
 
-    pub build-right : (x : Refusal) → d ≡ NotReadable x → EndedIn (Refused x) o o (on-two build ks vs room)
-    build-right x q = two-right build ks vs o room (left .0) (left .1 .reads) x (refused-as (read vs) d x hd q)
+    pub build-right : {o : Bytes} (room : ℕ) {d : Check} → d ≡ checked (read vs) → {x : Refusal} → d ≡ NotReadable x
+        → Answers ks vs o room (Refused x)
+    build-right {o} room {d} hd {x} q = two-right build ks vs o room (left .0) (left .1 .reads) x (refused-as (read vs) d x hd q)
 
-    module _ (qd : d ≡ Readable) (h : Header) (hh : h ≡ header ks) where
-      right : (u : Tree) × Known vs u
-      right = let w = readable-gives (read vs) d hd qd in (w .0, known vs (w .0) ov (w .1))
+  module _ (s : Both-read ks vs) where
+    abbrev keys-at : (t : Tree) × Known ks t
+    keys-at = left (s .before)
 
-      kind : build (left .0) (right .0) ≡ refused Kind → EndedIn (Refused Kind) o o (on-two build ks vs room)
-      kind = two-edit build ks vs o room (left .0) (left .1 .reads) (right .0) (right .1 .reads) Kind
+    right : (u : Tree) × Known vs u
+    right =
+        let w = readable-gives (read vs) Readable (sym (s .values)) refl in
+        (w .0, known vs (w .0) (s .before .octets .right) (w .1))
 
-      pub build-no-names : ((k : ℕ) → h ≡ Array k → ⊥) → EndedIn (Refused Kind) o o (on-two build ks vs room)
-      build-no-names q = kind (no-names (left .0) (right .0) (no-array (left .0) (λ k e. q k (hh ∙ left .1 .head ∙ e))))
+    kind : {o : Bytes} (room : ℕ) → build (keys-at .0) (right .0) ≡ refused Kind → Answers ks vs o room (Refused Kind)
+    kind {o} room = two-edit build ks vs o room (keys-at .0) (keys-at .1 .reads) (right .0) (right .1 .reads) Kind
 
-      module _ (n : ℕ) (qh : h ≡ Array n) (j : Header) (hj : j ≡ header vs) where
-        pub build-no-values : ((k : ℕ) → j ≡ Array k → ⊥) → EndedIn (Refused Kind) o o (on-two build ks vs room)
-        build-no-values q = kind (no-values (left .0) (right .0) (no-array (right .0) (λ k e. q k (hj ∙ right .1 .head ∙ e))))
+    pub build-no-names : {o : Bytes} (room : ℕ) {h : Header} → h ≡ header ks → ((k : ℕ) → h ≡ Array k → ⊥)
+        → Answers ks vs o room (Refused Kind)
+    build-no-names room hh q = kind room (no-names (keys-at .0) (right .0) (no-array (keys-at .0) (λ k e. q k (hh ∙ keys-at .1 .head ∙ e))))
 
-        module _ (m : ℕ) (qj : j ≡ Array m) where
-          keys : (ts : Items) × (left .0 ≡ array ts) × (n ≡ length (item-parts ts))
-          keys = an-array (left .0) n (sym (left .1 .head) ∙ sym hh ∙ qh)
+    pub build-no-values : {o : Bytes} (room : ℕ) {j : Header} → j ≡ header vs → ((k : ℕ) → j ≡ Array k → ⊥)
+        → Answers ks vs o room (Refused Kind)
+    build-no-values room hj q = kind room (no-values (keys-at .0) (right .0) (no-array (right .0) (λ k e. q k (hj ∙ right .1 .head ∙ e))))
 
-          vals : (us : Items) × (right .0 ≡ array us) × (m ≡ length (item-parts us))
-          vals = an-array (right .0) m (sym (right .1 .head) ∙ sym hj ∙ qj)
+  module _ {n m : ℕ} (s : Both-counted ks vs n m) where
+    abbrev both : Both-read ks vs
+    both = s .before .before
 
-          pub build-unequal : (n ≡ m → ⊥) → EndedIn (Refused Kind) o o (on-two build ks vs room)
-          build-unequal q =
-              kind (rw (keys .1, vals .1) (unequal (keys .0) (vals .0)
-              (λ e. q (keys .2 ∙ sym (count-parts (keys .0)) ∙ e ∙ count-parts (vals .0) ∙ sym (vals .2)))))
+    keys : (ts : Items) × (left (both .before) .0 ≡ array ts) × (n ≡ length (item-parts ts))
+    keys = an-array (left (both .before) .0) n (sym (left (both .before) .1 .head) ∙ s .before .count)
 
-          module _ (e : n ≡ m) (g : Bool) (hg : g ≡ strings-at ks 0 n) where
-            pub build-no-strings : g ≡ false → EndedIn (Refused Kind) o o (on-two build ks vs room)
-            build-no-strings q =
-                kind (rw (keys .1, vals .1) (texts-none ks vs n (keys .0) (vals .0) (rw (keys .1) at (left .1)) (rw (vals .1) at (right .1))
-                (keys .2) (e ∙ vals .2) (sym hg ∙ q)))
+    vals : (us : Items) × (right both .0 ≡ array us) × (m ≡ length (item-parts us))
+    vals = an-array (right both .0) m (sym (right both .1 .head) ∙ s .count)
 
-            pub build-pairs : g ≡ true → Pairs ks vs n
-            build-pairs q =
-                record {
-                  names = sym hc ∙ qc;
-                  values = sym hd ∙ qd;
-                  keys = sym hh ∙ qh;
-                  vals = sym hj ∙ qj ∙ ap Array (sym e);
-                  strings = sym hg ∙ q;
-                }
+    pub build-unequal : {o : Bytes} (room : ℕ) → (n ≡ m → ⊥) → Answers ks vs o room (Refused Kind)
+    build-unequal room q =
+        kind both room (rw (keys .1, vals .1) (unequal (keys .0) (vals .0)
+        (λ e. q (keys .2 ∙ sym (count-parts (keys .0)) ∙ e ∙ count-parts (vals .0) ∙ sym (vals .2)))))
+
+    module _ (e : n ≡ m) {g : Bool} (hg : g ≡ strings-at ks 0 n) where
+      pub build-no-strings : {o : Bytes} (room : ℕ) → g ≡ false → Answers ks vs o room (Refused Kind)
+      build-no-strings room q =
+          kind both room (rw (keys .1, vals .1) (texts-none ks vs n (keys .0) (vals .0)
+          (rw (keys .1) at (left (both .before) .1)) (rw (vals .1) at (right both .1)) (keys .2) (e ∙ vals .2) (sym hg ∙ q)))
+
+      pub build-pairs : g ≡ true → Pairs ks vs n
+      build-pairs q =
+          record {
+            names = both .before .names;
+            values = both .values;
+            keys = s .before .count;
+            vals = s .count ∙ ap Array (sym e);
+            strings = sym hg ∙ q;
+          }

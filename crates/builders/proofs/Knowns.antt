@@ -44,6 +44,11 @@ known s t o e =
       deep = d .0 .deep;
     }
 
+-- What the caller of an edit of two records hands in: bytes.
+pub record Both-octets (l r : Bytes) : Type 0 where
+  pub left : Octets l
+  pub right : Octets r
+
 -- A record by its header.
 pub no-array : (t : Tree) → ((n : ℕ) → head-of t ≡ Array n → ⊥) → items-of t ≡ refused Kind
 no-array null h = refl

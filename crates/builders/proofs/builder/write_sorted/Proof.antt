@@ -2,46 +2,75 @@
 use native.Mathlib.Omega.{arith}
 use mathlib.Core.Path.{refl}
 use Rattle.layout.proofs.Words.{octets-of}
-use Rattle.builders.proofs.Builds.{pairs-bounds, pairs-refused, pairs-done}
+use Rattle.builders.proofs.Builds.{Bounds, Paired, pairs-bounds, pairs-refused, pairs-done}
 use borrow.Author.Needs.{needs}
 use Rattle.builders.proofs.builder.write_sorted.Statement.{statement}
 use Rattle.builders.proofs.builder.write_sorted.Tie as tie
 
+abbrev start : tie.After-slice-known → tie.Start
+start c = c .before .before .before
+
+-- From the place where there was room back to the entry.
+abbrev to-entry : tie.After-enum-told → tie.After-slice-known
+to-entry c = c .before .before .before
+
+-- What is known from the start.
+paired : (c : tie.After-slice-known) → Paired (start c .args .names .now) (start c .args .values .now) (start c .args .n)
+paired c =
+    record {
+      octets = record {
+        left = octets-of (start c .args .names .now) (λ i. omega (arith, c .before .before .shared-slice-known .given i));
+        right = octets-of (start c .args .values .now) (λ i. omega (arith, c .before .shared-slice-known2 .given i));
+      };
+      pairs = start c .pre .0;
+    }
+
+bounds : (c : tie.After-slice-known) → Bounds (start c .args .names .now) (start c .args .values .now) (start c .args .n)
+bounds c = pairs-bounds (paired c)
+
 sub-len : tie.Need-sub-len
-sub-len c = let b = pairs-bounds (c .before .before .before .args .names .now) (c .before .before .before .args .values .now) (octets-of (c .before .before .before .args .names .now) (λ i. omega (arith, c .before .before .shared-slice-known .given i))) (octets-of (c .before .before .before .args .values .now) (λ i. omega (arith, c .before .shared-slice-known2 .given i))) _ (c .before .before .before .pre .0) in omega (arith, b .few, b .keys-table, b .keys, b .vals-table, b .vals)
+sub-len c = omega (arith, bounds c)
 
 returns : tie.Need-returns
-returns c = pairs-refused (c .before .before .before .before .before .before .before .args .names .now) (c .before .before .before .before .before .before .before .args .values .now) (octets-of (c .before .before .before .before .before .before .before .args .names .now) (λ i. omega (arith, c .before .before .before .before .before .before .shared-slice-known .given i))) (octets-of (c .before .before .before .before .before .before .before .args .values .now) (λ i. omega (arith, c .before .before .before .before .before .shared-slice-known2 .given i))) _ (c .before .before .before .before .before .before .before .pre .0) _ _ (c .before .before .before .before .before .before .before .pre .1) _ refl _ (c .before .before .before .check-room .ensures) _ (c .before .refusal .given .1)
+returns c =
+    let asked = c .before .before .before in
+    let e = asked .before in
+    pairs-refused (paired e) _ _ (start e .pre .1) _ refl _ (asked .check-room .ensures) _ (c .before .refusal .given .1)
 
 mul-start : tie.Need-mul-start
-mul-start c = let b = pairs-bounds (c .before .before .before .before .before .before .args .names .now) (c .before .before .before .before .before .before .args .values .now) (octets-of (c .before .before .before .before .before .before .args .names .now) (λ i. omega (arith, c .before .before .before .before .before .shared-slice-known .given i))) (octets-of (c .before .before .before .before .before .before .args .values .now) (λ i. omega (arith, c .before .before .before .before .shared-slice-known2 .given i))) _ (c .before .before .before .before .before .before .pre .0) in omega (arith, b .few, b .keys-table, b .keys, b .vals-table, b .vals)
+mul-start c = omega (arith, bounds (to-entry c))
 
 add-start : tie.Need-add-start
-add-start c = let b = pairs-bounds (c .before .before .before .before .before .before .args .names .now) (c .before .before .before .before .before .before .args .values .now) (octets-of (c .before .before .before .before .before .before .args .names .now) (λ i. omega (arith, c .before .before .before .before .before .shared-slice-known .given i))) (octets-of (c .before .before .before .before .before .before .args .values .now) (λ i. omega (arith, c .before .before .before .before .shared-slice-known2 .given i))) _ (c .before .before .before .before .before .before .pre .0) in omega (arith, b .few, b .keys-table, b .keys, b .vals-table, b .vals)
+add-start c = omega (arith, bounds (to-entry c))
 
 mul-t13 : tie.Need-mul-t13
-mul-t13 c = let b = pairs-bounds (c .before .before .before .before .before .before .args .names .now) (c .before .before .before .before .before .before .args .values .now) (octets-of (c .before .before .before .before .before .before .args .names .now) (λ i. omega (arith, c .before .before .before .before .before .shared-slice-known .given i))) (octets-of (c .before .before .before .before .before .before .args .values .now) (λ i. omega (arith, c .before .before .before .before .shared-slice-known2 .given i))) _ (c .before .before .before .before .before .before .pre .0) in omega (arith, b .few, b .keys-table, b .keys, b .vals-table, b .vals)
+mul-t13 c = omega (arith, bounds (to-entry c))
 
 add-t11 : tie.Need-add-t11
-add-t11 c = let b = pairs-bounds (c .before .before .before .before .before .before .args .names .now) (c .before .before .before .before .before .before .args .values .now) (octets-of (c .before .before .before .before .before .before .args .names .now) (λ i. omega (arith, c .before .before .before .before .before .shared-slice-known .given i))) (octets-of (c .before .before .before .before .before .before .args .values .now) (λ i. omega (arith, c .before .before .before .before .shared-slice-known2 .given i))) _ (c .before .before .before .before .before .before .pre .0) in omega (arith, b .few, b .keys-table, b .keys, b .vals-table, b .vals)
+add-t11 c = omega (arith, bounds (to-entry c))
 
 mul-t15 : tie.Need-mul-t15
-mul-t15 c = let b = pairs-bounds (c .before .before .before .before .before .before .args .names .now) (c .before .before .before .before .before .before .args .values .now) (octets-of (c .before .before .before .before .before .before .args .names .now) (λ i. omega (arith, c .before .before .before .before .before .shared-slice-known .given i))) (octets-of (c .before .before .before .before .before .before .args .values .now) (λ i. omega (arith, c .before .before .before .before .shared-slice-known2 .given i))) _ (c .before .before .before .before .before .before .pre .0) in omega (arith, b .few, b .keys-table, b .keys, b .vals-table, b .vals)
+mul-t15 c = omega (arith, bounds (to-entry c))
 
 add-t16 : tie.Need-add-t16
-add-t16 c = let b = pairs-bounds (c .before .before .before .before .before .before .args .names .now) (c .before .before .before .before .before .before .args .values .now) (octets-of (c .before .before .before .before .before .before .args .names .now) (λ i. omega (arith, c .before .before .before .before .before .shared-slice-known .given i))) (octets-of (c .before .before .before .before .before .before .args .values .now) (λ i. omega (arith, c .before .before .before .before .shared-slice-known2 .given i))) _ (c .before .before .before .before .before .before .pre .0) in omega (arith, b .few, b .keys-table, b .keys, b .vals-table, b .vals)
+add-t16 c = omega (arith, bounds (to-entry c))
 
 cast-put-u32 : tie.Need-cast-put-u32
-cast-put-u32 c = let b = pairs-bounds (c .before .before .before .before .before .before .before .args .names .now) (c .before .before .before .before .before .before .before .args .values .now) (octets-of (c .before .before .before .before .before .before .before .args .names .now) (λ i. omega (arith, c .before .before .before .before .before .before .shared-slice-known .given i))) (octets-of (c .before .before .before .before .before .before .before .args .values .now) (λ i. omega (arith, c .before .before .before .before .before .shared-slice-known2 .given i))) _ (c .before .before .before .before .before .before .before .pre .0) in omega (arith, b .few, b .keys-table, b .keys, b .vals-table, b .vals)
+cast-put-u32 c = omega (arith, bounds (to-entry (c .before)))
 
 put-members-requires : tie.Need-put-members-requires
-put-members-requires c κs = let b = pairs-bounds (c .before .before .before .before .before .before .before .before .before .before .before .args .names .now) (c .before .before .before .before .before .before .before .before .before .before .before .args .values .now) (octets-of (c .before .before .before .before .before .before .before .before .before .before .before .args .names .now) (λ i. omega (arith, c .before .before .before .before .before .before .before .before .before .before .shared-slice-known .given i))) (octets-of (c .before .before .before .before .before .before .before .before .before .before .before .args .values .now) (λ i. omega (arith, c .before .before .before .before .before .before .before .before .before .shared-slice-known2 .given i))) _ (c .before .before .before .before .before .before .before .before .before .before .before .pre .0) in (
-  (omega (arith, b .few), omega arith, omega arith, omega (arith, b .few), omega (arith, b .few)),
-  (omega arith, omega (arith, b .few), omega (arith, b .few), omega (arith, b .few, b .keys)),
-)
+put-members-requires c κs =
+    let header = c .before .before .before in
+    omega (arith, bounds (to-entry (header .before .before)))
 
 returns-2 : tie.Need-returns-2
-returns-2 c = pairs-done (c .before .before .before .before .before .before .before .before .before .before .before .before .before .before .args .names .now) (c .before .before .before .before .before .before .before .before .before .before .before .before .before .before .args .values .now) (octets-of (c .before .before .before .before .before .before .before .before .before .before .before .before .before .before .args .names .now) (λ i. omega (arith, c .before .before .before .before .before .before .before .before .before .before .before .before .before .shared-slice-known .given i))) (octets-of (c .before .before .before .before .before .before .before .before .before .before .before .before .before .before .args .values .now) (λ i. omega (arith, c .before .before .before .before .before .before .before .before .before .before .before .before .shared-slice-known2 .given i))) _ (c .before .before .before .before .before .before .before .before .before .before .before .before .before .before .pre .0) _ _ (c .before .before .before .before .before .before .before .before .before .before .before .before .before .before .pre .1) _ refl _ (c .before .before .before .before .before .before .before .before .before .before .check-room .ensures) _ _ _ (c .before .before .before .before .before .before .before .before .enum-told .given .1) refl (c .before .before .before .before .before .before .put-u32 .ensures) (c .before .before .put-members .ensures)
+returns-2 c =
+    let members = c .before .before in
+    let header = members .before .before .before .before in
+    let served = header .before .before in
+    let e = to-entry served in
+    pairs-done (paired e) _ _ (start e .pre .1) _ refl _ (served .before .before .check-room .ensures) _ _ _
+    (served .enum-told .given .1) refl (header .put-u32 .ensures) (members .put-members .ensures)
 
 pub write-sorted-spec : {M : Type 1} → statement M
 write-sorted-spec =
