@@ -23,11 +23,28 @@ abbrev μ-loop : tie.MeasureT-loop
 loop-holds : tie.Need-loop-holds Inv-loop μ-loop
 loop-holds c = (c .before .before .pre .0, omega arith, refl)
 
+-- From the entry that a turn reads back to the head of the loop.
+abbrev head : tie.After-read-jentry Inv-loop μ-loop → tie.At-loop Inv-loop μ-loop
+head c = c .before .before
+
 returns : tie.Need-returns Inv-loop μ-loop
-returns c = among-found _ _ _ _ _ _ _ (c .before .before .before .before .before .before .loop .inv .2) (c .before .before .before .before .before .loop-test .taken) _ _ _ _ (c .before .before .before .before .read-jentry .ensures) (c .before .before .before .payload-len .ensures) (c .before .before .slice .ensures) (c .before .is-same-bytes .ensures) (c .if1 .taken)
+returns c =
+    let turn = c .before in
+    let measured = turn .before .before in
+    let entry = measured .before in
+    among-found _ _ _ _ _ _ _ (head entry .loop .inv .2) (entry .before .loop-test .taken) _ _ _ _
+    (entry .read-jentry .ensures) (measured .payload-len .ensures) (turn .before .slice .ensures) (turn .is-same-bytes .ensures) (c .if1 .taken)
 
 loop-again : tie.Need-loop-again Inv-loop μ-loop
-loop-again c = (omega arith, omega (arith, c .before .before .before .payload-len .ensures, length-lt (c .before .before .before .before .read-jentry .result)), among-more _ _ _ _ _ _ _ (c .before .before .before .before .before .before .loop .inv .2) (c .before .before .before .before .before .loop-test .taken) _ _ _ _ (c .before .before .before .before .read-jentry .ensures) (c .before .before .before .payload-len .ensures) (c .before .before .slice .ensures) (c .before .is-same-bytes .ensures) (c .if1 .left))
+loop-again c =
+    let turn = c .before in
+    let measured = turn .before .before in
+    let entry = measured .before in (
+      omega arith,
+      omega (arith, measured .payload-len .ensures, length-lt (entry .read-jentry .result)),
+      among-more _ _ _ _ _ _ _ (head entry .loop .inv .2) (entry .before .loop-test .taken) _ _ _ _
+          (entry .read-jentry .ensures) (measured .payload-len .ensures) (turn .before .slice .ensures) (turn .is-same-bytes .ensures) (c .if1 .left),
+    )
 
 returns-2 : tie.Need-returns-2 Inv-loop μ-loop
 returns-2 c = among-end _ _ _ _ _ _ _ (c .before .loop .inv .2) (c .loop-test .left)

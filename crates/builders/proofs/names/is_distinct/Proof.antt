@@ -24,13 +24,32 @@ returns : tie.Need-returns Inv-loop μ-loop
 returns c = distinct-rising _ _ _ _ (c .before .is-rising .ensures) (c .if1 .taken)
 
 loop-holds : tie.Need-loop-holds Inv-loop μ-loop
-loop-holds c = (omega arith, omega arith, distinct-start (c .before .before .before .args .s .now) (c .before .before .before .args .start) (c .before .before .before .args .n))
+loop-holds c =
+    let start = c .before .before .before in
+    (omega arith, omega arith, distinct-start (start .args .s .now) (start .args .start) (start .args .n))
+
+-- From the entry that a turn reads back to the head of the loop.
+abbrev head : tie.After-read-jentry Inv-loop μ-loop → tie.At-loop Inv-loop μ-loop
+head c = c .before .before
 
 returns-2 : tie.Need-returns-2 Inv-loop μ-loop
-returns-2 c = distinct-twice _ _ _ _ _ (c .before .before .before .before .before .before .loop .inv .2) (c .before .before .before .before .before .loop-test .taken) _ _ _ _ (c .before .before .before .before .read-jentry .ensures) (c .before .before .before .payload-len .ensures) (c .before .before .slice .ensures) (c .before .is-among .ensures) (c .if2 .taken)
+returns-2 c =
+    let turn = c .before in
+    let measured = turn .before .before in
+    let entry = measured .before in
+    distinct-twice _ _ _ _ _ (head entry .loop .inv .2) (entry .before .loop-test .taken) _ _ _ _
+    (entry .read-jentry .ensures) (measured .payload-len .ensures) (turn .before .slice .ensures) (turn .is-among .ensures) (c .if2 .taken)
 
 loop-again : tie.Need-loop-again Inv-loop μ-loop
-loop-again c = (omega arith, omega (arith, c .before .before .before .payload-len .ensures, length-lt (c .before .before .before .before .read-jentry .result)), distinct-more _ _ _ _ _ (c .before .before .before .before .before .before .loop .inv .2) (c .before .before .before .before .before .loop-test .taken) _ _ _ _ (c .before .before .before .before .read-jentry .ensures) (c .before .before .before .payload-len .ensures) (c .before .before .slice .ensures) (c .before .is-among .ensures) (c .if2 .left))
+loop-again c =
+    let turn = c .before in
+    let measured = turn .before .before in
+    let entry = measured .before in (
+      omega arith,
+      omega (arith, measured .payload-len .ensures, length-lt (entry .read-jentry .result)),
+      distinct-more _ _ _ _ _ (head entry .loop .inv .2) (entry .before .loop-test .taken) _ _ _ _
+          (entry .read-jentry .ensures) (measured .payload-len .ensures) (turn .before .slice .ensures) (turn .is-among .ensures) (c .if2 .left),
+    )
 
 returns-3 : tie.Need-returns-3 Inv-loop μ-loop
 returns-3 c = distinct-end _ _ _ _ _ (c .before .loop .inv .2) (c .loop-test .left)

@@ -11,7 +11,8 @@ use Rattle.builders.proofs.search.put_members.Statement.{statement}
 use Rattle.builders.proofs.search.put_members.Tie as tie
 
 abbrev Inv-loop : tie.InvT-loop
-Inv-loop keys vals from count kept out₀ last₀ at₀ i₀ out last at i = Stored (name-in keys) (value-in vals) own-entry (kept-of kept 0 (members-at keys vals from count)) out₀ at₀ out last at i
+Inv-loop keys vals from count kept out₀ last₀ at₀ i₀ out last at i =
+    Stored (name-in keys) (value-in vals) own-entry (kept-of kept 0 (members-at keys vals from count)) out₀ at₀ out last at i
 
 abbrev μ-loop : tie.MeasureT-loop
 μ-loop keys vals from count kept out₀ last₀ at₀ i₀ out last at i = count - i
@@ -19,20 +20,49 @@ abbrev μ-loop : tie.MeasureT-loop
 loop-holds : tie.Need-loop-holds Inv-loop μ-loop
 loop-holds c = begins _ _ _ _ _ _ _
 
+-- Ways back: from where a member was found to the head of the loop, and from the head to the start.
+abbrev head : tie.After-next-member Inv-loop μ-loop → tie.At-loop Inv-loop μ-loop
+head c = c .before .before
+
+abbrev start : tie.At-loop Inv-loop μ-loop → tie.Start Inv-loop μ-loop
+start c = let entry = c .before .before in entry .before .before .before
+
+abbrev found : tie.After-put-member-arg Inv-loop μ-loop → tie.After-next-member Inv-loop μ-loop
+found c = c .before .before .before .before
+
+abbrev stored : tie.After-payload-at Inv-loop μ-loop → tie.After-put-member Inv-loop μ-loop
+stored c = c .before .before .before
+
 same-length : tie.Need-same-length Inv-loop μ-loop
-same-length c = c .before .before .before .before .loop .inv .as-long
+same-length c = head (c .before .before) .loop .inv .as-long
 
 returns : tie.Need-returns Inv-loop μ-loop
-returns c = ends-early _ _ _ _ _ _ _ _ _ _ (c .before .before .before .before .loop .inv) _ (c .before .before .next-member .ensures) (c .enum-told .given .1)
+returns c =
+    let search = c .before .before in
+    ends-early _ _ _ _ _ _ _ _ _ _ (head search .loop .inv) _ (search .next-member .ensures) (c .enum-told .given .1)
 
 put-member-requires : tie.Need-put-member-requires Inv-loop μ-loop
-put-member-requires c κs = let l = c .before .before .before .before .before .before .loop .inv in omega (arith, l .key-jentry, l .val-jentry, l .near-key, l .near-val, c .before .before .before .before .before .before .before .before .before .before .before .pre, c .before .before .before .before .before .loop-test .taken)
+put-member-requires c κs =
+    let h = head (found c) in
+    let l = h .loop .inv in
+    omega (arith, l .key-jentry, l .val-jentry, l .near-key, l .near-val, start h .pre, found c .before .loop-test .taken)
 
 add-i : tie.Need-add-i Inv-loop μ-loop
-add-i c = omega (arith, c .before .before .before .before .before .before .before .before .before .before .before .before .before .before .before .pre, c .before .before .before .before .before .before .before .before .before .loop-test .taken)
+add-i c =
+    let search = found (stored c .before) in
+    omega (arith, start (head search) .pre, search .before .loop-test .taken)
 
 loop-again : tie.Need-loop-again Inv-loop μ-loop
-loop-again c = goes _ _ _ _ _ _ _ _ _ _ (c .before .before .before .before .before .before .before .before .before .before .loop .inv) _ (c .before .before .before .before .before .before .before .before .next-member .ensures) _ _ _ _ (c .before .before .before .before .before .before .member .given .1) (c .before .before .before .put-member .ensures) (c .payload-at .ensures) (bytes-short (c .before .before .before .before .before .before .before .before .before .before .before .before .before .before .before .args .keys .now) (c .before .before .before .before .before .before .member .given .0 .0 .key)) (bytes-short (c .before .before .before .before .before .before .before .before .before .before .before .before .before .before .before .args .vals .now) (c .before .before .before .before .before .before .member .given .0 .0 .val))
+loop-again c =
+    let put = stored c in
+    let search = found (put .before) in
+    let told = put .before .before .before in
+    let member = told .member .given .0 .0 in
+    let h = head search in
+    let a = start h .args in
+    goes _ _ _ _ _ _ _ _ _ _ (h .loop .inv) _ (search .next-member .ensures) _ _ _ _ (told .member .given .1)
+    (put .put-member .ensures) (c .payload-at .ensures)
+    (bytes-short (a .keys .now) (member .key)) (bytes-short (a .vals .now) (member .val))
 
 same-length-2 : tie.Need-same-length-2 Inv-loop μ-loop
 same-length-2 c = c .before .loop .inv .as-long
