@@ -9,7 +9,7 @@ use lib.Bits.{bitOr, or-shifted}
 use lib.ListN.{length}
 use borrow.Author.Tests.{le-leb, lt-leb}
 use native.Mathlib.Decide.{decLe}
-use Rattle.layout.specs.Bytes.{Bytes, Octets}
+use Rattle.layout.specs.Bytes.{Bytes}
 use Rattle.layout.specs.Answer.{gives}
 use Rattle.layout.specs.Tree.{Tree, null, boolean, number, string, extension, array, object, none, item}
 use Rattle.layout.specs.Read.{header, read}
@@ -30,7 +30,7 @@ use Rattle.builders.specs.Join.{given-count, Lies, as-one, joined}
 use Rattle.builders.specs.Room.{sized}
 use Rattle.builders.specs.declared.join.Given.{Given}
 use Rattle.builders.specs.declared.join.Given.the-variants.{Table, Whole}
-use Rattle.builders.proofs.Knowns.{Known, known}
+use Rattle.builders.proofs.Knowns.{Known, known, Both-octets}
 use Rattle.builders.proofs.Joins.{Gives, few, joined-encode}
 use Rattle.builders.proofs.Appends.{array-lies, items-given, one-lies, one-given, depth-join}
 use Rattle.builders.proofs.Twos.{two-deep, two-sized}
@@ -99,13 +99,24 @@ fits-items (array ts) d e = omega arith
 fits-items (object ms) d e = omega (arith, whole-fits (object ms) e)
 
 -- Two readable records, not both objects.
-module _ (l r o : Bytes) (room : ℕ) (ol : Octets l) (or : Octets r) (hl : checked (read l) ≡ Readable) (hr : checked (read r) ≡ Readable)
-    (np : NoPair (header l) (header r)) where
+pub record Apart (l r : Bytes) : Type 0 where
+  pub octets : Both-octets l r
+  pub left : checked (read l) ≡ Readable
+  pub right : checked (read r) ≡ Readable
+  pub no-pair : NoPair (header l) (header r)
+
+-- And what each gives to the array.
+pub record Offered (l r : Bytes) (g h : Given) : Type 0 where
+  pub before : Apart l r
+  pub left : g ≡ as-given (header l)
+  pub right : h ≡ as-given (header r)
+
+module _ {l r : Bytes} (s : Apart l r) where
   left : (t : Tree) × Known l t
-  left = let w = readable-gives (read l) Readable (sym hl) refl in (w .0, known l (w .0) ol (w .1))
+  left = let w = readable-gives (read l) Readable (sym (s .left)) refl in (w .0, known l (w .0) (s .octets .left) (w .1))
 
   right : (u : Tree) × Known r u
-  right = let w = readable-gives (read r) Readable (sym hr) refl in (w .0, known r (w .0) or (w .1))
+  right = let w = readable-gives (read r) Readable (sym (s .right)) refl in (w .0, known r (w .0) (s .octets .right) (w .1))
 
   abbrev both : Tree
   both = array (join (as-items (left .0)) (as-items (right .0)))
@@ -114,56 +125,67 @@ module _ (l r o : Bytes) (room : ℕ) (ol : Octets l) (or : Octets r) (hl : chec
   gives-both = concat-items (left .0) (right .0) (⊎-elim two (λ h. h) (objects-or (left .0) (right .0)))
     where
       two : TwoObjects (left .0) (right .0) → (members-in (left .0) ≡ nothing) ⊎ (members-in (right .0) ≡ nothing)
-      two q = absurd (np _ _ (left .1 .head ∙ ap head-of (q .left-is)) (right .1 .head ∙ ap head-of (q .right-is)))
+      two q = absurd (s .no-pair _ _ (left .1 .head ∙ ap head-of (q .left-is)) (right .1 .head ∙ ap head-of (q .right-is)))
 
-  module _ (g h : Given) (eg : g ≡ as-given (header l)) (eh : h ≡ as-given (header r)) where
-    left-head : g ≡ as-given (head-of (left .0))
-    left-head = eg ∙ ap as-given (left .1 .head)
+module _ {l r : Bytes} {g h : Given} (s : Offered l r g h) where
+  abbrev lt : (t : Tree) × Known l t
+  lt = left (s .before)
 
-    right-head : h ≡ as-given (head-of (right .0))
-    right-head = eh ∙ ap as-given (right .1 .head)
+  abbrev rt : (u : Tree) × Known r u
+  rt = right (s .before)
 
-    left-offers : Lies l g × Gives l g (as-items (left .0))
-    left-offers = offers l g (left .0) (left .1) left-head
+  left-head : g ≡ as-given (head-of (lt .0))
+  left-head = s .left ∙ ap as-given (lt .1 .head)
 
-    right-offers : Lies r h × Gives r h (as-items (right .0))
-    right-offers = offers r h (right .0) (right .1) right-head
+  right-head : h ≡ as-given (head-of (rt .0))
+  right-head = s .right ∙ ap as-given (rt .1 .head)
 
-    pub items-lie : Lies l g × Lies r h
-    items-lie = (left-offers .0, right-offers .0)
+  left-offers : Lies l g × Gives l g (as-items (lt .0))
+  left-offers = offers l g (lt .0) (lt .1) left-head
 
-    pub few-items : (m n : ℕ) → m ≡ given-count g → n ≡ given-count h → m + n ≤ 32768
-    few-items m n em en = omega (arith, few l g (left-offers .0), few r h (right-offers .0))
+  right-offers : Lies r h × Gives r h (as-items (rt .0))
+  right-offers = offers r h (rt .0) (rt .1) right-head
 
-    module _ (x : Nesting) (hx : x ≡ nesting (read l)) (d : Bool) (hd : d ≡ is-deep g x) where
-      left-test : (b : Bool) → d ≡ b → is-deep (as-given (head-of (left .0))) (nesting (gives (left .0))) ≡ b
-      left-test b q = ap₂ is-deep (sym left-head) (ap nesting (sym (left .1 .reads)) ∙ sym hx) ∙ sym hd ∙ q
+  pub items-lie : Lies l g × Lies r h
+  items-lie = (left-offers .0, right-offers .0)
 
-      pub left-deep : d ≡ true → EndedIn (Refused Result) o o (on-two concat l r room)
-      left-deep q =
-          two-deep concat l r o room (left .0) (left .1 .reads) (right .0) (right .1 .reads) both gives-both
-          (omega (arith, deep-items (left .0) (left-test true q), depth-join (as-items (left .0)) (as-items (right .0))))
+  pub few-items : {m n : ℕ} → m ≡ given-count g → n ≡ given-count h → m + n ≤ 32768
+  few-items em en = omega (arith, few l g (left-offers .0), few r h (right-offers .0))
 
-      module _ (y : Nesting) (hy : y ≡ nesting (read r)) (d₂ : Bool) (hd₂ : d₂ ≡ is-deep h y) where
-        right-test : (b : Bool) → d₂ ≡ b → is-deep (as-given (head-of (right .0))) (nesting (gives (right .0))) ≡ b
-        right-test b q = ap₂ is-deep (sym right-head) (ap nesting (sym (right .1 .reads)) ∙ sym hy) ∙ sym hd₂ ∙ q
+  -- A record whose own level is too deep, by the test of the code: `d` is what `is_deep` answered.
+  left-test : {x : Nesting} → x ≡ nesting (read l) → {d : Bool} → d ≡ is-deep g x → {b : Bool} → d ≡ b
+      → is-deep (as-given (head-of (lt .0))) (nesting (gives (lt .0))) ≡ b
+  left-test hx hd q = ap₂ is-deep (sym left-head) (ap nesting (sym (lt .1 .reads)) ∙ sym hx) ∙ sym hd ∙ q
 
-        pub right-deep : d₂ ≡ true → EndedIn (Refused Result) o o (on-two concat l r room)
-        right-deep q =
-            two-deep concat l r o room (left .0) (left .1 .reads) (right .0) (right .1 .reads) both gives-both
-            (omega (arith, deep-items (right .0) (right-test true q), depth-join (as-items (left .0)) (as-items (right .0))))
+  right-test : {y : Nesting} → y ≡ nesting (read r) → {d : Bool} → d ≡ is-deep h y → {b : Bool} → d ≡ b
+      → is-deep (as-given (head-of (rt .0))) (nesting (gives (rt .0))) ≡ b
+  right-test hy hd q = ap₂ is-deep (sym right-head) (ap nesting (sym (rt .1 .reads)) ∙ sym hy) ∙ sym hd ∙ q
 
-        pub items-end : d ≡ false → d₂ ≡ false → (m n : ℕ) → m ≡ given-count g → n ≡ given-count h → (e : Ending) (o′ : Bytes)
-            → EndedIn e o o′ (sized room (joined (bitOr (2 ^ 31) (m + n)) l g r h)) → EndedIn e o o′ (on-two concat l r room)
-        items-end q q₂ m n em en e o′ w =
-            two-sized concat l r o room (left .0) (left .1 .reads) (right .0) (right .1 .reads) both gives-both e o′
-            (joined (bitOr (2 ^ 31) (m + n)) l g r h)
-            (omega (
-              arith,
-              fits-items (left .0) (left .1 .deep) (left-test false q),
-              fits-items (right .0) (right .1 .deep) (right-test false q₂),
-              depth-join (as-items (left .0)) (as-items (right .0)),
-            ))
-            (joined-encode (bitOr (2 ^ 31) (m + n)) l g (as-items (left .0)) r h (as-items (right .0)) (left-offers .1) (right-offers .1)
-            (or-shifted 1 31 (m + n) (omega (arith, few-items m n em en)) ∙ rw (em, en)))
-            w
+  pub left-deep : {x : Nesting} → x ≡ nesting (read l) → {d : Bool} → d ≡ is-deep g x → d ≡ true
+      → {o : Bytes} (room : ℕ) → EndedIn (Refused Result) o o (on-two concat l r room)
+  left-deep hx hd q {o} room =
+      two-deep concat l r o room (lt .0) (lt .1 .reads) (rt .0) (rt .1 .reads) (both (s .before)) (gives-both (s .before))
+      (omega (arith, deep-items (lt .0) (left-test hx hd q), depth-join (as-items (lt .0)) (as-items (rt .0))))
+
+  pub right-deep : {y : Nesting} → y ≡ nesting (read r) → {d : Bool} → d ≡ is-deep h y → d ≡ true
+      → {o : Bytes} (room : ℕ) → EndedIn (Refused Result) o o (on-two concat l r room)
+  right-deep hy hd q {o} room =
+      two-deep concat l r o room (lt .0) (lt .1 .reads) (rt .0) (rt .1 .reads) (both (s .before)) (gives-both (s .before))
+      (omega (arith, deep-items (rt .0) (right-test hy hd q), depth-join (as-items (lt .0)) (as-items (rt .0))))
+
+  pub items-end : {x y : Nesting} → x ≡ nesting (read l) → y ≡ nesting (read r)
+      → {d₁ d₂ : Bool} → d₁ ≡ is-deep g x → d₂ ≡ is-deep h y → d₁ ≡ false → d₂ ≡ false
+      → {m n : ℕ} → m ≡ given-count g → n ≡ given-count h → {e : Ending} {o o′ : Bytes} (room : ℕ)
+      → EndedIn e o o′ (sized room (joined (bitOr (2 ^ 31) (m + n)) l g r h)) → EndedIn e o o′ (on-two concat l r room)
+  items-end hx hy hd₁ hd₂ q₁ q₂ {m} {n} em en {e} {o} {o′} room w =
+      two-sized concat l r o room (lt .0) (lt .1 .reads) (rt .0) (rt .1 .reads) (both (s .before)) (gives-both (s .before)) e o′
+      (joined (bitOr (2 ^ 31) (m + n)) l g r h)
+      (omega (
+        arith,
+        fits-items (lt .0) (lt .1 .deep) (left-test hx hd₁ q₁),
+        fits-items (rt .0) (rt .1 .deep) (right-test hy hd₂ q₂),
+        depth-join (as-items (lt .0)) (as-items (rt .0)),
+      ))
+      (joined-encode (bitOr (2 ^ 31) (m + n)) l g (as-items (lt .0)) r h (as-items (rt .0)) (left-offers .1) (right-offers .1)
+      (or-shifted 1 31 (m + n) (omega (arith, few-items em en)) ∙ rw (em, en)))
+      w

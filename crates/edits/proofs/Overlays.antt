@@ -31,6 +31,7 @@ use Rattle.builders.specs.declared.room.Room.{Room}
 use Rattle.builders.specs.declared.room.Room.the-variants.{Serves, Refused as NoRoom}
 use Rattle.layout.specs.declared.parts.MemberAt.{MemberAt}
 use Rattle.layout.specs.declared.parts.Places.{Places}
+use Rattle.builders.proofs.Knowns.{Both-octets}
 use Rattle.builders.proofs.Stands.{Stand, stand-sorted}
 use Rattle.builders.proofs.Rooms.{sized-refused, sized-done}
 use Rattle.builders.proofs.Twos.{two-edit, two-sized}
@@ -38,13 +39,14 @@ use Rattle.edits.specs.Concat.{concat}
 use Rattle.layout.specs.Parts.{members-of}
 use Rattle.edits.specs.Members.{places-for}
 use Rattle.edits.specs.Merge.{Objects, in-a-row, merged, behind-all}
+use Rattle.edits.specs.declared.members.Sizes.{Sizes}
 use Rattle.edits.proofs.Concats.{concat-given, concat-refused, concat-depth, concat-size}
 use Rattle.edits.proofs.Spots.{texts-names}
 use Rattle.edits.proofs.Tables.{object-names}
 use Rattle.edits.proofs.Withouts.{object-word}
 use Rattle.edits.proofs.Sorteds.{Object-at, stand-sizes, stand-woven}
 use Rattle.edits.proofs.Moves.{both-stand}
-use Rattle.edits.proofs.Merges.{objects-at}
+use Rattle.edits.proofs.Merges.{objects-at, few-both}
 
 object-reads : (s : Bytes) (n : ℕ) → Octets s → (w : Object-at s n) → read s ≡ gives (object (w .members))
 object-reads s n o w =
@@ -65,12 +67,30 @@ woven-empty name value entry a b c d (m ∷ ms) =
 abbrev nowhere : Places
 nowhere = record { «key_jentry» = 0; «val_jentry» = 0; key = 0; val = 0 }
 
-module _ (l : Bytes) (m : ℕ) (r : Bytes) (n : ℕ) (ol : Octets l) (or : Octets r) (h : Objects l m r n) where
+-- Two objects of bytes: the left one has m members, the right one n.
+pub record Overlaid (l : Bytes) (m : ℕ) (r : Bytes) (n : ℕ) : Type 0 where
+  pub octets : Both-octets l r
+  pub objects : Objects l m r n
+
+-- What the writer left when it was lent no bytes: the places behind the members of both, and nothing stored.
+abbrev pub Measured : Bytes → ℕ → Bytes → ℕ → Places → Bytes → Type 0
+Measured l m r n end e =
+    (end ≡ behind-all l m r n nowhere)
+    × (e ≡ woven (name-in (r ++ l)) (value-in (r ++ l)) own-entry [] 0 0 0 0 (merged l m r n))
+
+-- How long the object is by these places.
+abbrev pub length-by : Places → ℕ
+length-by end = 4 + 4 * (end .«key_jentry» / 4 + end .«key_jentry» / 4) + end .key + end .val
+
+abbrev pub sizes-by : Places → Sizes
+sizes-by end = record { count = end .«key_jentry» / 4; keys = end .key; vals = end .val }
+
+module _ {l : Bytes} {m : ℕ} {r : Bytes} {n : ℕ} (s : Overlaid l m r n) where
   left : Object-at l m
-  left = objects-at l m r n ol or h .0
+  left = objects-at l m r n (s .octets .left) (s .octets .right) (s .objects) .0
 
   right : Object-at r n
-  right = objects-at l m r n ol or h .1
+  right = objects-at l m r n (s .octets .left) (s .octets .right) (s .objects) .1
 
   abbrev ls : Members
   ls = left .members
@@ -107,20 +127,17 @@ module _ (l : Bytes) (m : ℕ) (r : Bytes) (n : ℕ) (ol : Octets l) (or : Octet
         right .short,
       )
 
-  -- What was measured, on no bytes.
-  module _ (end : Places) (e : Bytes)
-      (he : (end ≡ behind-all l m r n nowhere)
-      × (e ≡ woven (name-in (r ++ l)) (value-in (r ++ l)) own-entry [] 0 0 0 0 (merged l m r n))) where
-    abbrev count : ℕ
-    count = end .«key_jentry» / 4
+  pub few-members : m + n ≤ 16384
+  few-members = few-both l m r n (left, right)
 
-    counted : count ≡ length (merged l m r n)
+  module _ {end : Places} {e : Bytes} (he : Measured l m r n end e) where
+    counted : end .«key_jentry» / 4 ≡ length (merged l m r n)
     counted = omega (arith, ap (λ (p : Places). p .«key_jentry») (he .0))
 
     keyed : end .key ≡ length (column (name-in (r ++ l)) (merged l m r n))
     keyed = omega (arith, ap (λ (p : Places). p .key) (he .0))
 
-    measured : 4 + 4 * (count + count) + end .key + end .val ≡ length result
+    measured : length-by end ≡ length result
     measured =
         omega (
           arith,
@@ -130,61 +147,59 @@ module _ (l : Bytes) (m : ℕ) (r : Bytes) (n : ℕ) (ol : Octets l) (or : Octet
           stand-sizes (name-in (r ++ l)) (value-in (r ++ l)) own-entry (merged l m r n) all standing,
         )
 
-    pub measured-short : 4 + 4 * (end .«key_jentry» / 4 + end .«key_jentry» / 4) + end .key + end .val ≤ 131072
+    pub measured-short : length-by end ≤ 131072
     measured-short = omega (arith, measured, result-short)
 
     -- The places for the result are near.
-    pub measured-near : (to : Places) → to ≡ places-for (record { count = end .«key_jentry» / 4; keys = end .key; vals = end .val }) 0
+    pub measured-near : {to : Places} → to ≡ places-for (sizes-by end) 0
         → (to .«key_jentry» < 2 ^ 32) × (to .«val_jentry» < 2 ^ 32) × (to .key < 2 ^ 32) × (to .val < 2 ^ 32)
-    measured-near to e =
+    measured-near et =
         let b = measured-short in
-        rw e (omega arith, omega arith, omega arith, omega arith)
+        rw et (omega arith, omega arith, omega arith, omega arith)
 
     untouched : (o : Bytes) → e ++ o ≡ o
     untouched o = ap (λ (x : Bytes). x ++ o) (he .1 ∙ woven-empty (name-in (r ++ l)) (value-in (r ++ l)) own-entry 0 0 0 0 (merged l m r n))
 
-  -- The numbers, in their order.
-  module _ (o : Bytes) (room : ℕ) (d : Bool) (hd : d ≡ distinct (texts (parts-at r 0 (start-of (n + n)) n))) where
-    told : (b : Bool) → d ≡ b → distinct (names rs) ≡ b
-    told b q = ap distinct (sym right-names) ∙ sym hd ∙ q
+  -- The numbers, in their order. First the names of the right object: `d` is what `is_distinct` answered.
+  module _ {d : Bool} (hd : d ≡ distinct (texts (parts-at r 0 (start-of (n + n)) n))) where
+    told : {b : Bool} → d ≡ b → distinct (names rs) ≡ b
+    told q = ap distinct (sym right-names) ∙ sym hd ∙ q
 
-    pub overlay-repeated : d ≡ false → EndedIn (Refused Repeated) o o (on-two concat l r room)
-    overlay-repeated q =
-        two-edit concat l r o room (object ls) (object-reads l m ol left) (object rs) (object-reads r n or right) Repeated
-        (concat-refused ls rs (told false q))
+    pub overlay-repeated : d ≡ false → {o : Bytes} (room : ℕ) → EndedIn (Refused Repeated) o o (on-two concat l r room)
+    overlay-repeated q {o} room =
+        two-edit concat l r o room (object ls) (object-reads l m (s .octets .left) left) (object rs)
+        (object-reads r n (s .octets .right) right) Repeated (concat-refused ls rs (told q))
 
-    module _ (q : d ≡ true) (end : Places) (e : Bytes)
-        (he : (end ≡ behind-all l m r n nowhere)
-        × (e ≡ woven (name-in (r ++ l)) (value-in (r ++ l)) own-entry [] 0 0 0 0 (merged l m r n))) where
-      abbrev len : ℕ
-      len = 4 + 4 * (end .«key_jentry» / 4 + end .«key_jentry» / 4) + end .key + end .val
-
+    -- Then the length of the result, with the buffer `o` before the call.
+    module _ (q : d ≡ true) {end : Places} {e : Bytes} (he : Measured l m r n end e) (o : Bytes) (room : ℕ) where
       sized-ends : (x : Ending) (o′ : Bytes) → EndedIn x o o′ (sized room result) → EndedIn x o o′ (on-two concat l r room)
       sized-ends x o′ w =
-          two-sized concat l r o room (object ls) (object-reads l m ol left) (object rs) (object-reads r n or right) (object all)
-          (concat-given ls rs (told true q)) x o′ result
+          two-sized concat l r o room (object ls) (object-reads l m (s .octets .left) left) (object rs)
+          (object-reads r n (s .octets .right) right) (object all)
+          (concat-given ls rs (told q)) x o′ result
           (concat-depth ls rs 64 (left .contained .deep) (right .contained .deep)) refl w
 
-      module _ (x : Room) (hx : x ≡ room-for len room) where
-        pub overlay-refused : (y : Refusal) → x ≡ NoRoom y → EndedIn (Refused y) o (e ++ o) (on-two concat l r room)
-        overlay-refused y p =
-            rw (untouched end e he o)
-            (sized-ends (Refused y) o (sized-refused result o room len (measured end e he) x hx y p))
+      pub overlay-refused : {x : Room} → x ≡ room-for (length-by end) room → {y : Refusal} → x ≡ NoRoom y
+          → EndedIn (Refused y) o (e ++ o) (on-two concat l r room)
+      overlay-refused {x} hx {y} p =
+          rw (untouched he o)
+          (sized-ends (Refused y) o (sized-refused result o room (length-by end) (measured he) x hx y p))
 
-        module _ (v : ℕ) (to after : Places) (o₁ o₂ : Bytes) (ev : v ≡ bitOr (2 ^ 30) (end .«key_jentry» / 4)) (e₁ : o₁ ≡ patch (e ++ o) 0 (be32 v))
-            (et : to ≡ places-for (record { count = end .«key_jentry» / 4; keys = end .key; vals = end .val }) 0)
-            (e₂ : (after ≡ behind-all l m r n to)
-            × (o₂ ≡ woven (name-in (r ++ l)) (value-in (r ++ l)) own-entry o₁ (to .«key_jentry») (to .«val_jentry») (to .key) (to .val) (merged l m r n))) where
-          written : o₂ ≡ patch o 0 result
-          written =
-              let w : v ≡ 2 ^ 30 + end .«key_jentry» / 4 = ev ∙ object-word (end .«key_jentry» / 4) (omega (arith, measured-short end e he)) in
-              rw (← untouched end e he o)
-              (stand-woven (name-in (r ++ l)) (value-in (r ++ l)) own-entry (merged l m r n) all standing (e ++ o) o₁ o₂ 0
-              (record { count = end .«key_jentry» / 4; keys = end .key; vals = end .val }) (counted end e he) (keyed end e he)
-              (rw w at e₁) (rw et at (e₂ .1)))
+      -- What the header and the second run of the writer stored.
+      module _ {v : ℕ} {to after : Places} {o₁ o₂ : Bytes} (ev : v ≡ bitOr (2 ^ 30) (end .«key_jentry» / 4))
+          (e₁ : o₁ ≡ patch (e ++ o) 0 (be32 v)) (et : to ≡ places-for (sizes-by end) 0)
+          (e₂ : (after ≡ behind-all l m r n to)
+          × (o₂ ≡ woven (name-in (r ++ l)) (value-in (r ++ l)) own-entry o₁ (to .«key_jentry») (to .«val_jentry») (to .key) (to .val) (merged l m r n))) where
+        written : o₂ ≡ patch o 0 result
+        written =
+            let w : v ≡ 2 ^ 30 + end .«key_jentry» / 4 = ev ∙ object-word (end .«key_jentry» / 4) (omega (arith, measured-short he)) in
+            rw (← untouched he o)
+            (stand-woven (name-in (r ++ l)) (value-in (r ++ l)) own-entry (merged l m r n) all standing (e ++ o) o₁ o₂ 0
+            (sizes-by end) (counted he) (keyed he) (rw w at e₁) (rw et at (e₂ .1)))
 
-          pub overlay-length : length o₂ ≡ length o
-          overlay-length = ap length written ∙ length-patch o 0 result
+        pub overlay-length : length o₂ ≡ length o
+        overlay-length = ap length written ∙ length-patch o 0 result
 
-          pub overlay-done : x ≡ Serves → EndedIn (Done len) o o₂ (on-two concat l r room)
-          overlay-done p = sized-ends (Done len) o₂ (sized-done result o room len (measured end e he) x hx o₂ p written)
+        pub overlay-done : {x : Room} → x ≡ room-for (length-by end) room → x ≡ Serves
+            → EndedIn (Done (length-by end)) o o₂ (on-two concat l r room)
+        overlay-done {x} hx p = sized-ends (Done (length-by end)) o₂ (sized-done result o room (length-by end) (measured he) x hx o₂ p written)

@@ -1,85 +1,168 @@
 -- `edits::merge::write_merged` meets its contract.
+use Prim.Native.Nat.{_+_, _≤_}
 use native.Mathlib.Omega.{arith}
-use mathlib.Core.Path.{refl, ap₂}
+use mathlib.Core.Path.{_≡_, refl, ap₂}
 use mathlib.Core.Bool.{_&&_}
 use Rattle.layout.proofs.Words.{octets-of}
-use Rattle.edits.proofs.Merges.{objects-at, few-both}
-use Rattle.edits.proofs.Overlays.{measured-short, measured-near, overlay-repeated, overlay-refused, overlay-length, overlay-done}
+use Rattle.edits.proofs.Overlays.{Overlaid, length-by, few-members, measured-short, measured-near}
+use Rattle.edits.proofs.Overlays.{overlay-repeated, overlay-refused, overlay-length, overlay-done}
 use borrow.Author.Needs.{needs}
 use Rattle.edits.proofs.merge.write_merged.Statement.{statement}
 use Rattle.edits.proofs.merge.write_merged.Tie as tie
 
+-- Ways back, each to a place that matters: the start, the test of the names, the measuring run, its sizes, the room for them, the
+-- header stored.
+abbrev start : tie.After-slice-known → tie.Start
+start c = c .before .before .before
+
+abbrev to-entry : tie.Then1 → tie.After-slice-known
+to-entry c = c .before .before
+
+abbrev to-distinct : tie.After-put-both → tie.Then1
+to-distinct c = c .before .before .before .before
+
+abbrev to-measured : tie.After-struct-known2 → tie.After-put-both
+to-measured c = c .before .before .before .before
+
+abbrev to-sizes : tie.After-enum-told → tie.After-struct-known2
+to-sizes c = let asked = c .before .before in asked .before .before .before
+
+abbrev to-served : tie.After-put-u32 → tie.After-enum-told
+to-served c = c .before .before .before
+
+abbrev to-header : tie.After-places-for → tie.After-put-u32
+to-header c = c .before .before .before .before
+
+-- What is known from the start.
+overlaid : (c : tie.After-slice-known)
+    → Overlaid (start c .args .left .now) (start c .args .m) (start c .args .right .now) (start c .args .n)
+overlaid c =
+    record {
+      octets = record {
+        left = octets-of (start c .args .left .now) (λ i. omega (arith, c .before .before .shared-slice-known .given i));
+        right = octets-of (start c .args .right .now) (λ i. omega (arith, c .before .shared-slice-known2 .given i));
+      };
+      objects = start c .pre;
+    }
+
+few : (c : tie.After-slice-known) → start c .args .m + start c .args .n ≤ 16384
+few c = few-members (overlaid c)
+
+-- What the measuring run shows.
+short : (c : tie.After-put-both) → length-by (c .put-both .result) ≤ 131072
+short c = measured-short (overlaid (to-entry (to-distinct c))) (c .put-both .ensures)
+
 add-is-distinct : tie.Need-add-is-distinct
-add-is-distinct c = omega (arith, few-both (c .before .before .before .args .left .now) (c .before .before .before .args .m) (c .before .before .before .args .right .now) (c .before .before .before .args .n) (objects-at (c .before .before .before .args .left .now) (c .before .before .before .args .m) (c .before .before .before .args .right .now) (c .before .before .before .args .n) (octets-of (c .before .before .before .args .left .now) (λ i. omega (arith, c .before .before .shared-slice-known .given i))) (octets-of (c .before .before .before .args .right .now) (λ i. omega (arith, c .before .shared-slice-known2 .given i))) (c .before .before .before .pre)))
+add-is-distinct c = omega (arith, few c)
 
 mul-is-distinct : tie.Need-mul-is-distinct
-mul-is-distinct c = omega (arith, few-both (c .before .before .before .args .left .now) (c .before .before .before .args .m) (c .before .before .before .args .right .now) (c .before .before .before .args .n) (objects-at (c .before .before .before .args .left .now) (c .before .before .before .args .m) (c .before .before .before .args .right .now) (c .before .before .before .args .n) (octets-of (c .before .before .before .args .left .now) (λ i. omega (arith, c .before .before .shared-slice-known .given i))) (octets-of (c .before .before .before .args .right .now) (λ i. omega (arith, c .before .shared-slice-known2 .given i))) (c .before .before .before .pre)))
+mul-is-distinct c = omega (arith, few c)
 
 add-is-distinct-2 : tie.Need-add-is-distinct-2
-add-is-distinct-2 c = omega (arith, few-both (c .before .before .before .args .left .now) (c .before .before .before .args .m) (c .before .before .before .args .right .now) (c .before .before .before .args .n) (objects-at (c .before .before .before .args .left .now) (c .before .before .before .args .m) (c .before .before .before .args .right .now) (c .before .before .before .args .n) (octets-of (c .before .before .before .args .left .now) (λ i. omega (arith, c .before .before .shared-slice-known .given i))) (octets-of (c .before .before .before .args .right .now) (λ i. omega (arith, c .before .shared-slice-known2 .given i))) (c .before .before .before .pre)))
+add-is-distinct-2 c = omega (arith, few c)
 
 is-distinct-requires : tie.Need-is-distinct-requires
-is-distinct-requires c κs = let f = few-both (c .before .before .before .args .left .now) (c .before .before .before .args .m) (c .before .before .before .args .right .now) (c .before .before .before .args .n) (objects-at (c .before .before .before .args .left .now) (c .before .before .before .args .m) (c .before .before .before .args .right .now) (c .before .before .before .args .n) (octets-of (c .before .before .before .args .left .now) (λ i. omega (arith, c .before .before .shared-slice-known .given i))) (octets-of (c .before .before .before .args .right .now) (λ i. omega (arith, c .before .shared-slice-known2 .given i))) (c .before .before .before .pre)) in (omega arith, omega arith)
+is-distinct-requires c κs = omega (arith, few c)
 
 add-is-rising : tie.Need-add-is-rising
-add-is-rising c = omega (arith, few-both (c .before .before .before .before .before .args .left .now) (c .before .before .before .before .before .args .m) (c .before .before .before .before .before .args .right .now) (c .before .before .before .before .before .args .n) (objects-at (c .before .before .before .before .before .args .left .now) (c .before .before .before .before .before .args .m) (c .before .before .before .before .before .args .right .now) (c .before .before .before .before .before .args .n) (octets-of (c .before .before .before .before .before .args .left .now) (λ i. omega (arith, c .before .before .before .before .shared-slice-known .given i))) (octets-of (c .before .before .before .before .before .args .right .now) (λ i. omega (arith, c .before .before .before .shared-slice-known2 .given i))) (c .before .before .before .before .before .pre)))
+add-is-rising c = omega (arith, few (to-entry c))
 
 mul-is-rising : tie.Need-mul-is-rising
-mul-is-rising c = omega (arith, few-both (c .before .before .before .before .before .args .left .now) (c .before .before .before .before .before .args .m) (c .before .before .before .before .before .args .right .now) (c .before .before .before .before .before .args .n) (objects-at (c .before .before .before .before .before .args .left .now) (c .before .before .before .before .before .args .m) (c .before .before .before .before .before .args .right .now) (c .before .before .before .before .before .args .n) (octets-of (c .before .before .before .before .before .args .left .now) (λ i. omega (arith, c .before .before .before .before .shared-slice-known .given i))) (octets-of (c .before .before .before .before .before .args .right .now) (λ i. omega (arith, c .before .before .before .shared-slice-known2 .given i))) (c .before .before .before .before .before .pre)))
+mul-is-rising c = omega (arith, few (to-entry c))
 
 add-is-rising-2 : tie.Need-add-is-rising-2
-add-is-rising-2 c = omega (arith, few-both (c .before .before .before .before .before .args .left .now) (c .before .before .before .before .before .args .m) (c .before .before .before .before .before .args .right .now) (c .before .before .before .before .before .args .n) (objects-at (c .before .before .before .before .before .args .left .now) (c .before .before .before .before .before .args .m) (c .before .before .before .before .before .args .right .now) (c .before .before .before .before .before .args .n) (octets-of (c .before .before .before .before .before .args .left .now) (λ i. omega (arith, c .before .before .before .before .shared-slice-known .given i))) (octets-of (c .before .before .before .before .before .args .right .now) (λ i. omega (arith, c .before .before .before .shared-slice-known2 .given i))) (c .before .before .before .before .before .pre)))
+add-is-rising-2 c = omega (arith, few (to-entry c))
 
 is-rising-requires : tie.Need-is-rising-requires
-is-rising-requires c κs = let f = few-both (c .before .before .before .before .before .args .left .now) (c .before .before .before .before .before .args .m) (c .before .before .before .before .before .args .right .now) (c .before .before .before .before .before .args .n) (objects-at (c .before .before .before .before .before .args .left .now) (c .before .before .before .before .before .args .m) (c .before .before .before .before .before .args .right .now) (c .before .before .before .before .before .args .n) (octets-of (c .before .before .before .before .before .args .left .now) (λ i. omega (arith, c .before .before .before .before .shared-slice-known .given i))) (octets-of (c .before .before .before .before .before .args .right .now) (λ i. omega (arith, c .before .before .before .shared-slice-known2 .given i))) (c .before .before .before .before .before .pre)) in (omega arith, omega arith)
+is-rising-requires c κs = omega (arith, few (to-entry c))
 
 add-is-rising-3 : tie.Need-add-is-rising-3
-add-is-rising-3 c = omega (arith, few-both (c .before .before .before .before .before .before .args .left .now) (c .before .before .before .before .before .before .args .m) (c .before .before .before .before .before .before .args .right .now) (c .before .before .before .before .before .before .args .n) (objects-at (c .before .before .before .before .before .before .args .left .now) (c .before .before .before .before .before .before .args .m) (c .before .before .before .before .before .before .args .right .now) (c .before .before .before .before .before .before .args .n) (octets-of (c .before .before .before .before .before .before .args .left .now) (λ i. omega (arith, c .before .before .before .before .before .shared-slice-known .given i))) (octets-of (c .before .before .before .before .before .before .args .right .now) (λ i. omega (arith, c .before .before .before .before .shared-slice-known2 .given i))) (c .before .before .before .before .before .before .pre)))
+add-is-rising-3 c = omega (arith, few (to-entry (c .before)))
 
 mul-is-rising-2 : tie.Need-mul-is-rising-2
-mul-is-rising-2 c = omega (arith, few-both (c .before .before .before .before .before .before .args .left .now) (c .before .before .before .before .before .before .args .m) (c .before .before .before .before .before .before .args .right .now) (c .before .before .before .before .before .before .args .n) (objects-at (c .before .before .before .before .before .before .args .left .now) (c .before .before .before .before .before .before .args .m) (c .before .before .before .before .before .before .args .right .now) (c .before .before .before .before .before .before .args .n) (octets-of (c .before .before .before .before .before .before .args .left .now) (λ i. omega (arith, c .before .before .before .before .before .shared-slice-known .given i))) (octets-of (c .before .before .before .before .before .before .args .right .now) (λ i. omega (arith, c .before .before .before .before .shared-slice-known2 .given i))) (c .before .before .before .before .before .before .pre)))
+mul-is-rising-2 c = omega (arith, few (to-entry (c .before)))
 
 add-is-rising-4 : tie.Need-add-is-rising-4
-add-is-rising-4 c = omega (arith, few-both (c .before .before .before .before .before .before .args .left .now) (c .before .before .before .before .before .before .args .m) (c .before .before .before .before .before .before .args .right .now) (c .before .before .before .before .before .before .args .n) (objects-at (c .before .before .before .before .before .before .args .left .now) (c .before .before .before .before .before .before .args .m) (c .before .before .before .before .before .before .args .right .now) (c .before .before .before .before .before .before .args .n) (octets-of (c .before .before .before .before .before .before .args .left .now) (λ i. omega (arith, c .before .before .before .before .before .shared-slice-known .given i))) (octets-of (c .before .before .before .before .before .before .args .right .now) (λ i. omega (arith, c .before .before .before .before .shared-slice-known2 .given i))) (c .before .before .before .before .before .before .pre)))
+add-is-rising-4 c = omega (arith, few (to-entry (c .before)))
 
 is-rising-requires-2 : tie.Need-is-rising-requires-2
-is-rising-requires-2 c κs = let f = few-both (c .before .before .before .before .before .before .args .left .now) (c .before .before .before .before .before .before .args .m) (c .before .before .before .before .before .before .args .right .now) (c .before .before .before .before .before .before .args .n) (objects-at (c .before .before .before .before .before .before .args .left .now) (c .before .before .before .before .before .before .args .m) (c .before .before .before .before .before .before .args .right .now) (c .before .before .before .before .before .before .args .n) (octets-of (c .before .before .before .before .before .before .args .left .now) (λ i. omega (arith, c .before .before .before .before .before .shared-slice-known .given i))) (octets-of (c .before .before .before .before .before .before .args .right .now) (λ i. omega (arith, c .before .before .before .before .shared-slice-known2 .given i))) (c .before .before .before .before .before .before .pre)) in (omega arith, omega arith)
+is-rising-requires-2 c κs = omega (arith, few (to-entry (c .before)))
 
 put-both-requires : tie.Need-put-both-requires
-put-both-requires c κs = (c .before .before .before .before .before .before .before .before .pre, ap₂ _&&_ (c .before .before .is-rising .ensures) (c .before .is-rising2 .ensures), search needs, search needs, search needs, search needs)
+put-both-requires c κs =
+    let right = c .before in
+    let left = right .before in (
+      start (to-entry (left .before)) .pre,
+      ap₂ _&&_ (left .is-rising .ensures) (right .is-rising2 .ensures),
+      search needs,
+      search needs,
+      search needs,
+      search needs,
+    )
 
 mul-len : tie.Need-mul-len
-mul-len c = omega (arith, measured-short (c .before .before .before .before .before .before .before .before .before .before .before .before .before .args .left .now) (c .before .before .before .before .before .before .before .before .before .before .before .before .before .args .m) (c .before .before .before .before .before .before .before .before .before .before .before .before .before .args .right .now) (c .before .before .before .before .before .before .before .before .before .before .before .before .before .args .n) (octets-of (c .before .before .before .before .before .before .before .before .before .before .before .before .before .args .left .now) (λ i. omega (arith, c .before .before .before .before .before .before .before .before .before .before .before .before .shared-slice-known .given i))) (octets-of (c .before .before .before .before .before .before .before .before .before .before .before .before .before .args .right .now) (λ i. omega (arith, c .before .before .before .before .before .before .before .before .before .before .before .shared-slice-known2 .given i))) (c .before .before .before .before .before .before .before .before .before .before .before .before .before .pre) _ _ (c .before .before .before .before .put-both .ensures))
+mul-len c = omega (arith, short (to-measured c))
 
 add-len-2 : tie.Need-add-len-2
-add-len-2 c = omega (arith, measured-short (c .before .before .before .before .before .before .before .before .before .before .before .before .before .args .left .now) (c .before .before .before .before .before .before .before .before .before .before .before .before .before .args .m) (c .before .before .before .before .before .before .before .before .before .before .before .before .before .args .right .now) (c .before .before .before .before .before .before .before .before .before .before .before .before .before .args .n) (octets-of (c .before .before .before .before .before .before .before .before .before .before .before .before .before .args .left .now) (λ i. omega (arith, c .before .before .before .before .before .before .before .before .before .before .before .before .shared-slice-known .given i))) (octets-of (c .before .before .before .before .before .before .before .before .before .before .before .before .before .args .right .now) (λ i. omega (arith, c .before .before .before .before .before .before .before .before .before .before .before .shared-slice-known2 .given i))) (c .before .before .before .before .before .before .before .before .before .before .before .before .before .pre) _ _ (c .before .before .before .before .put-both .ensures))
+add-len-2 c = omega (arith, short (to-measured c))
 
 add-len-3 : tie.Need-add-len-3
-add-len-3 c = omega (arith, measured-short (c .before .before .before .before .before .before .before .before .before .before .before .before .before .before .args .left .now) (c .before .before .before .before .before .before .before .before .before .before .before .before .before .before .args .m) (c .before .before .before .before .before .before .before .before .before .before .before .before .before .before .args .right .now) (c .before .before .before .before .before .before .before .before .before .before .before .before .before .before .args .n) (octets-of (c .before .before .before .before .before .before .before .before .before .before .before .before .before .before .args .left .now) (λ i. omega (arith, c .before .before .before .before .before .before .before .before .before .before .before .before .before .shared-slice-known .given i))) (octets-of (c .before .before .before .before .before .before .before .before .before .before .before .before .before .before .args .right .now) (λ i. omega (arith, c .before .before .before .before .before .before .before .before .before .before .before .before .shared-slice-known2 .given i))) (c .before .before .before .before .before .before .before .before .before .before .before .before .before .before .pre) _ _ (c .before .before .before .before .before .put-both .ensures))
+add-len-3 c = omega (arith, short (to-measured (c .before)))
 
 add-len-4 : tie.Need-add-len-4
-add-len-4 c = omega (arith, measured-short (c .before .before .before .before .before .before .before .before .before .before .before .before .before .before .before .args .left .now) (c .before .before .before .before .before .before .before .before .before .before .before .before .before .before .before .args .m) (c .before .before .before .before .before .before .before .before .before .before .before .before .before .before .before .args .right .now) (c .before .before .before .before .before .before .before .before .before .before .before .before .before .before .before .args .n) (octets-of (c .before .before .before .before .before .before .before .before .before .before .before .before .before .before .before .args .left .now) (λ i. omega (arith, c .before .before .before .before .before .before .before .before .before .before .before .before .before .before .shared-slice-known .given i))) (octets-of (c .before .before .before .before .before .before .before .before .before .before .before .before .before .before .before .args .right .now) (λ i. omega (arith, c .before .before .before .before .before .before .before .before .before .before .before .before .before .shared-slice-known2 .given i))) (c .before .before .before .before .before .before .before .before .before .before .before .before .before .before .before .pre) _ _ (c .before .before .before .before .before .before .put-both .ensures))
+add-len-4 c = omega (arith, short (to-measured (c .before .before)))
 
 returns : tie.Need-returns
-returns c = overlay-refused (c .before .before .before .before .before .before .before .before .before .before .before .before .before .before .before .before .before .before .before .args .left .now) (c .before .before .before .before .before .before .before .before .before .before .before .before .before .before .before .before .before .before .before .args .m) (c .before .before .before .before .before .before .before .before .before .before .before .before .before .before .before .before .before .before .before .args .right .now) (c .before .before .before .before .before .before .before .before .before .before .before .before .before .before .before .before .before .before .before .args .n) (octets-of (c .before .before .before .before .before .before .before .before .before .before .before .before .before .before .before .before .before .before .before .args .left .now) (λ i. omega (arith, c .before .before .before .before .before .before .before .before .before .before .before .before .before .before .before .before .before .before .shared-slice-known .given i))) (octets-of (c .before .before .before .before .before .before .before .before .before .before .before .before .before .before .before .before .before .before .before .args .right .now) (λ i. omega (arith, c .before .before .before .before .before .before .before .before .before .before .before .before .before .before .before .before .before .shared-slice-known2 .given i))) (c .before .before .before .before .before .before .before .before .before .before .before .before .before .before .before .before .before .before .before .pre) (c .before .before .before .before .before .before .before .before .before .before .before .before .before .before .before .before .before .before .before .args .out .now) (c .before .before .before .before .before .before .before .before .before .before .before .before .before .before .before .before .before .before .before .args .room) _ (c .before .before .before .before .before .before .before .before .before .before .before .before .before .before .before .is-distinct .ensures) (c .before .before .before .before .before .before .before .before .before .before .before .before .before .before .if1 .taken) _ _ (c .before .before .before .before .before .before .before .before .before .before .put-both .ensures) _ (c .before .before .before .check-room .ensures) _ (c .before .refusal .given .1)
+returns c =
+    let asked = c .before .before .before in
+    let measured = to-measured (asked .before .before .before) in
+    let distinct = to-distinct measured in
+    overlay-refused (overlaid (to-entry distinct)) (distinct .before .is-distinct .ensures) (distinct .if1 .taken)
+    (measured .put-both .ensures) _ _ (asked .check-room .ensures) (c .before .refusal .given .1)
 
 cast-put-u32 : tie.Need-cast-put-u32
-cast-put-u32 c = omega (arith, measured-short (c .before .before .before .before .before .before .before .before .before .before .before .before .before .before .before .before .before .before .before .before .args .left .now) (c .before .before .before .before .before .before .before .before .before .before .before .before .before .before .before .before .before .before .before .before .args .m) (c .before .before .before .before .before .before .before .before .before .before .before .before .before .before .before .before .before .before .before .before .args .right .now) (c .before .before .before .before .before .before .before .before .before .before .before .before .before .before .before .before .before .before .before .before .args .n) (octets-of (c .before .before .before .before .before .before .before .before .before .before .before .before .before .before .before .before .before .before .before .before .args .left .now) (λ i. omega (arith, c .before .before .before .before .before .before .before .before .before .before .before .before .before .before .before .before .before .before .before .shared-slice-known .given i))) (octets-of (c .before .before .before .before .before .before .before .before .before .before .before .before .before .before .before .before .before .before .before .before .args .right .now) (λ i. omega (arith, c .before .before .before .before .before .before .before .before .before .before .before .before .before .before .before .before .before .before .shared-slice-known2 .given i))) (c .before .before .before .before .before .before .before .before .before .before .before .before .before .before .before .before .before .before .before .before .pre) _ _ (c .before .before .before .before .before .before .before .before .before .before .before .put-both .ensures))
+cast-put-u32 c = omega (arith, short (to-measured (to-sizes (c .before .before))))
 
 places-for-requires : tie.Need-places-for-requires
-places-for-requires c κs = let s = measured-short (c .before .before .before .before .before .before .before .before .before .before .before .before .before .before .before .before .before .before .before .before .before .before .before .before .args .left .now) (c .before .before .before .before .before .before .before .before .before .before .before .before .before .before .before .before .before .before .before .before .before .before .before .before .args .m) (c .before .before .before .before .before .before .before .before .before .before .before .before .before .before .before .before .before .before .before .before .before .before .before .before .args .right .now) (c .before .before .before .before .before .before .before .before .before .before .before .before .before .before .before .before .before .before .before .before .before .before .before .before .args .n) (octets-of (c .before .before .before .before .before .before .before .before .before .before .before .before .before .before .before .before .before .before .before .before .before .before .before .before .args .left .now) (λ i. omega (arith, c .before .before .before .before .before .before .before .before .before .before .before .before .before .before .before .before .before .before .before .before .before .before .before .shared-slice-known .given i))) (octets-of (c .before .before .before .before .before .before .before .before .before .before .before .before .before .before .before .before .before .before .before .before .before .before .before .before .args .right .now) (λ i. omega (arith, c .before .before .before .before .before .before .before .before .before .before .before .before .before .before .before .before .before .before .before .before .before .before .shared-slice-known2 .given i))) (c .before .before .before .before .before .before .before .before .before .before .before .before .before .before .before .before .before .before .before .before .before .before .before .before .pre) _ _ (c .before .before .before .before .before .before .before .before .before .before .before .before .before .before .before .put-both .ensures) in (omega arith, omega arith, omega arith)
+places-for-requires c κs =
+    let header = c .before .before .before in
+    omega (arith, short (to-measured (to-sizes (to-served header))))
 
 put-both-requires-2 : tie.Need-put-both-requires-2
-put-both-requires-2 c κs = let w = measured-near (c .before .before .before .before .before .before .before .before .before .before .before .before .before .before .before .before .before .before .before .before .before .before .before .before .before .args .left .now) (c .before .before .before .before .before .before .before .before .before .before .before .before .before .before .before .before .before .before .before .before .before .before .before .before .before .args .m) (c .before .before .before .before .before .before .before .before .before .before .before .before .before .before .before .before .before .before .before .before .before .before .before .before .before .args .right .now) (c .before .before .before .before .before .before .before .before .before .before .before .before .before .before .before .before .before .before .before .before .before .before .before .before .before .args .n) (octets-of (c .before .before .before .before .before .before .before .before .before .before .before .before .before .before .before .before .before .before .before .before .before .before .before .before .before .args .left .now) (λ i. omega (arith, c .before .before .before .before .before .before .before .before .before .before .before .before .before .before .before .before .before .before .before .before .before .before .before .before .shared-slice-known .given i))) (octets-of (c .before .before .before .before .before .before .before .before .before .before .before .before .before .before .before .before .before .before .before .before .before .before .before .before .before .args .right .now) (λ i. omega (arith, c .before .before .before .before .before .before .before .before .before .before .before .before .before .before .before .before .before .before .before .before .before .before .before .shared-slice-known2 .given i))) (c .before .before .before .before .before .before .before .before .before .before .before .before .before .before .before .before .before .before .before .before .before .before .before .before .before .pre) _ _ (c .before .before .before .before .before .before .before .before .before .before .before .before .before .before .before .before .put-both .ensures) _ (c .places-for .ensures) in (c .before .before .before .before .before .before .before .before .before .before .before .before .before .before .before .before .before .before .before .before .before .before .before .before .before .pre, ap₂ _&&_ (c .before .before .before .before .before .before .before .before .before .before .before .before .before .before .before .before .before .before .before .is-rising .ensures) (c .before .before .before .before .before .before .before .before .before .before .before .before .before .before .before .before .before .before .is-rising2 .ensures), w .0, w .1, w .2, w .3)
+put-both-requires-2 c κs =
+    let measured = to-measured (to-sizes (to-served (to-header c))) in
+    let right = measured .before .before in
+    let left = right .before in
+    let e = to-entry (left .before) in
+    let near = measured-near (overlaid e) (measured .put-both .ensures) (c .places-for .ensures) in
+    (start e .pre, ap₂ _&&_ (left .is-rising .ensures) (right .is-rising2 .ensures), near .0, near .1, near .2, near .3)
 
 same-length-2 : tie.Need-same-length-2
-same-length-2 c = overlay-length (c .before .before .before .before .before .before .before .before .before .before .before .before .before .before .before .before .before .before .before .before .before .before .before .before .before .before .before .before .args .left .now) (c .before .before .before .before .before .before .before .before .before .before .before .before .before .before .before .before .before .before .before .before .before .before .before .before .before .before .before .before .args .m) (c .before .before .before .before .before .before .before .before .before .before .before .before .before .before .before .before .before .before .before .before .before .before .before .before .before .before .before .before .args .right .now) (c .before .before .before .before .before .before .before .before .before .before .before .before .before .before .before .before .before .before .before .before .before .before .before .before .before .before .before .before .args .n) (octets-of (c .before .before .before .before .before .before .before .before .before .before .before .before .before .before .before .before .before .before .before .before .before .before .before .before .before .before .before .before .args .left .now) (λ i. omega (arith, c .before .before .before .before .before .before .before .before .before .before .before .before .before .before .before .before .before .before .before .before .before .before .before .before .before .before .before .shared-slice-known .given i))) (octets-of (c .before .before .before .before .before .before .before .before .before .before .before .before .before .before .before .before .before .before .before .before .before .before .before .before .before .before .before .before .args .right .now) (λ i. omega (arith, c .before .before .before .before .before .before .before .before .before .before .before .before .before .before .before .before .before .before .before .before .before .before .before .before .before .before .shared-slice-known2 .given i))) (c .before .before .before .before .before .before .before .before .before .before .before .before .before .before .before .before .before .before .before .before .before .before .before .before .before .before .before .before .pre) (c .before .before .before .before .before .before .before .before .before .before .before .before .before .before .before .before .before .before .before .before .before .before .before .before .before .before .before .before .args .out .now) (c .before .before .before .before .before .before .before .before .before .before .before .before .before .before .before .before .before .before .before .before .before .before .before .before .before .before .before .before .args .room) _ (c .before .before .before .before .before .before .before .before .before .before .before .before .before .before .before .before .before .before .before .before .before .before .before .before .is-distinct .ensures) (c .before .before .before .before .before .before .before .before .before .before .before .before .before .before .before .before .before .before .before .before .before .before .before .if1 .taken) _ _ (c .before .before .before .before .before .before .before .before .before .before .before .before .before .before .before .before .before .before .before .put-both .ensures) _ (c .before .before .before .before .before .before .before .before .before .before .before .before .check-room .ensures) _ _ _ _ _ refl (c .before .before .before .before .before .before .before .put-u32 .ensures) (c .before .before .before .places-for .ensures) (c .before .before .put-both2 .ensures)
+same-length-2 c =
+    let stored = c .before .before in
+    let placed = stored .before in
+    let header = to-header placed in
+    let measured = to-measured (to-sizes (to-served header)) in
+    let distinct = to-distinct measured in
+    overlay-length (overlaid (to-entry distinct)) (distinct .before .is-distinct .ensures) (distinct .if1 .taken)
+    (measured .put-both .ensures) _ 0 refl (header .put-u32 .ensures) (placed .places-for .ensures) (stored .put-both2 .ensures)
 
 returns-2 : tie.Need-returns-2
-returns-2 c = overlay-done (c .before .before .before .before .before .before .before .before .before .before .before .before .before .before .before .before .before .before .before .before .before .before .before .before .before .before .before .before .args .left .now) (c .before .before .before .before .before .before .before .before .before .before .before .before .before .before .before .before .before .before .before .before .before .before .before .before .before .before .before .before .args .m) (c .before .before .before .before .before .before .before .before .before .before .before .before .before .before .before .before .before .before .before .before .before .before .before .before .before .before .before .before .args .right .now) (c .before .before .before .before .before .before .before .before .before .before .before .before .before .before .before .before .before .before .before .before .before .before .before .before .before .before .before .before .args .n) (octets-of (c .before .before .before .before .before .before .before .before .before .before .before .before .before .before .before .before .before .before .before .before .before .before .before .before .before .before .before .before .args .left .now) (λ i. omega (arith, c .before .before .before .before .before .before .before .before .before .before .before .before .before .before .before .before .before .before .before .before .before .before .before .before .before .before .before .shared-slice-known .given i))) (octets-of (c .before .before .before .before .before .before .before .before .before .before .before .before .before .before .before .before .before .before .before .before .before .before .before .before .before .before .before .before .args .right .now) (λ i. omega (arith, c .before .before .before .before .before .before .before .before .before .before .before .before .before .before .before .before .before .before .before .before .before .before .before .before .before .before .shared-slice-known2 .given i))) (c .before .before .before .before .before .before .before .before .before .before .before .before .before .before .before .before .before .before .before .before .before .before .before .before .before .before .before .before .pre) (c .before .before .before .before .before .before .before .before .before .before .before .before .before .before .before .before .before .before .before .before .before .before .before .before .before .before .before .before .args .out .now) (c .before .before .before .before .before .before .before .before .before .before .before .before .before .before .before .before .before .before .before .before .before .before .before .before .before .before .before .before .args .room) _ (c .before .before .before .before .before .before .before .before .before .before .before .before .before .before .before .before .before .before .before .before .before .before .before .before .is-distinct .ensures) (c .before .before .before .before .before .before .before .before .before .before .before .before .before .before .before .before .before .before .before .before .before .before .before .if1 .taken) _ _ (c .before .before .before .before .before .before .before .before .before .before .before .before .before .before .before .before .before .before .before .put-both .ensures) _ (c .before .before .before .before .before .before .before .before .before .before .before .before .check-room .ensures) _ _ _ _ _ refl (c .before .before .before .before .before .before .before .put-u32 .ensures) (c .before .before .before .places-for .ensures) (c .before .before .put-both2 .ensures) (c .before .before .before .before .before .before .before .before .before .before .enum-told .given .1)
+returns-2 c =
+    let stored = c .before .before in
+    let placed = stored .before in
+    let header = to-header placed in
+    let served = to-served header in
+    let measured = to-measured (to-sizes served) in
+    let distinct = to-distinct measured in
+    overlay-done (overlaid (to-entry distinct)) (distinct .before .is-distinct .ensures) (distinct .if1 .taken)
+    (measured .put-both .ensures) _ _ refl (header .put-u32 .ensures) (placed .places-for .ensures) (stored .put-both2 .ensures)
+    (served .before .before .check-room .ensures) (served .enum-told .given .1)
 
 returns-3 : tie.Need-returns-3
-returns-3 c = overlay-repeated (c .before .before .before .before .before .args .left .now) (c .before .before .before .before .before .args .m) (c .before .before .before .before .before .args .right .now) (c .before .before .before .before .before .args .n) (octets-of (c .before .before .before .before .before .args .left .now) (λ i. omega (arith, c .before .before .before .before .shared-slice-known .given i))) (octets-of (c .before .before .before .before .before .args .right .now) (λ i. omega (arith, c .before .before .before .shared-slice-known2 .given i))) (c .before .before .before .before .before .pre) (c .before .before .before .before .before .args .out .now) (c .before .before .before .before .before .args .room) _ (c .before .is-distinct .ensures) (c .if1 .left)
+returns-3 c =
+    let asked = c .before in
+    overlay-repeated (overlaid (asked .before)) (asked .is-distinct .ensures) (c .if1 .left) _
 
 pub write-merged-spec : {M : Type 1} → statement M
 write-merged-spec =
