@@ -299,6 +299,16 @@ gone s n val p v =
           );
     }
 
+-- Equal places, number by number.
+pub same-places : {a b : Places} → a ≡ b
+    → (a .«key_jentry» ≡ b .«key_jentry») × (a .«val_jentry» ≡ b .«val_jentry») × (a .key ≡ b .key) × (a .val ≡ b .val)
+same-places e = (
+  ap (λ (x : Places). x .«key_jentry») e,
+  ap (λ (x : Places). x .«val_jentry») e,
+  ap (λ (x : Places). x .key) e,
+  ap (λ (x : Places). x .val) e,
+)
+
 -- The same in the code's terms.
 module _ (s : Bytes) (n : ℕ) (val : PartAt) (p : Step) (v : Value-at s n val p) (from : Places) (z : Sizes)
     (ef : from ≡ members-of s n) (ez : z ≡ sizes-of s (in-turn s from n (But (val .index - n)))) where

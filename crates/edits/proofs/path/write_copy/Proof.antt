@@ -5,11 +5,20 @@ use borrow.Author.Needs.{needs}
 use Rattle.edits.proofs.path.write_copy.Statement.{statement}
 use Rattle.edits.proofs.path.write_copy.Tie as tie
 
+abbrev start : tie.After-slice-known → tie.Start
+start c = c .before .before
+
 returns : tie.Need-returns
-returns c = in-short (c .before .before .before .args .s .now) (c .before .before .before .args .out .now) (c .before .before .before .args .room) (c .if1 .taken)
+returns c =
+    let a = start (c .before) .args in
+    in-short (a .s .now) (a .out .now) (a .room) (c .if1 .taken)
 
 returns-2 : tie.Need-returns-2
-returns-2 c = in-full (c .before .before .before .before .before .before .before .args .s .now) (c .before .before .before .before .before .before .before .args .out .now) (c .before .before .before .before .before .before .before .args .room) _ _ (c .before .before .before .before .if1 .left) refl (c .before .before .copy .ensures)
+returns-2 c =
+    let stored = c .before .before in
+    let serves = stored .before .before in
+    let a = start (serves .before) .args in
+    in-full (a .s .now) (a .out .now) (a .room) _ _ (serves .if1 .left) refl (stored .copy .ensures)
 
 pub write-copy-spec : {M : Type 1} → statement M
 write-copy-spec = tie.close (tie.spec returns (λ c κs. search needs) (λ c. search needs) returns-2)
