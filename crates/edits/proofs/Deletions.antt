@@ -6,7 +6,7 @@ use mathlib.Core.Bool.{true, false}
 use mathlib.Core.List.{List, [], _∷_}
 use mathlib.Core.Option.{some}
 use lib.ListN.{length, length-append}
-use Rattle.layout.specs.Bytes.{Bytes, Octets}
+use Rattle.layout.specs.Bytes.{Bytes}
 use Rattle.layout.specs.Answer.{gives, refused, _>>=_}
 use Rattle.layout.specs.Entry.{code, code-of, entry-at}
 use Rattle.layout.specs.Tree.{Tree, null, boolean, number, string, extension, array, object, none, item, kind}
@@ -30,9 +30,9 @@ use Rattle.layout.proofs.Decoding.{container-encode}
 use Rattle.layout.proofs.Encoding.{items-fit}
 use Rattle.layout.proofs.Readables.{record-of-length}
 use Rattle.layout.proofs.Fields.{code-entry}
-use Rattle.layout.proofs.Nestings.{head-of, readable-gives, refused-as}
+use Rattle.layout.proofs.Nestings.{head-of, refused-as}
 use Rattle.layout.proofs.Patches.{in-as}
-use Rattle.builders.proofs.Knowns.{Known, known}
+use Rattle.builders.proofs.Knowns.{Known, Both-octets}
 use Rattle.layout.specs.declared.parts.ItemAt.{ItemAt}
 use Rattle.edits.specs.Keypath.{Step, path-of}
 use Rattle.edits.specs.Find.{_then_, step-into, look-up}
@@ -49,9 +49,10 @@ use Rattle.edits.proofs.Deletes.{then-some}
 use Rattle.edits.proofs.Onwards.{inside-container, anew-kind}
 use Rattle.edits.proofs.Meanings.{deleted-whole, deleted-missing}
 use Rattle.edits.proofs.Rows.{row-entry}
-use Rattle.edits.proofs.Paths.{steps-counted, steps-refused}
+use Rattle.edits.proofs.Paths.{steps-refused}
 use Rattle.edits.proofs.OnPaths.{path-left, path-path, path-edit, path-done}
-use Rattle.edits.proofs.Lookups.{steps-in, steps-length, finding-is, nested-read, container-ready, finds-none, finds-item}
+use Rattle.edits.proofs.Lookups.{steps-in, steps-length, finding-is, nested-read}
+use Rattle.edits.proofs.Lookups.{Target-read, Steps-counted, Container-met, Searched, target, steps-are, searched-none, searched-item}
 
 -- A scalar by the code of its entry.
 scalar-entry : (t : Tree) → length (payload t) < 2 ^ 28 → code-of (entry-at (scalar t) 0) ≡ code (kind t)
@@ -109,8 +110,14 @@ delete-refused : (p : List Step) (t : Tree) (r : Refusal) → deletable t ≡ re
 unfolding delete-by _>>=_
 delete-refused p t r e = rw e
 
+-- An empty path deletes nothing.
+no-steps : (path : Bytes) (n : ℕ) (t : Tree) → n ≡ 0 → delete (steps-in path n) t ≡ t
+unfolding parts-at
+no-steps path n t z = rw z (deleted-whole t)
+
 -- What is left where the path finds an item.
-remains-encoded : (s : Bytes) (p : List Step) (t v : Tree) → nested 64 s ≡ gives t → (length p ≡ 0 → ⊥) → look-up p t ≡ some v → remains-of s p ≡ encode (delete p t)
+remains-encoded : (s : Bytes) (p : List Step) (t v : Tree) → nested 64 s ≡ gives t → (length p ≡ 0 → ⊥) → look-up p t ≡ some v
+    → remains-of s p ≡ encode (delete p t)
 unfolding remains-of
 remains-encoded s [] t v e z f = absurd (z refl)
 remains-encoded s (q ∷ p) t v e z f =
@@ -119,87 +126,83 @@ remains-encoded s (q ∷ p) t v e z f =
     let d : delete (q ∷ p) t ≡ anew (step-into q t then remains p) q t = rw f in
     rw (e, d) (sym (container-encode (anew (step-into q t then remains p) q t) (payload (anew (step-into q t then remains p) q t)) (rw k)))
 
-module _ (a path o : Bytes) (room : ℕ) (c : Check) (hc : c ≡ checked (read a)) where
-  abbrev On : Ending → Bytes → Type 0
-  On e o′ = EndedIn e o o′ (on-path delete-by a path room)
+abbrev On : Bytes → Bytes → ℕ → Ending → Bytes → Bytes → Type 0
+On a path room e o o′ = EndedIn e o o′ (on-path delete-by a path room)
 
-  pub delete-left : (x : Refusal) → c ≡ NotReadable x → On (Refused x) o
-  delete-left x q = path-left delete-by a path o room x (refused-as (read a) c x hc q)
+module _ {a path : Bytes} where
+  pub delete-left : Both-octets a path → {o : Bytes} (room : ℕ) {c : Check} → c ≡ checked (read a) → {x : Refusal} → c ≡ NotReadable x
+      → On a path room (Refused x) o o
+  delete-left s {o} room {c} hc {x} q = path-left delete-by a path o room x (refused-as (read a) c x hc q)
 
-  module _ (oa : Octets a) (op : Octets path) (qc : c ≡ Readable) (k : Steps) (hk : k ≡ steps-told (path-of path)) where
-    target : (t : Tree) × Known a t
-    target = let w = readable-gives (read a) c hc qc in (w .0, known a (w .0) oa (w .1))
+  pub delete-path : Target-read a path → {o : Bytes} (room : ℕ) {k : Steps} → k ≡ steps-told (path-of path) → k ≡ NoPath
+      → On a path room (Refused Path) o o
+  delete-path s {o} room hk q =
+      path-path delete-by a path o room (target s .0) (target s .1 .reads) (steps-refused path (sym q ∙ hk))
 
+  module _ {n : ℕ} (s : Steps-counted a path n) where
     abbrev t : Tree
-    t = target .0
+    t = target (s .before) .0
 
-    pub delete-path : k ≡ NoPath → On (Refused Path) o
-    delete-path q = path-path delete-by a path o room t (target .1 .reads) (steps-refused path (sym q ∙ hk))
+    known-target : Known a t
+    known-target = target (s .before) .1
 
-    module _ (n : ℕ) (qk : k ≡ Count n) (h : Header) (hh : h ≡ header a) where
-      path-is : path-of path ≡ gives (steps-in path n)
-      path-is = steps-counted path n op (sym qk ∙ hk) .2
+    -- The record as it came.
+    stays : (u : Tree) → deletable t ≡ gives u → delete (steps-in path n) u ≡ t
+        → {e : Ending} {o o′ : Bytes} (room : ℕ) → EndedIn e o o′ (into room a) → On a path room e o o′
+    stays u d q {e} {o} {o′} room w =
+        path-done delete-by a path o room t (known-target .reads) (steps-in path n) (steps-are s) t
+        (delete-is (steps-in path n) t u d ∙ ap (λ (x : Tree). gives (some x)) q)
+        e o′ (in-as _ a (encode t) (sym (known-target .bytes)) w)
 
-      -- The record as it came.
-      stays : (u : Tree) → deletable t ≡ gives u → delete (steps-in path n) u ≡ t → (e : Ending) (o′ : Bytes) → EndedIn e o o′ (into room a) → On e o′
-      stays u d q e o′ w =
-          path-done delete-by a path o room t (target .1 .reads) (steps-in path n) path-is t (delete-is (steps-in path n) t u d ∙ ap (λ (x : Tree). gives (some x)) q)
-          e o′ (in-as _ a (encode t) (sym (target .1 .bytes)) w)
+    -- A scalar: `v` is the code of its entry.
+    module _ {m : ℕ} (q : header a ≡ Scalar m) {w v : ℕ} (hw : w ≡ entry-at a 0) (hv : v ≡ code-of w) where
+      head : head-of t ≡ Scalar m
+      head = sym (known-target .head) ∙ q
 
-      -- A scalar.
-      module _ (m : ℕ) (q : h ≡ Scalar m) (w v : ℕ) (hw : w ≡ entry-at a 0) (hv : v ≡ code-of w) where
-        head : head-of t ≡ Scalar m
-        head = sym (target .1 .head) ∙ sym hh ∙ q
+      code-is : v ≡ code (kind t)
+      code-is =
+          let e : scalar t ≡ a = scalar-encode t m head ∙ known-target .bytes in
+          let l : length (payload t) < 2 ^ 28 =
+          omega (arith, ap length e, known-target .short, record-of-length (2 ^ 29) (part t ∷ []), length-append (payload t) []) in
+          hv ∙ ap code-of hw ∙ ap (λ (x : Bytes). code-of (entry-at x 0)) (sym e) ∙ scalar-entry t l
 
-        code-is : v ≡ code (kind t)
-        code-is =
-            let e : scalar t ≡ a = scalar-encode t m head ∙ target .1 .bytes in
-            let l : length (payload t) < 2 ^ 28 = omega (arith, ap length e, target .1 .short, record-of-length (2 ^ 29) (part t ∷ []), length-append (payload t) []) in
-            hv ∙ ap code-of hw ∙ ap (λ (x : Bytes). code-of (entry-at x 0)) (sym e) ∙ scalar-entry t l
+      pub delete-extension : v ≡ 6 → {e : Ending} {o o′ : Bytes} (room : ℕ) → EndedIn e o o′ (into room a) → On a path room e o o′
+      delete-extension z =
+          let x = an-extension t m head (sym code-is ∙ z) in
+          stays t (ap deletable (x .1) ∙ ap gives (sym (x .1)))
+          (ap (delete (steps-in path n)) (x .1) ∙ extension-stays (steps-in path n) (x .0) ∙ sym (x .1))
 
-        pub delete-extension : v ≡ 6 → (e : Ending) (o′ : Bytes) → EndedIn e o o′ (into room a) → On e o′
-        delete-extension z e o′ r =
-            let x = an-extension t m head (sym code-is ∙ z) in
-            stays t (ap deletable (x .1) ∙ ap gives (sym (x .1))) (ap (delete (steps-in path n)) (x .1) ∙ extension-stays (steps-in path n) (x .0) ∙ sym (x .1)) e o′ r
+      pub delete-kind : (v ≡ 6 → ⊥) → {o : Bytes} (room : ℕ) → On a path room (Refused Kind) o o
+      delete-kind z {o} room =
+          path-edit delete-by a path o room t (known-target .reads) (steps-in path n) (steps-are s) Kind
+          (delete-refused (steps-in path n) t Kind (not-deletable t m head (λ e. z (code-is ∙ e))))
 
-        pub delete-kind : (v ≡ 6 → ⊥) → On (Refused Kind) o
-        delete-kind z =
-            path-edit delete-by a path o room t (target .1 .reads) (steps-in path n) path-is Kind
-            (delete-refused (steps-in path n) t Kind (not-deletable t m head (λ e. z (code-is ∙ e))))
+  -- A container.
+  module _ {n : ℕ} (s : Container-met a path n) where
+    allowed : deletable (t (s .before)) ≡ gives (t (s .before))
+    allowed = container-deletable (t (s .before)) (λ m e. s .container m (known-target (s .before) .head ∙ e))
 
-      -- A container.
-      module _ (q : (m : ℕ) → h ≡ Scalar m → ⊥) where
-        container : (m : ℕ) → header a ≡ Scalar m → ⊥
-        container m e = q m (hh ∙ e)
+    pub delete-whole : n ≡ 0 → {e : Ending} {o o′ : Bytes} (room : ℕ) → EndedIn e o o′ (into room a) → On a path room e o o′
+    delete-whole z = stays (s .before) (t (s .before)) allowed (no-steps path n (t (s .before)) z)
 
-        allowed : deletable t ≡ gives t
-        allowed = container-deletable t (λ m e. container m (target .1 .head ∙ e))
+  module _ {n : ℕ} {r : Item} (s : Searched a path n r) where
+    abbrev counted : Steps-counted a path n
+    counted = s .before .before
 
-        pub delete-whole : n ≡ 0 → (e : Ending) (o′ : Bytes) → EndedIn e o o′ (into room a) → On e o′
-        unfolding parts-at
-        delete-whole z = stays t allowed (rw z (deleted-whole t))
+    pub delete-none : r ≡ Nothing → {e : Ending} {o o′ : Bytes} (room : ℕ) → EndedIn e o o′ (into room a) → On a path room e o o′
+    delete-none q = stays counted (t counted) (allowed (s .before)) (deleted-missing (steps-in path n) (t counted) (searched-none s q))
 
-        pub delete-ready : (length a ≤ 65536) × (checked (nested 64 a) ≡ Readable) × (n < 2 ^ 29)
-        delete-ready =
-            let w = container-ready a t (target .1) container in
-            (w .0, w .1, steps-counted path n op (sym qk ∙ hk) .1)
+    reads : nested 64 a ≡ gives (t counted)
+    reads = nested-read a (t counted) (known-target counted .reads) (s .before .container)
 
-        module _ (r : Item) (hr : Finds a (steps-in path n) r) where
-          pub delete-none : r ≡ Nothing → (e : Ending) (o′ : Bytes) → EndedIn e o o′ (into room a) → On e o′
-          delete-none e = stays t allowed (deleted-missing (steps-in path n) t (finds-none a t (target .1) container (steps-in path n) r hr e))
+    pub delete-finds : {x : ItemAt} → r ≡ At x → (v : Tree) × (finding a (steps-in path n) ≡ some v)
+    delete-finds q = let item = searched-item s q in (item .0, finding-is a (t counted) (steps-in path n) reads ∙ item .1)
 
-          module _ (x : ItemAt) (e : r ≡ At x) where
-            what : (v : Tree) × (look-up (steps-in path n) t ≡ some v)
-            what = let w = finds-item a t (target .1) container (steps-in path n) r hr x e in (w .0, w .1)
-
-            reads : nested 64 a ≡ gives t
-            reads = nested-read a t (target .1 .reads) container
-
-            pub delete-finds : (v : Tree) × (finding a (steps-in path n) ≡ some v)
-            delete-finds = (what .0, finding-is a t (steps-in path n) reads ∙ what .1)
-
-            pub delete-found : (n ≡ 0 → ⊥) → (e : Ending) (o′ : Bytes) → EndedIn e o o′ (into room (remains-of a (steps-in path n))) → On e o′
-            delete-found z e o′ w =
-                path-done delete-by a path o room t (target .1 .reads) (steps-in path n) path-is (delete (steps-in path n) t) (delete-is (steps-in path n) t t allowed) e o′
-                (in-as _ (remains-of a (steps-in path n)) (encode (delete (steps-in path n) t))
-                (remains-encoded a (steps-in path n) t (what .0) reads (λ y. z (sym (steps-length path n) ∙ y)) (what .1)) w)
+    pub delete-found : {x : ItemAt} → r ≡ At x → (n ≡ 0 → ⊥) → {e : Ending} {o o′ : Bytes} (room : ℕ)
+        → EndedIn e o o′ (into room (remains-of a (steps-in path n))) → On a path room e o o′
+    delete-found q z {e} {o} {o′} room w =
+        let item = searched-item s q in
+        path-done delete-by a path o room (t counted) (known-target counted .reads) (steps-in path n) (steps-are counted)
+        (delete (steps-in path n) (t counted)) (delete-is (steps-in path n) (t counted) (t counted) (allowed (s .before))) e o′
+        (in-as _ (remains-of a (steps-in path n)) (encode (delete (steps-in path n) (t counted)))
+        (remains-encoded a (steps-in path n) (t counted) (item .0) reads (λ y. z (sym (steps-length path n) ∙ y)) (item .1)) w)

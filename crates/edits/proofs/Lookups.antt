@@ -30,7 +30,7 @@ use Rattle.layout.proofs.Places.{length-parts}
 use Rattle.layout.proofs.Nestings.{head-of, readable-gives, refused-as}
 use Rattle.layout.proofs.Patches.{in-as}
 use Rattle.layout.specs.declared.parts.ItemAt.{ItemAt}
-use Rattle.builders.proofs.Knowns.{Known, known}
+use Rattle.builders.proofs.Knowns.{Known, known, Both-octets}
 use Rattle.edits.specs.Keypath.{Step, path-of}
 use Rattle.edits.specs.Find.{_then_, step-into, look-up}
 use Rattle.edits.specs.Path.{get-by, on-path}
@@ -145,68 +145,117 @@ scalar-look-up (s ∷ p) t m e q = rw (scalar-none s t m e)
 pub steps-length : (path : Bytes) (n : ℕ) → length (steps-in path n) ≡ n
 steps-length path n = length-part-steps (parts-at path 0 (4 + 4 * n) n) ∙ length-parts path 0 (4 + 4 * n) n
 
+-- ---- an edit by a path: the tests that look-up and delete share
+
+-- A record of bytes that the check let pass, and its tree.
+pub record Passed (a : Bytes) : Type 0 where
+  pub octets : Octets a
+  pub readable : checked (read a) ≡ Readable
+
+pub passed-tree : {a : Bytes} → Passed a → (t : Tree) × Known a t
+passed-tree {a} s = let w = readable-gives (read a) Readable (sym (s .readable)) refl in (w .0, known a (w .0) (s .octets) (w .1))
+
+-- What the tests so far have shown of the record and the path, one record for each test passed: the record is readable, the path has
+-- n steps, the record is a container, it was searched.
+pub record Target-read (a path : Bytes) : Type 0 where
+  pub octets : Both-octets a path
+  pub readable : checked (read a) ≡ Readable
+
+pub record Steps-counted (a path : Bytes) (n : ℕ) : Type 0 where
+  pub before : Target-read a path
+  pub count : Count n ≡ steps-told (path-of path)
+
+pub record Container-met (a path : Bytes) (n : ℕ) : Type 0 where
+  pub before : Steps-counted a path n
+  pub container : (m : ℕ) → header a ≡ Scalar m → ⊥
+
+pub record Searched (a path : Bytes) (n : ℕ) (r : Item) : Type 0 where
+  pub before : Container-met a path n
+  pub finds : Finds a (steps-in path n) r
+
+pub target : {a path : Bytes} → Target-read a path → (t : Tree) × Known a t
+target s = passed-tree (record { octets = s .octets .left; readable = s .readable })
+
+module _ {a path : Bytes} {n : ℕ} (s : Steps-counted a path n) where
+  pub steps-are : path-of path ≡ gives (steps-in path n)
+  steps-are = steps-counted path n (s .before .octets .right) (s .count) .2
+
+  few-steps : n < 2 ^ 29
+  few-steps = steps-counted path n (s .before .octets .right) (s .count) .1
+
+-- What the search asks.
+pub search-ready : {a path : Bytes} {n : ℕ} → Container-met a path n
+    → (length a ≤ 65536) × (checked (nested 64 a) ≡ Readable) × (n < 2 ^ 29)
+search-ready {a} s =
+    let t = target (s .before .before) in
+    let w = container-ready a (t .0) (t .1) (s .container) in
+    (w .0, w .1, few-steps (s .before))
+
+-- What its answer says.
+module _ {a path : Bytes} {n : ℕ} {r : Item} (s : Searched a path n r) where
+  abbrev t : (t : Tree) × Known a t
+  t = target (s .before .before .before)
+
+  pub searched-none : r ≡ Nothing → look-up (steps-in path n) (t .0) ≡ nothing
+  searched-none = finds-none a (t .0) (t .1) (s .before .container) (steps-in path n) r (s .finds)
+
+  pub searched-item : {x : ItemAt} → r ≡ At x → (v : Tree) × (look-up (steps-in path n) (t .0) ≡ some v) × Held a x v
+  searched-item {x} = finds-item a (t .0) (t .1) (s .before .container) (steps-in path n) r (s .finds) x
+
 -- ---- look-up
 
 pub get-is : (p : List Step) (t : Tree) → get-by p t ≡ gives (look-up p t)
 unfolding get-by
 get-is p t = refl
 
-module _ (a path o : Bytes) (room : ℕ) (c : Check) (hc : c ≡ checked (read a)) where
-  pub get-left : (x : Refusal) → c ≡ NotReadable x → EndedIn (Refused x) o o (on-path get-by a path room)
-  get-left x q = path-left get-by a path o room x (refused-as (read a) c x hc q)
+abbrev On : Bytes → Bytes → ℕ → Ending → Bytes → Bytes → Type 0
+On a path room e o o′ = EndedIn e o o′ (on-path get-by a path room)
 
-  module _ (oa : Octets a) (op : Octets path) (qc : c ≡ Readable) (k : Steps) (hk : k ≡ steps-told (path-of path)) where
-    target : (t : Tree) × Known a t
-    target = let w = readable-gives (read a) c hc qc in (w .0, known a (w .0) oa (w .1))
+module _ {a path : Bytes} where
+  pub get-left : Both-octets a path → {o : Bytes} (room : ℕ) {c : Check} → c ≡ checked (read a) → {x : Refusal} → c ≡ NotReadable x
+      → On a path room (Refused x) o o
+  get-left s {o} room {c} hc {x} q = path-left get-by a path o room x (refused-as (read a) c x hc q)
 
-    pub get-path : k ≡ NoPath → EndedIn (Refused Path) o o (on-path get-by a path room)
-    get-path q = path-path get-by a path o room (target .0) (target .1 .reads) (steps-refused path (sym q ∙ hk))
+  pub get-path : Target-read a path → {o : Bytes} (room : ℕ) {k : Steps} → k ≡ steps-told (path-of path) → k ≡ NoPath
+      → On a path room (Refused Path) o o
+  get-path s {o} room hk q =
+      path-path get-by a path o room (target s .0) (target s .1 .reads) (steps-refused path (sym q ∙ hk))
 
-    module _ (n : ℕ) (qk : k ≡ Count n) where
-      path-is : path-of path ≡ gives (steps-in path n)
-      path-is = steps-counted path n op (sym qk ∙ hk) .2
+  module _ {n : ℕ} (s : Steps-counted a path n) where
+    abbrev tree-of : (t : Tree) × Known a t
+    tree-of = target (s .before)
 
-      get-absent : look-up (steps-in path n) (target .0) ≡ nothing → EndedIn Absent o o (on-path get-by a path room)
-      get-absent q = path-absent get-by a path o room (target .0) (target .1 .reads) (steps-in path n) path-is (get-is _ _ ∙ ap gives q)
+    get-absent : look-up (steps-in path n) (tree-of .0) ≡ nothing → {o : Bytes} (room : ℕ) → On a path room Absent o o
+    get-absent q {o} room =
+        path-absent get-by a path o room (tree-of .0) (tree-of .1 .reads) (steps-in path n) (steps-are s) (get-is _ _ ∙ ap gives q)
 
-      get-done : (v : Tree) → look-up (steps-in path n) (target .0) ≡ some v → (e : Ending) (o′ : Bytes)
-          → EndedIn e o o′ (into room (encode v)) → EndedIn e o o′ (on-path get-by a path room)
-      get-done v q = path-done get-by a path o room (target .0) (target .1 .reads) (steps-in path n) path-is v (get-is _ _ ∙ ap gives q)
+    get-done : (v : Tree) → look-up (steps-in path n) (tree-of .0) ≡ some v → {e : Ending} {o o′ : Bytes} (room : ℕ)
+        → EndedIn e o o′ (into room (encode v)) → On a path room e o o′
+    get-done v q {e} {o} {o′} room =
+        path-done get-by a path o room (tree-of .0) (tree-of .1 .reads) (steps-in path n) (steps-are s) v (get-is _ _ ∙ ap gives q) e o′
 
-      -- An empty path gives the record.
-      pub get-whole : n ≡ 0 → (e : Ending) (o′ : Bytes) → EndedIn e o o′ (into room a)
-          → EndedIn e o o′ (on-path get-by a path room)
-      unfolding parts-at
-      get-whole z e o′ h = get-done (target .0) (rw z) e o′ (in-as _ a (encode (target .0)) (sym (target .1 .bytes)) h)
+    -- An empty path gives the record.
+    pub get-whole : n ≡ 0 → {e : Ending} {o o′ : Bytes} (room : ℕ) → EndedIn e o o′ (into room a) → On a path room e o o′
+    unfolding parts-at
+    get-whole z room h = get-done (tree-of .0) (rw z) room (in-as _ a (encode (tree-of .0)) (sym (tree-of .1 .bytes)) h)
 
-      module _ (z : n ≡ 0 → ⊥) (h : Header) (hh : h ≡ header a) where
-        pub get-scalar : (m : ℕ) → h ≡ Scalar m → EndedIn Absent o o (on-path get-by a path room)
-        get-scalar m q =
-            get-absent
-            (scalar-look-up (steps-in path n) (target .0) m (sym (target .1 .head) ∙ sym hh ∙ q) (λ e. z (sym (steps-length path n) ∙ e)))
+    pub get-scalar : (n ≡ 0 → ⊥) → {h : Header} → h ≡ header a → {m : ℕ} → h ≡ Scalar m → {o : Bytes} (room : ℕ)
+        → On a path room Absent o o
+    get-scalar z hh {m} q room =
+        get-absent
+        (scalar-look-up (steps-in path n) (tree-of .0) m (sym (tree-of .1 .head) ∙ sym hh ∙ q) (λ e. z (sym (steps-length path n) ∙ e)))
+        room
 
-        module _ (q : (m : ℕ) → h ≡ Scalar m → ⊥) where
-          container : (m : ℕ) → header a ≡ Scalar m → ⊥
-          container m e = q m (hh ∙ e)
+  module _ {n : ℕ} {r : Item} (s : Searched a path n r) where
+    pub get-none : r ≡ Nothing → {o : Bytes} (room : ℕ) → On a path room Absent o o
+    get-none e = get-absent (s .before .before) (searched-none s e)
 
-          pub get-ready : (length a ≤ 65536) × (checked (nested 64 a) ≡ Readable) × (n < 2 ^ 29)
-          get-ready =
-              let w = container-ready a (target .0) (target .1) container in
-              (w .0, w .1, steps-counted path n op (sym qk ∙ hk) .1)
+    pub get-stands : {x : ItemAt} → r ≡ At x → Stands a x
+    get-stands e = let item = searched-item s e in (item .0, item .2)
 
-          module _ (r : Item) (hr : Finds a (steps-in path n) r) where
-            pub get-none : r ≡ Nothing → EndedIn Absent o o (on-path get-by a path room)
-            get-none e = get-absent (finds-none a (target .0) (target .1) container (steps-in path n) r hr e)
-
-            module _ (x : ItemAt) (e : r ≡ At x) where
-              item : (v : Tree) × (look-up (steps-in path n) (target .0) ≡ some v) × Held a x v
-              item = finds-item a (target .0) (target .1) container (steps-in path n) r hr x e
-
-              pub get-stands : Stands a x
-              get-stands = (item .0, item .2)
-
-              pub get-item : (e : Ending) (o′ : Bytes) → EndedIn e o o′ (into room (item-record a x))
-                  → EndedIn e o o′ (on-path get-by a path room)
-              get-item e o′ h =
-                  get-done (item .0) (item .1) e o′
-                  (in-as _ (item-record a x) (encode (item .0)) (held-record a x (item .0) (item .2)) h)
+    pub get-item : {x : ItemAt} → r ≡ At x → {e : Ending} {o o′ : Bytes} (room : ℕ) → EndedIn e o o′ (into room (item-record a x))
+        → On a path room e o o′
+    get-item {x} q room h =
+        let item = searched-item s q in
+        get-done (s .before .before) (item .0) (item .1) room
+        (in-as _ (item-record a x) (encode (item .0)) (held-record a x (item .0) (item .2)) h)

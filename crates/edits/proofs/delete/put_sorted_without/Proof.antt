@@ -4,7 +4,7 @@ use native.Mathlib.Omega.{arith}
 use mathlib.Core.Path.{_≡_, refl}
 use Rattle.layout.specs.Read.{header}
 use Rattle.layout.proofs.Words.{octets-of}
-use Rattle.edits.specs.Path.{Step}
+use Rattle.edits.specs.Keypath.{Step}
 use Rattle.edits.specs.Spot.{spot}
 use Rattle.edits.specs.declared.find.Spot.the-variants.{At}
 use Rattle.edits.proofs.Sorteds.{Value-at, value-at, same-places, gone-room, gone-stored}
