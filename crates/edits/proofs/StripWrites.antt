@@ -7,7 +7,7 @@ use mathlib.Core.Bool.{Bool, true, false, cond}
 use mathlib.Core.List.{[], _∷_, _++_}
 use mathlib.Core.Option.{some}
 use lib.ListN.{length, length-append}
-use Rattle.layout.specs.Bytes.{Bytes, Octets}
+use Rattle.layout.specs.Bytes.{Bytes}
 use Rattle.layout.specs.Answer.{Answer, gives, refused, _>>=_}
 use Rattle.layout.specs.Tree.{Tree, kind}
 use Rattle.layout.specs.Encode.{payload}
@@ -21,17 +21,16 @@ use Rattle.layout.specs.declared.check.Check.the-variants.{Readable, Refused as
 use Rattle.layout.specs.declared.refusal.Refusal.{Refusal}
 use Rattle.layout.specs.declared.refusal.Refusal.the-variants.{Buffer, Repeated as RepeatedName}
 use Rattle.layout.specs.declared.item.Kind.the-variants.{Container}
-use Rattle.layout.specs.declared.util.Header.{Header}
 use Rattle.layout.specs.declared.util.Header.the-variants.{Array, Object, Scalar}
 use Rattle.layout.specs.declared.ending.Ending.{Ending}
 use Rattle.layout.specs.declared.ending.Ending.the-variants.{Done, Refused}
 use Rattle.layout.proofs.Answers.{gives-inj}
 use Rattle.layout.proofs.Decoding.{container-encode}
-use Rattle.layout.proofs.Nestings.{head-of, readable-gives, refused-as}
+use Rattle.layout.proofs.Nestings.{head-of, refused-as}
 use Rattle.layout.proofs.Patches.{patch-empty, in-short, in-full}
 use Rattle.layout.specs.Pipeline.{found, written, on-record, alone}
 use Rattle.layout.proofs.Pipelines.{found-written, record-fits}
-use Rattle.builders.proofs.Knowns.{Known, known}
+use Rattle.builders.proofs.Knowns.{Known}
 use Rattle.edits.specs.Strip.{stripped, unrepeated, strip, on-one}
 use Rattle.edits.specs.Stripping.{stripped-of, unrepeated-of, Strippable, Strips, strip-out}
 use Rattle.edits.specs.declared.strip.Stripped.{Stripped}
@@ -39,7 +38,7 @@ use Rattle.edits.specs.declared.strip.Stripped.the-variants.{Len, Repeat
 use Rattle.edits.proofs.Strips.{kind-stripped, strip-given, strip-refused}
 use Rattle.edits.proofs.Tables.{contains}
 use Rattle.edits.proofs.Stripped.{own-strip, neither}
-use Rattle.edits.proofs.Lookups.{container-ready, nested-read}
+use Rattle.edits.proofs.Lookups.{container-ready, nested-read, Passed, passed-tree}
 
 pub whole-strips : (s : Bytes) → checked (nested 64 s) ≡ Readable → length s ≤ 65536 → Strippable s 64
 whole-strips s c l = record { readable = c; allowed = omega arith; short = l }
@@ -97,53 +96,56 @@ on-one-is edit s room = by-read (read s)
     by-read (refused x) = refl
 
 -- The numbers of strip.
-module _ (a o : Bytes) (room : ℕ) (c : Check) (hc : c ≡ checked (read a)) where
-  abbrev On : Ending → Bytes → Type 0
-  On e o′ = EndedIn e o o′ (on-one strip a room)
+abbrev On : Bytes → ℕ → Ending → Bytes → Bytes → Type 0
+On a room e o o′ = EndedIn e o o′ (on-one strip a room)
 
-  pub strip-left : (x : Refusal) → c ≡ NotReadable x → On (Refused x) o
+pub strip-left : (a o : Bytes) (room : ℕ) {c : Check} → c ≡ checked (read a) → {x : Refusal} → c ≡ NotReadable x → On a room (Refused x) o o
+unfolding _>>=_
+strip-left a o room {c} hc {x} q = rw (on-one-is strip a room, refused-as (read a) c x hc q) (record { answer = refl; bytes = refl })
+
+-- A readable container.
+pub record Container-at (a : Bytes) : Type 0 where
+  pub passed : Passed a
+  pub container : (m : ℕ) → header a ≡ Scalar m → ⊥
+
+module _ {a : Bytes} where
+  -- A root scalar comes back as it is.
+  pub strip-scalar : Passed a → {m : ℕ} → header a ≡ Scalar m → {e : Ending} {o o′ : Bytes} (room : ℕ) → EndedIn e o o′ (into room a)
+      → On a room e o o′
   unfolding _>>=_
-  strip-left x q = rw (on-one-is strip a room, refused-as (read a) c x hc q) (record { answer = refl; bytes = refl })
+  strip-scalar p {m} q room w =
+      let t = passed-tree p in
+      let s = scalar-strip (t .0) m (sym (t .1 .head) ∙ q) in
+      let r : (read a >>= strip) ≡ gives (t .0) = rw (t .1 .reads) (strip-given (t .0) (s .1) ∙ ap gives (s .0)) in
+      rw (on-one-is strip a room, r, t .1 .bytes) w
 
-  module _ (oa : Octets a) (qc : c ≡ Readable) (h : Header) (hh : h ≡ header a) where
-    target : (t : Tree) × Known a t
-    target = let w = readable-gives (read a) c hc qc in (w .0, known a (w .0) oa (w .1))
-
+  module _ (s : Container-at a) where
     abbrev t : Tree
-    t = target .0
+    t = passed-tree (s .passed) .0
 
-    -- A root scalar comes back as it is.
-    pub strip-scalar : (m : ℕ) → h ≡ Scalar m → (e : Ending) (o′ : Bytes) → EndedIn e o o′ (into room a) → On e o′
-    unfolding _>>=_
-    strip-scalar m q e o′ w =
-        let s = scalar-strip t m (sym (target .1 .head) ∙ sym hh ∙ q) in
-        let r : (read a >>= strip) ≡ gives t = rw (target .1 .reads) (strip-given t (s .1) ∙ ap gives (s .0)) in
-        rw (on-one-is strip a room, r, target .1 .bytes) w
+    known-target : Known a t
+    known-target = passed-tree (s .passed) .1
 
-    module _ (q : (m : ℕ) → h ≡ Scalar m → ⊥) where
-      container : (m : ℕ) → header a ≡ Scalar m → ⊥
-      container m e = q m (hh ∙ e)
+    pub strip-ready : (checked (nested 64 a) ≡ Readable) × (length a ≤ 65536)
+    strip-ready = let w = container-ready a t known-target (s .container) in (w .1, w .0)
 
-      pub strip-ready : (checked (nested 64 a) ≡ Readable) × (length a ≤ 65536)
-      strip-ready = let w = container-ready a t (target .1) container in (w .1, w .0)
+    -- A container: 8, then 10.
+    out-is : (room : ℕ) → on-one strip a room ≡ strip-out a room
+    unfolding strip-out stripped-of unrepeated-of _>>=_
+    out-is room =
+        let n : nested 64 a ≡ gives t = nested-read a t (known-target .reads) (s .container) in
+        let k = contains 64 a (s .passed .octets) (known-target .short) (strip-ready .0) in
+        let same : k .0 ≡ t = gives-inj (sym (k .1 .reads) ∙ n) in
+        let kc : kind (stripped t) ≡ Container = kind-stripped t ∙ ap kind (sym same) ∙ k .1 .container in
+        rw (on-one-is strip a room, known-target .reads, n) (go (unrepeated t) refl kc)
+      where
+        go : (b : Bool) → unrepeated t ≡ b → kind (stripped t) ≡ Container
+            → written room (strip t) ≡ cond b (into room (payload (stripped t))) (refusal RepeatedName)
+        go true u kc = rw (strip-given t u) (ap (into room) (container-encode (stripped t) (payload (stripped t)) (rw kc)))
+        go false u kc = rw (strip-refused t u)
 
-      -- A container: 8, then 10.
-      out-is : on-one strip a room ≡ strip-out a room
-      unfolding strip-out stripped-of unrepeated-of _>>=_
-      out-is =
-          let n : nested 64 a ≡ gives t = nested-read a t (target .1 .reads) container in
-          let k = contains 64 a oa (target .1 .short) (strip-ready .0) in
-          let same : k .0 ≡ t = gives-inj (sym (k .1 .reads) ∙ n) in
-          let kc : kind (stripped t) ≡ Container = kind-stripped t ∙ ap kind (sym same) ∙ k .1 .container in
-          rw (on-one-is strip a room, target .1 .reads, n) (go (unrepeated t) refl kc)
-        where
-          go : (b : Bool) → unrepeated t ≡ b → kind (stripped t) ≡ Container
-              → written room (strip t) ≡ cond b (into room (payload (stripped t))) (refusal RepeatedName)
-          go true u kc = rw (strip-given t u) (ap (into room) (container-encode (stripped t) (payload (stripped t)) (rw kc)))
-          go false u kc = rw (strip-refused t u)
-
-      pub strip-ends : (e : Ending) (o′ : Bytes) → EndedIn e o o′ (strip-out a room) → On e o′
-      strip-ends e o′ w = rw out-is w
+    pub strip-ends : {e : Ending} {o o′ : Bytes} (room : ℕ) → EndedIn e o o′ (strip-out a room) → On a room e o o′
+    strip-ends room w = rw (out-is room) w
 
 pub strip-fits : (a : Bytes) (room : ℕ) → Fits room (on-one strip a room)
 unfolding on-one

@@ -6,14 +6,42 @@ use borrow.Author.Needs.{needs}
 use Rattle.edits.proofs.path.write_item.Statement.{statement}
 use Rattle.edits.proofs.path.write_item.Tie as tie
 
+-- From the code of the item back to the start; from the second test to the code.
+abbrev start : tie.After-type-code → tie.Start
+start c = c .before .before .before .before
+
+abbrev to-code : tie.Else2 → tie.After-type-code
+to-code c = c .before .before
+
 returns : tie.Need-returns
-returns c = in-as _ _ _ (c .before .before .before .before .before .before .payload-at .ensures ∙ sym (item-record-container (c .before .before .before .before .before .before .before .before .before .args .s .now) (c .before .before .before .before .before .before .before .before .before .args .item) _ (c .before .before .before .before .before .type-code .ensures) (c .before .before .before .before .if1 .taken))) (c .before .before .write-copy .ensures)
+returns c =
+    let copied = c .before .before in
+    let container = copied .before .before in
+    let code = container .before in
+    let a = start code .args in
+    in-as _ _ _
+    (code .before .payload-at .ensures
+    ∙ sym (item-record-container (a .s .now) (a .item) _ (code .type-code .ensures) (container .if1 .taken)))
+    (copied .write-copy .ensures)
 
 returns-2 : tie.Need-returns-2
-returns-2 c = item-short (c .before .before .before .before .before .before .args .s .now) (c .before .before .before .before .before .before .args .item) _ (c .before .before .type-code .ensures) (c .before .if1 .left) _ (c .before .before .before .payload-at .ensures) (c .before .before .before .before .before .before .args .out .now) (c .before .before .before .before .before .before .args .room) (c .if2 .taken)
+returns-2 c =
+    let scalar = c .before in
+    let code = scalar .before in
+    let a = start code .args in
+    item-short (a .s .now) (a .item) _ (code .type-code .ensures) (scalar .if1 .left) _ (code .before .payload-at .ensures)
+    (a .out .now) (a .room) (c .if2 .taken)
 
 returns-3 : tie.Need-returns-3
-returns-3 c = item-stored (c .before .before .before .before .before .before .before .before .before .before .before .before .before .before .before .before .before .before .args .s .now) (c .before .before .before .before .before .before .before .before .before .before .before .before .before .before .before .before .before .before .args .item) _ (c .before .before .before .before .before .before .before .before .before .before .before .before .before .before .type-code .ensures) (c .before .before .before .before .before .before .before .before .before .before .before .before .before .if1 .left) _ (c .before .before .before .before .before .before .before .before .before .before .before .before .before .before .before .payload-at .ensures) (c .before .before .before .before .before .before .before .before .before .before .before .before .before .before .before .before .before .before .args .out .now) (c .before .before .before .before .before .before .before .before .before .before .before .before .before .before .before .before .before .before .args .room) _ _ _ (c .before .before .before .before .before .before .before .before .before .before .before .before .if2 .left) (c .before .before .before .before .before .before .before .before .before .before .put-u32 .ensures) (c .before .before .before .before .before .before .put-u322 .ensures) (c .before .before .copy .ensures)
+returns-3 c =
+    let payload = c .before .before in
+    let entry = payload .before .before .before .before in
+    let header = entry .before .before .before .before in
+    let serves = header .before .before in
+    let code = to-code serves in
+    let a = start code .args in
+    item-stored (a .s .now) (a .item) _ (code .type-code .ensures) (serves .before .if1 .left) _ (code .before .payload-at .ensures)
+    (a .out .now) (a .room) _ _ _ (serves .if2 .left) (header .put-u32 .ensures) (entry .put-u322 .ensures) (payload .copy .ensures)
 
 pub write-item-spec : {M : Type 1} → statement M
 write-item-spec =
