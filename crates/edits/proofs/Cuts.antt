@@ -14,12 +14,12 @@ use Rattle.layout.proofs.Readables.{record-of-length}
 use Rattle.layout.specs.Parts.{next-part}
 use Rattle.edits.specs.Cut.{Stores}
 use Rattle.layout.specs.Parts.{PartOf, parts-of}
-use Rattle.edits.specs.Runs.{without, without-member, run-entries, run-payloads, run-behind}
+use Rattle.edits.specs.Runs.{without, without-member}
 use Rattle.layout.specs.declared.parts.PartAt.{PartAt}
 use Rattle.layout.specs.declared.parts.Cursor.{Cursor}
 use Rattle.edits.proofs.Rows.{row-lengths, row-entry}
 use Rattle.edits.proofs.Tables.{Parted}
-use Rattle.edits.proofs.Runs.{laid, laid-append, laid-one, laid-record, Run, run-is, run-stored}
+use Rattle.edits.proofs.Runs.{laid, laid-append, laid-one, laid-record, Run, Ran, run-is, run-stored}
 
 -- A list at one of its places.
 pub record Nth (ps : List Part) (k : ℕ) : Type 0 where
@@ -140,11 +140,9 @@ module _ (s : Bytes) (n : ℕ) (a : PartAt) (d : Part-at s n a) where
 -- An array without one of its items.
 module _ (s : Bytes) (n : ℕ) (a : PartAt) (d : Part-at s n a) (o o₁ o₂ o₃ : Bytes) (at w : ℕ) (start middle end : Cursor) (next : PartAt) where
   pub without-stored : o₁ ≡ patch o at (be32 w) → start .jentry ≡ at + 4 → start .place ≡ at + 4 * n
-      → (middle ≡ run-behind (record { index = 0; place = 4 + 4 * n }) a start)
-      × (o₂ ≡ patch (patch o₁ (start .jentry) (run-entries s (record { index = 0; place = 4 + 4 * n }) a)) (start .place) (run-payloads s (record { index = 0; place = 4 + 4 * n }) a))
+      → Ran s (record { index = 0; place = 4 + 4 * n }) a start middle o₁ o₂
       → next ≡ next-part s a
-      → (end ≡ run-behind next (record { index = n; place = length s }) middle)
-      × (o₃ ≡ patch (patch o₂ (middle .jentry) (run-entries s next (record { index = n; place = length s }))) (middle .place) (run-payloads s next (record { index = n; place = length s })))
+      → Ran s next (record { index = n; place = length s }) middle end o₂ o₃
       → Stores (end .place - at) o o₃ at (record-of w (without (a .index) (parts-of s n)))
   unfolding patch
   without-stored e₁ sj sp h₁ en h₂ =
@@ -152,8 +150,10 @@ module _ (s : Bytes) (n : ℕ) (a : PartAt) (d : Part-at s n a) (o o₁ o₂ o�
       let y : List Part = d .nth .right in
       let r₁ = run-before s n a d in
       let r₂ : Run s next (record { index = n; place = length s }) (d .nth .right) = rw en (run-behind-it s n a d) in
-      let b₁ = run-stored o₁ (start .jentry) (start .place) [] (d .nth .left) s _ a start middle o₁ o₂ r₁ (omega (arith, d .count, d .nth .before)) refl (omega arith) (omega arith) h₁ in
-      let b₂ = run-stored o₁ (start .jentry) (start .place) (d .nth .left) (d .nth .right) s next _ middle end o₂ o₃ r₂ (omega (arith, d .count, d .nth .before)) (b₁ .0) (b₁ .1) (b₁ .2) h₂ in
+      let b₁ = run-stored o₁ (start .jentry) (start .place) [] (d .nth .left) s _ a start middle o₁ o₂ r₁
+      (omega (arith, d .count, d .nth .before)) refl (omega arith) (omega arith) h₁ in
+      let b₂ = run-stored o₁ (start .jentry) (start .place) (d .nth .left) (d .nth .right) s next _ middle end o₂ o₃ r₂
+      (omega (arith, d .count, d .nth .before)) (b₁ .0) (b₁ .1) (b₁ .2) h₂ in
       let all : without (a .index) (parts-of s n) ≡ d .nth .left ++ d .nth .right = rw (d .nth .taken, d .nth .dropped) in
       let m : length (d .nth .left ++ d .nth .right) + 1 ≡ n = omega (arith, d .count, d .nth .before, length-append (d .nth .left) (d .nth .right)) in
       rw all (record {
@@ -165,12 +165,10 @@ module _ (s : Bytes) (n : ℕ) (a : PartAt) (d : Part-at s n a) (o o₁ o₂ o�
 module _ (s : Bytes) (n : ℕ) (a : PartAt) (d : Part-at s n a) (o o₁ o₂ o₃ o₄ o₅ : Bytes) (at w len e : ℕ) (start here rest end : Cursor)
     (next : PartAt) (z : Part) where
   pub anew-stored : o₁ ≡ patch o at (be32 w) → start .jentry ≡ at + 4 → start .place ≡ at + (4 + 4 * n)
-      → (here ≡ run-behind (record { index = 0; place = 4 + 4 * n }) a start)
-      × (o₂ ≡ patch (patch o₁ (start .jentry) (run-entries s (record { index = 0; place = 4 + 4 * n }) a)) (start .place) (run-payloads s (record { index = 0; place = 4 + 4 * n }) a))
+      → Ran s (record { index = 0; place = 4 + 4 * n }) a start here o₁ o₂
       → Stores len o₂ o₃ (here .place) (z .bytes) → e ≡ entry-word z → o₄ ≡ patch o₃ (here .jentry) (be32 e)
       → rest .jentry ≡ here .jentry + 4 → rest .place ≡ here .place + len → next ≡ next-part s a
-      → (end ≡ run-behind next (record { index = n; place = length s }) rest)
-      × (o₅ ≡ patch (patch o₄ (rest .jentry) (run-entries s next (record { index = n; place = length s }))) (rest .place) (run-payloads s next (record { index = n; place = length s })))
+      → Ran s next (record { index = n; place = length s }) rest end o₄ o₅
       → Stores (end .place - at) o o₅ at (record-of w (d .nth .left ++ (z ∷ d .nth .right)))
   unfolding patch
   anew-stored e₁ sj sp h₁ l ez e₄ rj rp en h₂ =
@@ -272,19 +270,25 @@ module _ (s : Bytes) (n w : ℕ) (l : List Part) (x : Part) (m : List Part) (y :
       run-is w ((l ++ (x ∷ m)) ++ (y ∷ [])) r [] s (next-part s val) last (rw q e)
       (omega (arith, val-index, length-append (l ++ (x ∷ m)) (y ∷ [])))
       (omega (arith, vi, count-all))
-      (rw q (omega (arith, val-place, val-size, c, size-left, ap length (payloads-append (l ++ (x ∷ m)) (y ∷ [])), length-append (payloads (l ++ (x ∷ m))) (payloads (y ∷ [])), length-append (y .bytes) [])))
+      (rw q (omega (
+        arith,
+        val-place,
+        val-size,
+        c,
+        size-left,
+        ap length (payloads-append (l ++ (x ∷ m)) (y ∷ [])),
+        length-append (payloads (l ++ (x ∷ m))) (payloads (y ∷ [])),
+        length-append (y .bytes) [],
+      )))
       (omega (arith, two-end, val-size))
 
   module _ (o o₁ o₂ o₃ o₄ : Bytes) (at v : ℕ) (start keys vals end : Cursor) (next after : PartAt) where
     pub two-stored : o₁ ≡ patch o at (be32 v) → start .jentry ≡ at + 4 → start .place + 4 ≡ at + 4 * n
-        → (keys ≡ run-behind first key start)
-        × (o₂ ≡ patch (patch o₁ (start .jentry) (run-entries s first key)) (start .place) (run-payloads s first key))
+        → Ran s first key start keys o₁ o₂
         → next ≡ next-part s key
-        → (vals ≡ run-behind next val keys)
-        × (o₃ ≡ patch (patch o₂ (keys .jentry) (run-entries s next val)) (keys .place) (run-payloads s next val))
+        → Ran s next val keys vals o₂ o₃
         → after ≡ next-part s val
-        → (end ≡ run-behind after last vals)
-        × (o₄ ≡ patch (patch o₃ (vals .jentry) (run-entries s after last)) (vals .place) (run-payloads s after last))
+        → Ran s after last vals end o₃ o₄
         → Stores (end .place - at) o o₄ at (record-of v ((l ++ m) ++ r))
     unfolding patch
     two-stored e₁ sj sp h₁ en h₂ ea h₃ =

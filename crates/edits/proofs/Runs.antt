@@ -90,12 +90,17 @@ run-is w xs ys zs s a b e ai bi ap′ bp =
       bytes = d;
     }
 
+-- What the writer of a run did: it stored the entries and the payloads of the parts from `a` up to `b`, and gave the cursor behind them.
+abbrev pub Ran : Bytes → PartAt → PartAt → Cursor → Cursor → Bytes → Bytes → Type 0
+Ran s a b at at′ o o′ =
+    (at′ ≡ run-behind a b at) × (o′ ≡ patch (patch o (at .jentry) (run-entries s a b)) (at .place) (run-payloads s a b))
+
 -- A run stored behind what was stored: `done` so far, and then `ys` too.
 module _ (o : Bytes) (e p : ℕ) where
   pub run-stored : (done ys : List Part) (s : Bytes) (a b : PartAt) (at at′ : Cursor) (o₁ o₂ : Bytes) → Run s a b ys
       → e + 4 * (length done + length ys) ≤ p
       → o₁ ≡ laid o e p done → at .jentry ≡ e + 4 * length done → at .place ≡ p + length (payloads done)
-      → (at′ ≡ run-behind a b at) × (o₂ ≡ patch (patch o₁ (at .jentry) (run-entries s a b)) (at .place) (run-payloads s a b))
+      → Ran s a b at at′ o₁ o₂
       → (o₂ ≡ laid o e p (done ++ ys)) × (at′ .jentry ≡ e + 4 * length (done ++ ys)) × (at′ .place ≡ p + length (payloads (done ++ ys)))
   run-stored done ys s a b at at′ o₁ o₂ r h e₁ ej ep h₂ =
       let l = length-append done ys in

@@ -254,7 +254,14 @@ module _ (s path : Bytes) (n : ℕ) (val : PartAt) (w : Way) (allowance : ℕ) (
 
     summed : 4 + 8 * z .count + z .keys + length (column (anew-value s name steps) all) ≡ length (remains-of s (steps-from path w))
     summed =
-        omega (arith, counted, keyed, ap length remains-is, stand-sizes (name-in s) (anew-value s name steps) (anew-entry s name steps) all (change-member (some (down .after)) name (in-order ms)) standing)
+        omega (
+          arith,
+          counted,
+          keyed,
+          ap length remains-is,
+          stand-sizes (name-in s) (anew-value s name steps) (anew-entry s name steps) all
+              (change-member (some (down .after)) name (in-order ms)) standing,
+        )
 
     pub anew-room : 4 + 8 * z .count + z .keys + length (column (anew-value s name steps) all) ≤ 65536
     anew-room = omega (arith, summed, down .remains-shorter, c .short)
@@ -273,7 +280,8 @@ module _ (s path : Bytes) (n : ℕ) (val : PartAt) (w : Way) (allowance : ℕ) (
     anew-count i m e = omega (arith, counted, nth-inside all i m e)
 
     pub anew-remains : (to : Places) (at v end : ℕ) (b b₁ b₂ : Bytes) → to ≡ places-for z at → v ≡ bitOr (2 ^ 30) (z .count)
-        → b₁ ≡ patch b at (be32 v) → b₂ ≡ woven (name-in s) (anew-value s name steps) (anew-entry s name steps) b₁ (to .«key_jentry») (to .«val_jentry») (to .key) (to .val) all
+        → b₁ ≡ patch b at (be32 v)
+        → b₂ ≡ woven (name-in s) (anew-value s name steps) (anew-entry s name steps) b₁ (to .«key_jentry») (to .«val_jentry») (to .key) (to .val) all
         → end ≡ to .val + length (column (anew-value s name steps) all)
         → Stores (end - at) b b₂ at (remains-of s (steps-from path w))
     anew-remains to at v end b b₁ b₂ et ev e₁ e₂ ee =
@@ -282,6 +290,6 @@ module _ (s path : Bytes) (n : ℕ) (val : PartAt) (w : Way) (allowance : ℕ) (
         rw remains-is (record {
           length-is = omega (arith, ee, tv, summed, ap length remains-is);
           stored =
-              stand-woven (name-in s) (anew-value s name steps) (anew-entry s name steps) all (change-member (some (down .after)) name (in-order ms)) standing b b₁ b₂ at z counted keyed
-              (rw q at e₁) (rw et at e₂);
+              stand-woven (name-in s) (anew-value s name steps) (anew-entry s name steps) all
+              (change-member (some (down .after)) name (in-order ms)) standing b b₁ b₂ at z counted keyed (rw q at e₁) (rw et at e₂);
         })

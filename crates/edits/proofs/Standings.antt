@@ -89,8 +89,10 @@ module _ (s : Bytes) (kept : Kept) (all : Ahead) where
     pub sized-ends : kept-ahead s kept here ≡ [] → sizes ≡ sizes-of s (kept-ahead s kept all)
     sized-ends e =
         let c : sizes .count ≡ length (kept-ahead s kept all) = omega (arith, now .count, ap length e) in
-        let k : sizes .keys ≡ length (column (name-in s) (kept-ahead s kept all)) = omega (arith, now .keys, ap (λ (l : List MemberAt). length (column (name-in s) l)) e, column-none (name-in s)) in
-        let v : sizes .vals ≡ length (column (value-in s) (kept-ahead s kept all)) = omega (arith, now .vals, ap (λ (l : List MemberAt). length (column (value-in s) l)) e, column-none (value-in s)) in
+        let k : sizes .keys ≡ length (column (name-in s) (kept-ahead s kept all)) =
+        omega (arith, now .keys, ap (λ (l : List MemberAt). length (column (name-in s) l)) e, column-none (name-in s)) in
+        let v : sizes .vals ≡ length (column (value-in s) (kept-ahead s kept all)) =
+        omega (arith, now .vals, ap (λ (l : List MemberAt). length (column (value-in s) l)) e, column-none (value-in s)) in
         rw (← c, ← k, ← v)
 
     -- The sums are right.

@@ -59,7 +59,8 @@ fine-one : (done : Items) (t : Tree) → unrepeated-items done ≡ true → unre
 fine-one none t h e = rw e
 fine-one (item u done) t h e = both (unrepeated u) (unrepeated-items done) h (fine-one done t)
   where
-    both : (a b : Bool) → (a && b) ≡ true → (b ≡ true → unrepeated t ≡ true → unrepeated-items (one-more done t) ≡ true) → (a && unrepeated-items (one-more done t)) ≡ true
+    both : (a b : Bool) → (a && b) ≡ true → (b ≡ true → unrepeated t ≡ true → unrepeated-items (one-more done t) ≡ true)
+        → (a && unrepeated-items (one-more done t)) ≡ true
     both true b q f = f q e
     both false b q f = cc
 
@@ -174,7 +175,8 @@ module _ (s : Bytes) (n a at : ℕ) (w : Array-at s n a) (o : Bytes) where
 
   module _ (out : Bytes) (here : Cursor) (p : PartAt) (now : Storing s n a at w o out here p) where
     -- How much was stored.
-    pub storing-room : (p .index ≤ n) × (here .place ≤ at + 65536) × (here .jentry ≡ at + 4 + 4 * p .index) × (at + 4 + 4 * n ≤ here .place) × (p .place ≤ 65536) × (n < 2 ^ 20)
+    pub storing-room : (p .index ≤ n) × (here .place ≤ at + 65536) × (here .jentry ≡ at + 4 + 4 * p .index) × (at + 4 + 4 * n ≤ here .place)
+        × (p .place ≤ 65536) × (n < 2 ^ 20)
     storing-room =
         let all : length (payloads (item-parts (w .items))) ≡ length (payloads (item-parts (now .done))) + length (payloads (item-parts (now .rest))) =
         ap (λ (ts : Items). length (payloads (item-parts ts))) (sym (now .split))
@@ -197,6 +199,23 @@ module _ (s : Bytes) (n a at : ℕ) (w : Array-at s n a) (o : Bytes) where
         )
 
     -- All are stored.
+    all-stored : (v : ℕ) (o₀ : Bytes) → o ≡ patch o₀ at (be32 v) → now .done ≡ w .items → length (item-parts (stripped-items (now .done))) ≡ n
+        → stripped-of s ≡ payload (array (stripped-items (now .done))) → v ≡ 2 ^ 31 + length (item-parts (stripped-items (now .done)))
+        → Strips (Len (here .place - at)) (unrepeated-of s) (stripped-of s) out (patch o₀ at (stripped-of s))
+    all-stored v o₀ eo all c is word = (
+      w .unrepeated-is ∙ ap unrepeated-items (sym all) ∙ now .fine,
+      rw is (omega (
+        arith,
+        now .spot,
+        c,
+        record-of-length (2 ^ 31 + length (item-parts (stripped-items (now .done)))) (item-parts (stripped-items (now .done))),
+      )),
+      now .stored
+          ∙ rw (eo, is, word)
+          (laid-record o₀ at (2 ^ 31 + length (item-parts (stripped-items (now .done)))) (at + 4) (at + (4 + 4 * n))
+          (item-parts (stripped-items (now .done))) refl (omega (arith, c))),
+    )
+
     pub storing-ends : (v : ℕ) (o₀ : Bytes) → n ≤ p .index → v ≡ bitOr (2 ^ 31) n → o ≡ patch o₀ at (be32 v)
         → Strips (Len (here .place - at)) (unrepeated-of s) (stripped-of s) out (patch o₀ at (stripped-of s))
     storing-ends v o₀ h ev eo = go (now .rest) refl
@@ -213,14 +232,8 @@ module _ (s : Bytes) (n a at : ℕ) (w : Array-at s n a) (o : Bytes) where
         go none q =
             let all : now .done ≡ w .items = sym (join-none (now .done)) ∙ ap (join (now .done)) (sym q) ∙ now .split in
             let c : length (item-parts (stripped-items (now .done))) ≡ n = count-stripped (now .done) ∙ ap (λ (ts : Items). length (item-parts ts)) all ∙ sym (w .count) in
-            let is : stripped-of s ≡ payload (array (stripped-items (now .done))) = w .stripped-is ∙ ap (λ (ts : Items). payload (array (stripped-items ts))) (sym all) in
-            let word : v ≡ 2 ^ 31 + length (item-parts (stripped-items (now .done))) = ev ∙ array-word n (omega (arith, w .table, w .short)) ∙ ap (λ (k : ℕ). 2 ^ 31 + k) (sym c) in (
-              w .unrepeated-is ∙ ap unrepeated-items (sym all) ∙ now .fine,
-              rw is (omega (arith, now .spot, c, record-of-length (2 ^ 31 + length (item-parts (stripped-items (now .done)))) (item-parts (stripped-items (now .done))))),
-              now .stored
-                  ∙ rw (eo, is, word)
-                  (laid-record o₀ at (2 ^ 31 + length (item-parts (stripped-items (now .done)))) (at + 4) (at + (4 + 4 * n)) (item-parts (stripped-items (now .done))) refl (omega (arith, c))),
-            )
+            all-stored v o₀ eo all c (w .stripped-is ∙ ap (λ (ts : Items). payload (array (stripped-items ts))) (sym all))
+            (ev ∙ array-word n (omega (arith, w .table, w .short)) ∙ ap (λ (k : ℕ). 2 ^ 31 + k) (sym c))
 
     -- The next item.
     module _ (more : p .index < n) where
@@ -254,7 +267,14 @@ module _ (s : Bytes) (n a at : ℕ) (w : Array-at s n a) (o : Bytes) where
             (omega (arith, hp, now .place, w .count, ap length parts)) (rw parts at (f .fits)) in
             let inside = item-inside (now .done) (next-item .0) (next-item .1) in
             let b : bytes-at s x ≡ payload (next-item .0) = rw he (r .1) in
-            let len : length (payload (next-item .0)) ≤ length s = omega (arith, ap length parts-payloads, w .table, length-append (payloads (item-parts (now .done))) (payload (next-item .0) ++ payloads (item-parts (next-item .1))), length-append (payload (next-item .0)) (payloads (item-parts (next-item .1)))) in
+            let len : length (payload (next-item .0)) ≤ length s =
+            omega (
+              arith,
+              ap length parts-payloads,
+              w .table,
+              length-append (payloads (item-parts (now .done))) (payload (next-item .0) ++ payloads (item-parts (next-item .1))),
+              length-append (payload (next-item .0)) (payloads (item-parts (next-item .1))),
+            ) in
             record {
               entry = he ∙ r .0;
               bytes = b;
@@ -287,7 +307,8 @@ module _ (s : Bytes) (n a at : ℕ) (w : Array-at s n a) (o : Bytes) where
               w .unrepeated-is ∙ ap unrepeated-items (sym whole) ∙ repeats-in (now .done) (next-item .0) (next-item .1) f
 
           module _ (len : ℕ) (q : r ≡ Len len) where
-            told : (unrepeated-item s x ≡ true) × (len ≡ length (strip-item s x)) × (out₁ ≡ patch (patch out (here .jentry) (be32 (strip-entry s x))) (here .place) (strip-item s x))
+            told : (unrepeated-item s x ≡ true) × (len ≡ length (strip-item s x))
+                × (out₁ ≡ patch (patch out (here .jentry) (be32 (strip-entry s x))) (here .place) (strip-item s x))
             told = rw q at st
 
             abbrev t : Tree
@@ -299,7 +320,8 @@ module _ (s : Bytes) (n a at : ℕ) (w : Array-at s n a) (o : Bytes) where
             more-parts : item-parts (stripped-items (one-more (now .done) t)) ≡ item-parts (stripped-items (now .done)) ++ (part (stripped t) ∷ [])
             more-parts = ap item-parts (strip-one (now .done) t) ∙ parts-one (stripped-items (now .done)) (stripped t)
 
-            more-payloads : length (payloads (item-parts (stripped-items (one-more (now .done) t)))) ≡ length (payloads (item-parts (stripped-items (now .done)))) + length (payload (stripped t))
+            more-payloads : length (payloads (item-parts (stripped-items (one-more (now .done) t))))
+                ≡ length (payloads (item-parts (stripped-items (now .done)))) + length (payload (stripped t))
             more-payloads =
                 ap (λ (l : List Part). length (payloads l)) more-parts
                 ∙ ap length (payloads-append (item-parts (stripped-items (now .done))) (part (stripped t) ∷ []))
@@ -338,8 +360,8 @@ module _ (s : Bytes) (n a at : ℕ) (w : Array-at s n a) (o : Bytes) where
                   spot = omega (arith, now .spot, ln, more-payloads);
                   fine = fine-one (now .done) t (now .fine) (sym (sa .2) ∙ told .0);
                   stored =
-                      one-stored o out out₁ (at + 4) (at + (4 + 4 * n)) (item-parts (stripped-items (now .done))) (part (stripped t)) (here .jentry) (here .place) (strip-entry s x) (strip-item s x)
-                      (now .stored) (now .jentry) (now .spot) (sa .1) (sa .0) (told .2) (omega (arith, rm .0, more, now .index, count-stripped (now .done)))
+                      one-stored o out out₁ (at + 4) (at + (4 + 4 * n)) (item-parts (stripped-items (now .done))) (part (stripped t))
+                      (here .jentry) (here .place) (strip-entry s x) (strip-item s x) (now .stored) (now .jentry) (now .spot) (sa .1) (sa .0) (told .2) (omega (arith, rm .0, more, now .index, count-stripped (now .done)))
                       ∙ ap (laid o (at + 4) (at + (4 + 4 * n))) (sym more-parts);
                   as-long = ap length (told .2) ∙ length-patch _ _ _ ∙ length-patch _ _ _ ∙ now .as-long;
                 }

@@ -480,7 +480,9 @@ module _ {s : Bytes} {n a at : ℕ} {z : Sizes} {to₀ : Places} {o out last : B
           len-short = omega (arith, told .1, sizes-all, column-part (strip-value s) (sorted (name-in s) (searched s n NonNull)) i m is-nth)
 
           pub members-on : (key : Bytes) → key ≡ name-in s m
-              → Storing-members s n a at z to₀ o out₁ key (record { «key_jentry» = to .«key_jentry» + 4; «val_jentry» = to .«val_jentry» + 4; key = to .key + length key; val = to .val + len }) (i + 1)
+              → Storing-members s n a at z to₀ o out₁ key
+              (record { «key_jentry» = to .«key_jentry» + 4; «val_jentry» = to .«val_jentry» + 4; key = to .key + length key; val = to .val + len })
+              (i + 1)
           members-on key hk =
               record {
                 setting = now .setting;
@@ -490,7 +492,8 @@ module _ {s : Bytes} {n a at : ℕ} {z : Sizes} {to₀ : Places} {o out last : B
                 each = λ k y h e. more k y (decLe (suc k) i) h e;
               }
             where
-              more : (k : ℕ) (y : MemberAt) → Dec (suc k ≤ i) → k < i + 1 → nth (sorted (name-in s) (searched s n NonNull)) k ≡ At y → unrepeated-item s (y .val) ≡ true
+              more : (k : ℕ) (y : MemberAt) → Dec (suc k ≤ i) → k < i + 1 → nth (sorted (name-in s) (searched s n NonNull)) k ≡ At y
+                  → unrepeated-item s (y .val) ≡ true
               more k y (yes d) h e = now .each k y d e
               more k y (no d) h e =
                   let same : k ≡ i = omega arith in
@@ -498,13 +501,22 @@ module _ {s : Bytes} {n a at : ℕ} {z : Sizes} {to₀ : Places} {o out last : B
                   let g : y ≡ m = cc in
                   rw g (told .0)
 
+  -- All are stored, and each of them is stripped.
+  full : z .count ≤ i → length (searched s n NonNull) ≤ length (sorted (name-in s) (searched s n NonNull))
+  full h = omega (arith, h, count-is, now .stored .sought .count)
+
+  done : z .count ≤ i → length (sorted (name-in s) (searched s n NonNull)) ≤ i
+  done h = omega (arith, h, count-is, length-sorted (name-in s) (searched s n NonNull))
+
+  each-done : z .count ≤ i → (k : ℕ) (m : MemberAt) → nth (sorted (name-in s) (searched s n NonNull)) k ≡ At m
+      → unrepeated-item s (m .val) ≡ true
+  each-done h k m e = now .each k m (omega (arith, done h, nth-inside (sorted (name-in s) (searched s n NonNull)) k m e)) e
+
   pub members-ends : (v : ℕ) (o₀ : Bytes) → z .count ≤ i → v ≡ bitOr (2 ^ 30) (z .count) → o ≡ patch o₀ at (be32 v)
       → Strips (Len (to .val - at)) (unrepeated-of s) (stripped-of s) out (patch o₀ at (stripped-of s))
   members-ends v o₀ h ev eo =
-      let st = now .stored in
-      let full : length (searched s n NonNull) ≤ length (sorted (name-in s) (searched s n NonNull)) = omega (arith, h, count-is, st .sought .count) in
-      let done : length (sorted (name-in s) (searched s n NonNull)) ≤ i = omega (arith, h, count-is, length-sorted (name-in s) (searched s n NonNull)) in
-      object-stored s n a (now .setting .object-is) full (λ k m e. now .each k m (omega (arith, done, nth-inside (sorted (name-in s) (searched s n NonNull)) k m e)) e) z to₀ at v (to .val) o₀ o out
+      object-stored s n a (now .setting .object-is) (full h) (each-done h) z to₀ at v (to .val) o₀ o out
       (now .setting .sizes) (now .setting .places) ev eo
-      (ends-full (name-in s) (strip-value s) (value-entry s) (searched s n NonNull) o to₀ out last to i st i (omega (arith, h, count-is)) (omega arith))
-      (ends-val (name-in s) (strip-value s) (value-entry s) (searched s n NonNull) o to₀ out last to i st done)
+      (ends-full (name-in s) (strip-value s) (value-entry s) (searched s n NonNull) o to₀ out last to i (now .stored) i
+      (omega (arith, h, count-is)) (omega arith))
+      (ends-val (name-in s) (strip-value s) (value-entry s) (searched s n NonNull) o to₀ out last to i (now .stored) (done h))

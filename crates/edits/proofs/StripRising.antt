@@ -111,7 +111,9 @@ module _ {s : Bytes} {n a at : ℕ} {to₀ : Places} {o out : Bytes} {to : Place
           rising-len = len-short (now .storing) (At m) found m refl e out₁ st len qe
 
           pub rising-on : (key : Bytes) → key ≡ name-in s m
-              → Storing-rising s n a at to₀ o out₁ (record { «key_jentry» = to .«key_jentry» + 4; «val_jentry» = to .«val_jentry» + 4; key = to .key + length key; val = to .val + len }) next
+              → Storing-rising s n a at to₀ o out₁
+              (record { «key_jentry» = to .«key_jentry» + 4; «val_jentry» = to .«val_jentry» + 4; key = to .key + length key; val = to .val + len })
+              next
           rising-on key hk =
               let later : eqb (now .count + 1) 0 ≡ false = ne-eqb (now .count + 1) 0 (λ y. omega arith) in
               record {
