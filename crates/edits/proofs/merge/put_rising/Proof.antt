@@ -1,10 +1,12 @@
 -- `edits::merge::put_rising` meets its contract.
-use Prim.Native.Nat.{_+_, _-_, _≤_}
+use Prim.Native.Nat.{_+_, _-_, _^_, _≤_, _<_}
 use native.Mathlib.Omega.{arith}
 use borrow.Author.Needs.{needs}
 use Rattle.layout.proofs.Words.{octets-of}
 use Rattle.edits.proofs.Merges.{objects-at, few-both}
-use Rattle.edits.proofs.Walks.{under-up, near-under, both-more, Walking, walking-starts, walking-near, walks-left, walks-both, walks-right, walking-rest, behind-near}
+use Rattle.edits.proofs.Sorteds.{Object-at}
+use Rattle.edits.proofs.Walks.{Under, under-up, near-under, both-more, behind-near}
+use Rattle.edits.proofs.Walks.{Walking, walking-starts, walking-near, walks-left, walks-both, walks-right, walking-rest}
 use Rattle.edits.proofs.merge.put_rising.Statement.{statement}
 use Rattle.edits.proofs.merge.put_rising.Tie as tie
 
@@ -14,83 +16,204 @@ Inv-loop left m right n out₀ l₀ r₀ at₀ i₀ j₀ out l r at i j = (m + n
 abbrev μ-loop : tie.MeasureT-loop
 μ-loop left m right n out₀ l₀ r₀ at₀ i₀ j₀ out l r at i j = m - i + (n - j)
 
+-- The places that the needs start from, and the ways back to them.
+abbrev Entry : Type 0
+Entry = tie.After-shared-slice-known2 Inv-loop μ-loop
+
+abbrev Head : Type 0
+Head = tie.At-loop Inv-loop μ-loop
+
+abbrev Turn : Type 0
+Turn = tie.After-compare Inv-loop μ-loop
+
+abbrev entered : Entry → tie.Start Inv-loop μ-loop
+entered c = c .before .before
+
+abbrev start : Head → tie.Start Inv-loop μ-loop
+start c = let known = c .before .before .before in entered (known .before)
+
+-- In a turn: both members read, then both names compared.
+abbrev read-left : tie.After-payload-at Inv-loop μ-loop → tie.After-read-member Inv-loop μ-loop
+read-left c = c .before .before
+
+abbrev names : Turn → tie.After-payload-at Inv-loop μ-loop
+names c = c .before .before
+
+abbrev head : Turn → Head
+head c = read-left (names c) .before .before
+
+-- The two objects, at the entry.
+objects : (c : Entry) → Object-at (entered c .args .left .now) (entered c .args .m) × Object-at (entered c .args .right .now) (entered c .args .n)
+objects c =
+    let a = entered c .args in
+    objects-at _ _ _ _ (octets-of (a .left .now) (λ i. omega (arith, c .before .shared-slice-known .given i)))
+    (octets-of (a .right .now) (λ i. omega (arith, c .shared-slice-known2 .given i))) (entered c .pre .0)
+
+few : (c : Entry) → entered c .args .m + entered c .args .n ≤ 16384
+few c = few-both (entered c .args .left .now) _ (entered c .args .right .now) _ (objects c)
+
+-- At the head of the loop: the places are within what a call takes.
+left-near : (c : Head) → Under (2 ^ 58) (c .loop .l)
+left-near c = near-under (start c .args .left .now) _ _ _ (c .loop .inv .1 .left-near)
+
+right-near : (c : Head) → Under (2 ^ 58) (c .loop .r)
+right-near c = near-under (start c .args .right .now) _ _ _ (c .loop .inv .1 .right-near)
+
+out-near : (c : Head) → Under (2 ^ 48) (c .loop .at)
+out-near c =
+    let p = start c .pre in
+    walking-near _ _ _ _ _ _ _ _ _ _ _ _ (c .loop .inv .1) (c .loop .inv .0) (p .3, p .4, p .5, p .6)
+
+-- In a turn: neither side is done.
+more : (c : Turn) → (head c .loop .i < start (head c) .args .m) × (head c .loop .j < start (head c) .args .n)
+more c = both-more _ _ _ _ (read-left (names c) .before .loop-test .taken)
+
 members-of-requires : tie.Need-members-of-requires Inv-loop μ-loop
-members-of-requires c κs = omega (arith, few-both (c .before .before .before .args .left .now) _ (c .before .before .before .args .right .now) _ (objects-at (c .before .before .before .args .left .now) _ (c .before .before .before .args .right .now) _ (octets-of (c .before .before .before .args .left .now) (λ i. omega (arith, c .before .before .shared-slice-known .given i))) (octets-of (c .before .before .before .args .right .now) (λ i. omega (arith, c .before .shared-slice-known2 .given i))) (c .before .before .before .pre .0)))
+members-of-requires c κs = omega (arith, few (c .before))
 
 members-of-requires-2 : tie.Need-members-of-requires-2 Inv-loop μ-loop
-members-of-requires-2 c κs = omega (arith, few-both (c .before .before .before .before .args .left .now) _ (c .before .before .before .before .args .right .now) _ (objects-at (c .before .before .before .before .args .left .now) _ (c .before .before .before .before .args .right .now) _ (octets-of (c .before .before .before .before .args .left .now) (λ i. omega (arith, c .before .before .before .shared-slice-known .given i))) (octets-of (c .before .before .before .before .args .right .now) (λ i. omega (arith, c .before .before .shared-slice-known2 .given i))) (c .before .before .before .before .pre .0)))
+members-of-requires-2 c κs = omega (arith, few (c .before .before))
 
 loop-holds : tie.Need-loop-holds Inv-loop μ-loop
-loop-holds c = let w = (objects-at (c .before .before .before .before .before .args .left .now) _ (c .before .before .before .before .before .args .right .now) _ (octets-of (c .before .before .before .before .before .args .left .now) (λ i. omega (arith, c .before .before .before .before .shared-slice-known .given i))) (octets-of (c .before .before .before .before .before .args .right .now) (λ i. omega (arith, c .before .before .before .shared-slice-known2 .given i))) (c .before .before .before .before .before .pre .0)) in (few-both (c .before .before .before .before .before .args .left .now) _ (c .before .before .before .before .before .args .right .now) _ w, walking-starts _ _ _ _ _ _ w (c .before .before .before .before .before .pre .1) (c .before .before .before .before .before .pre .2) _ _ (c .before .members-of .ensures) (c .members-of2 .ensures))
+loop-holds c =
+    let e = c .before .before .before in
+    let p = entered e .pre in
+    (few e, walking-starts _ _ _ _ _ _ (objects e) (p .1) (p .2) _ _ (c .before .members-of .ensures) (c .members-of2 .ensures))
 
+-- The left name is less.
 put-member-requires : tie.Need-put-member-requires Inv-loop μ-loop
-put-member-requires c κs = under-up _ _ _ (omega arith) (walking-near _ _ _ _ _ _ _ _ _ _ _ _ (c .before .before .before .before .before .before .before .before .before .loop .inv .1) (c .before .before .before .before .before .before .before .before .before .loop .inv .0) (c .before .before .before .before .before .before .before .before .before .before .before .before .before .before .before .pre .3, c .before .before .before .before .before .before .before .before .before .before .before .before .before .before .before .pre .4, c .before .before .before .before .before .before .before .before .before .before .before .before .before .before .before .pre .5, c .before .before .before .before .before .before .before .before .before .before .before .before .before .before .before .pre .6))
+put-member-requires c κs = under-up _ _ _ (omega arith) (out-near (head (c .before .before .before)))
+
+abbrev told₁ : tie.After-slice-known2 Inv-loop μ-loop → tie.After-enum-told Inv-loop μ-loop
+told₁ c = c .before .before .before .before
+
+abbrev turn₁ : tie.After-slice-known2 Inv-loop μ-loop → Turn
+turn₁ c = told₁ c .before .before
 
 places-behind-requires : tie.Need-places-behind-requires Inv-loop μ-loop
-places-behind-requires c κs = under-up _ _ _ (omega arith) (near-under (c .before .before .before .before .before .before .before .before .before .before .before .before .before .before .before .before .before .before .args .left .now) _ _ _ (c .before .before .before .before .before .before .before .before .before .before .before .before .loop .inv .1 .left-near))
+places-behind-requires c κs = under-up _ _ _ (omega arith) (left-near (head (turn₁ c)))
 
 add-i : tie.Need-add-i Inv-loop μ-loop
-add-i c = omega (arith, both-more (c .before .before .before .before .before .before .before .before .before .before .before .before .before .loop .i) (c .before .before .before .before .before .before .before .before .before .before .before .before .before .before .before .before .before .before .before .args .m) (c .before .before .before .before .before .before .before .before .before .before .before .before .before .loop .j) (c .before .before .before .before .before .before .before .before .before .before .before .before .before .before .before .before .before .before .before .args .n) (c .before .before .before .before .before .before .before .before .before .before .before .before .loop-test .taken) .0, c .before .before .before .before .before .before .before .before .before .before .before .before .before .loop .inv .0)
+add-i c = let t = turn₁ (c .before) in omega (arith, more t, head t .loop .inv .0)
 
 loop-less : tie.Need-loop-less Inv-loop μ-loop
-loop-less c = omega (arith, both-more (c .before .before .before .before .before .before .before .before .before .before .before .before .before .loop .i) (c .before .before .before .before .before .before .before .before .before .before .before .before .before .before .before .before .before .before .before .args .m) (c .before .before .before .before .before .before .before .before .before .before .before .before .before .loop .j) (c .before .before .before .before .before .before .before .before .before .before .before .before .before .before .before .before .before .before .before .args .n) (c .before .before .before .before .before .before .before .before .before .before .before .before .loop-test .taken) .0)
+loop-less c = omega (arith, more (turn₁ (c .before)))
 
 loop-again : tie.Need-loop-again Inv-loop μ-loop
-loop-again c = let t = both-more (c .before .before .before .before .before .before .before .before .before .before .before .before .before .loop .i) (c .before .before .before .before .before .before .before .before .before .before .before .before .before .before .before .before .before .before .before .args .m) (c .before .before .before .before .before .before .before .before .before .before .before .before .before .loop .j) (c .before .before .before .before .before .before .before .before .before .before .before .before .before .before .before .before .before .before .before .args .n) (c .before .before .before .before .before .before .before .before .before .before .before .before .loop-test .taken) in (c .before .before .before .before .before .before .before .before .before .before .before .before .before .loop .inv .0, walks-left _ _ _ _ _ _ _ _ _ _ _ _ (c .before .before .before .before .before .before .before .before .before .before .before .before .before .loop .inv .1) (t .0) (t .1) _ _ (c .before .before .before .before .before .before .before .before .before .before .before .read-member .ensures) (c .before .before .before .before .before .before .before .before .before .before .read-member2 .ensures) _ _ _ (c .before .before .before .before .before .before .before .before .before .payload-at .ensures) (c .before .before .before .before .before .before .before .before .payload-at2 .ensures) (c .before .before .before .before .before .before .before .compare .ensures) _ _ _ (c .before .before .before .before .before .enum-told .given .1) (c .before .before .before .put-member .ensures) (c .places-behind .ensures))
+loop-again c =
+    let stored = c .before in
+    let t = turn₁ stored in
+    let h = head t in (
+      h .loop .inv .0,
+      walks-left _ _ _ _ _ _ _ _ _ _ _ _ (h .loop .inv .1) (more t .0) (more t .1) _ _
+          (read-left (names t) .read-member .ensures) (names t .before .read-member2 .ensures) _ _ _
+          (names t .payload-at .ensures) (t .before .payload-at2 .ensures) (t .compare .ensures) _ _ _
+          (told₁ stored .enum-told .given .1) (stored .before .before .put-member .ensures) (c .places-behind .ensures),
+    )
 
+-- The names are the same.
 put-member-requires-2 : tie.Need-put-member-requires-2 Inv-loop μ-loop
-put-member-requires-2 c κs = under-up _ _ _ (omega arith) (walking-near _ _ _ _ _ _ _ _ _ _ _ _ (c .before .before .before .before .before .before .before .before .before .loop .inv .1) (c .before .before .before .before .before .before .before .before .before .loop .inv .0) (c .before .before .before .before .before .before .before .before .before .before .before .before .before .before .before .pre .3, c .before .before .before .before .before .before .before .before .before .before .before .before .before .before .before .pre .4, c .before .before .before .before .before .before .before .before .before .before .before .before .before .before .before .pre .5, c .before .before .before .before .before .before .before .before .before .before .before .before .before .before .before .pre .6))
+put-member-requires-2 c κs = under-up _ _ _ (omega arith) (out-near (head (c .before .before .before)))
+
+abbrev told₂ : tie.After-slice-known3 Inv-loop μ-loop → tie.After-enum-told2 Inv-loop μ-loop
+told₂ c = c .before .before .before .before
+
+abbrev turn₂ : tie.After-slice-known3 Inv-loop μ-loop → Turn
+turn₂ c = told₂ c .before .before
 
 places-behind-requires-2 : tie.Need-places-behind-requires-2 Inv-loop μ-loop
-places-behind-requires-2 c κs = under-up _ _ _ (omega arith) (near-under (c .before .before .before .before .before .before .before .before .before .before .before .before .before .before .before .before .before .before .args .left .now) _ _ _ (c .before .before .before .before .before .before .before .before .before .before .before .before .loop .inv .1 .left-near))
+places-behind-requires-2 c κs = under-up _ _ _ (omega arith) (left-near (head (turn₂ c)))
 
 places-behind-requires-3 : tie.Need-places-behind-requires-3 Inv-loop μ-loop
-places-behind-requires-3 c κs = under-up _ _ _ (omega arith) (near-under (c .before .before .before .before .before .before .before .before .before .before .before .before .before .before .before .before .before .before .before .args .right .now) _ _ _ (c .before .before .before .before .before .before .before .before .before .before .before .before .before .loop .inv .1 .right-near))
+places-behind-requires-3 c κs = under-up _ _ _ (omega arith) (right-near (head (turn₂ (c .before))))
 
 add-i-2 : tie.Need-add-i-2 Inv-loop μ-loop
-add-i-2 c = omega (arith, both-more (c .before .before .before .before .before .before .before .before .before .before .before .before .before .before .loop .i) (c .before .before .before .before .before .before .before .before .before .before .before .before .before .before .before .before .before .before .before .before .args .m) (c .before .before .before .before .before .before .before .before .before .before .before .before .before .before .loop .j) (c .before .before .before .before .before .before .before .before .before .before .before .before .before .before .before .before .before .before .before .before .args .n) (c .before .before .before .before .before .before .before .before .before .before .before .before .before .loop-test .taken) .0, c .before .before .before .before .before .before .before .before .before .before .before .before .before .before .loop .inv .0)
+add-i-2 c = let t = turn₂ (c .before .before) in omega (arith, more t, head t .loop .inv .0)
 
 add-j : tie.Need-add-j Inv-loop μ-loop
-add-j c = omega (arith, both-more (c .before .before .before .before .before .before .before .before .before .before .before .before .before .before .loop .i) (c .before .before .before .before .before .before .before .before .before .before .before .before .before .before .before .before .before .before .before .before .args .m) (c .before .before .before .before .before .before .before .before .before .before .before .before .before .before .loop .j) (c .before .before .before .before .before .before .before .before .before .before .before .before .before .before .before .before .before .before .before .before .args .n) (c .before .before .before .before .before .before .before .before .before .before .before .before .before .loop-test .taken) .1, c .before .before .before .before .before .before .before .before .before .before .before .before .before .before .loop .inv .0)
+add-j c = let t = turn₂ (c .before .before) in omega (arith, more t, head t .loop .inv .0)
 
 loop-less-2 : tie.Need-loop-less-2 Inv-loop μ-loop
-loop-less-2 c = let t = both-more (c .before .before .before .before .before .before .before .before .before .before .before .before .before .before .loop .i) (c .before .before .before .before .before .before .before .before .before .before .before .before .before .before .before .before .before .before .before .before .args .m) (c .before .before .before .before .before .before .before .before .before .before .before .before .before .before .loop .j) (c .before .before .before .before .before .before .before .before .before .before .before .before .before .before .before .before .before .before .before .before .args .n) (c .before .before .before .before .before .before .before .before .before .before .before .before .before .loop-test .taken) in omega (arith, t .0, t .1)
+loop-less-2 c = omega (arith, more (turn₂ (c .before .before)))
 
 loop-again-2 : tie.Need-loop-again-2 Inv-loop μ-loop
-loop-again-2 c = let t = both-more (c .before .before .before .before .before .before .before .before .before .before .before .before .before .before .loop .i) (c .before .before .before .before .before .before .before .before .before .before .before .before .before .before .before .before .before .before .before .before .args .m) (c .before .before .before .before .before .before .before .before .before .before .before .before .before .before .loop .j) (c .before .before .before .before .before .before .before .before .before .before .before .before .before .before .before .before .before .before .before .before .args .n) (c .before .before .before .before .before .before .before .before .before .before .before .before .before .loop-test .taken) in (c .before .before .before .before .before .before .before .before .before .before .before .before .before .before .loop .inv .0, walks-both _ _ _ _ _ _ _ _ _ _ _ _ (c .before .before .before .before .before .before .before .before .before .before .before .before .before .before .loop .inv .1) (t .0) (t .1) _ _ (c .before .before .before .before .before .before .before .before .before .before .before .before .read-member .ensures) (c .before .before .before .before .before .before .before .before .before .before .before .read-member2 .ensures) _ _ _ (c .before .before .before .before .before .before .before .before .before .before .payload-at .ensures) (c .before .before .before .before .before .before .before .before .before .payload-at2 .ensures) (c .before .before .before .before .before .before .before .before .compare .ensures) _ _ _ _ (c .before .before .before .before .before .before .enum-told2 .given .1) (c .before .before .before .before .put-member2 .ensures) (c .before .places-behind2 .ensures) (c .places-behind3 .ensures))
+loop-again-2 c =
+    let stored = c .before .before in
+    let t = turn₂ stored in
+    let h = head t in (
+      h .loop .inv .0,
+      walks-both _ _ _ _ _ _ _ _ _ _ _ _ (h .loop .inv .1) (more t .0) (more t .1) _ _
+          (read-left (names t) .read-member .ensures) (names t .before .read-member2 .ensures) _ _ _
+          (names t .payload-at .ensures) (t .before .payload-at2 .ensures) (t .compare .ensures) _ _ _ _
+          (told₂ stored .enum-told2 .given .1) (stored .before .before .put-member2 .ensures)
+          (c .before .places-behind2 .ensures) (c .places-behind3 .ensures),
+    )
 
+-- The right name is less.
 put-member-requires-3 : tie.Need-put-member-requires-3 Inv-loop μ-loop
-put-member-requires-3 c κs = under-up _ _ _ (omega arith) (walking-near _ _ _ _ _ _ _ _ _ _ _ _ (c .before .before .before .before .before .before .before .before .before .loop .inv .1) (c .before .before .before .before .before .before .before .before .before .loop .inv .0) (c .before .before .before .before .before .before .before .before .before .before .before .before .before .before .before .pre .3, c .before .before .before .before .before .before .before .before .before .before .before .before .before .before .before .pre .4, c .before .before .before .before .before .before .before .before .before .before .before .before .before .before .before .pre .5, c .before .before .before .before .before .before .before .before .before .before .before .before .before .before .before .pre .6))
+put-member-requires-3 c κs = under-up _ _ _ (omega arith) (out-near (head (c .before .before .before)))
+
+abbrev told₃ : tie.After-slice-known4 Inv-loop μ-loop → tie.After-enum-told3 Inv-loop μ-loop
+told₃ c = c .before .before .before .before
+
+abbrev turn₃ : tie.After-slice-known4 Inv-loop μ-loop → Turn
+turn₃ c = told₃ c .before .before
 
 places-behind-requires-4 : tie.Need-places-behind-requires-4 Inv-loop μ-loop
-places-behind-requires-4 c κs = under-up _ _ _ (omega arith) (near-under (c .before .before .before .before .before .before .before .before .before .before .before .before .before .before .before .before .before .before .args .right .now) _ _ _ (c .before .before .before .before .before .before .before .before .before .before .before .before .loop .inv .1 .right-near))
+places-behind-requires-4 c κs = under-up _ _ _ (omega arith) (right-near (head (turn₃ c)))
 
 add-j-2 : tie.Need-add-j-2 Inv-loop μ-loop
-add-j-2 c = omega (arith, both-more (c .before .before .before .before .before .before .before .before .before .before .before .before .before .loop .i) (c .before .before .before .before .before .before .before .before .before .before .before .before .before .before .before .before .before .before .before .args .m) (c .before .before .before .before .before .before .before .before .before .before .before .before .before .loop .j) (c .before .before .before .before .before .before .before .before .before .before .before .before .before .before .before .before .before .before .before .args .n) (c .before .before .before .before .before .before .before .before .before .before .before .before .loop-test .taken) .1, c .before .before .before .before .before .before .before .before .before .before .before .before .before .loop .inv .0)
+add-j-2 c = let t = turn₃ (c .before) in omega (arith, more t, head t .loop .inv .0)
 
 loop-less-3 : tie.Need-loop-less-3 Inv-loop μ-loop
-loop-less-3 c = omega (arith, both-more (c .before .before .before .before .before .before .before .before .before .before .before .before .before .loop .i) (c .before .before .before .before .before .before .before .before .before .before .before .before .before .before .before .before .before .before .before .args .m) (c .before .before .before .before .before .before .before .before .before .before .before .before .before .loop .j) (c .before .before .before .before .before .before .before .before .before .before .before .before .before .before .before .before .before .before .before .args .n) (c .before .before .before .before .before .before .before .before .before .before .before .before .loop-test .taken) .1)
+loop-less-3 c = omega (arith, more (turn₃ (c .before)))
 
 loop-again-3 : tie.Need-loop-again-3 Inv-loop μ-loop
-loop-again-3 c = let t = both-more (c .before .before .before .before .before .before .before .before .before .before .before .before .before .loop .i) (c .before .before .before .before .before .before .before .before .before .before .before .before .before .before .before .before .before .before .before .args .m) (c .before .before .before .before .before .before .before .before .before .before .before .before .before .loop .j) (c .before .before .before .before .before .before .before .before .before .before .before .before .before .before .before .before .before .before .before .args .n) (c .before .before .before .before .before .before .before .before .before .before .before .before .loop-test .taken) in (c .before .before .before .before .before .before .before .before .before .before .before .before .before .loop .inv .0, walks-right _ _ _ _ _ _ _ _ _ _ _ _ (c .before .before .before .before .before .before .before .before .before .before .before .before .before .loop .inv .1) (t .0) (t .1) _ _ (c .before .before .before .before .before .before .before .before .before .before .before .read-member .ensures) (c .before .before .before .before .before .before .before .before .before .before .read-member2 .ensures) _ _ _ (c .before .before .before .before .before .before .before .before .before .payload-at .ensures) (c .before .before .before .before .before .before .before .before .payload-at2 .ensures) (c .before .before .before .before .before .before .before .compare .ensures) _ _ _ (c .before .before .before .before .before .enum-told3 .given .1) (c .before .before .before .put-member3 .ensures) (c .places-behind4 .ensures))
+loop-again-3 c =
+    let stored = c .before in
+    let t = turn₃ stored in
+    let h = head t in (
+      h .loop .inv .0,
+      walks-right _ _ _ _ _ _ _ _ _ _ _ _ (h .loop .inv .1) (more t .0) (more t .1) _ _
+          (read-left (names t) .read-member .ensures) (names t .before .read-member2 .ensures) _ _ _
+          (names t .payload-at .ensures) (t .before .payload-at2 .ensures) (t .compare .ensures) _ _ _
+          (told₃ stored .enum-told3 .given .1) (stored .before .before .put-member3 .ensures) (c .places-behind4 .ensures),
+    )
 
+-- One side is done: what stands on the other follows.
 sub-put-standing : tie.Need-sub-put-standing Inv-loop μ-loop
 sub-put-standing c = c .before .loop .inv .1 .left-near .inside
 
 put-standing-requires : tie.Need-put-standing-requires Inv-loop μ-loop
-put-standing-requires c κs = let a = near-under (c .before .before .before .before .before .before .before .before .args .left .now) _ _ _ (c .before .before .loop .inv .1 .left-near) in let b = walking-near _ _ _ _ _ _ _ _ _ _ _ _ (c .before .before .loop .inv .1) (c .before .before .loop .inv .0) (c .before .before .before .before .before .before .before .before .pre .3, c .before .before .before .before .before .before .before .before .pre .4, c .before .before .before .before .before .before .before .before .pre .5, c .before .before .before .before .before .before .before .before .pre .6) in (omega (arith, c .before .before .loop .inv .0), omega (arith, a .0), omega (arith, a .1), omega (arith, a .2), omega (arith, a .3), omega (arith, b .0), omega (arith, b .1), omega (arith, b .2), omega (arith, b .3))
+put-standing-requires c κs = let h = c .before .before in omega (arith, left-near h, out-near h, h .loop .inv .0)
+
+abbrev left-put : tie.After-slice-known5 Inv-loop μ-loop → tie.After-put-standing Inv-loop μ-loop
+left-put c = c .before .before
+
+abbrev head-last : tie.After-slice-known5 Inv-loop μ-loop → Head
+head-last c = left-put c .before .before .before
 
 sub-put-standing-2 : tie.Need-sub-put-standing-2 Inv-loop μ-loop
-sub-put-standing-2 c = c .before .before .before .before .before .loop .inv .1 .right-near .inside
+sub-put-standing-2 c = head-last c .loop .inv .1 .right-near .inside
 
 put-standing-requires-2 : tie.Need-put-standing-requires-2 Inv-loop μ-loop
-put-standing-requires-2 c κs = let a = near-under (c .before .before .before .before .before .before .before .before .before .before .before .before .args .right .now) _ _ _ (c .before .before .before .before .before .before .loop .inv .1 .right-near) in let b = behind-near (c .before .before .before .before .before .before .before .before .before .before .before .before .args .left .now) _ _ _ _ (c .before .before .before .put-standing .ensures .0) (omega (arith, c .before .before .before .before .before .before .loop .inv .0)) (walking-near _ _ _ _ _ _ _ _ _ _ _ _ (c .before .before .before .before .before .before .loop .inv .1) (c .before .before .before .before .before .before .loop .inv .0) (c .before .before .before .before .before .before .before .before .before .before .before .before .pre .3, c .before .before .before .before .before .before .before .before .before .before .before .before .pre .4, c .before .before .before .before .before .before .before .before .before .before .before .before .pre .5, c .before .before .before .before .before .before .before .before .before .before .before .before .pre .6)) in (omega (arith, c .before .before .before .before .before .before .loop .inv .0), omega (arith, a .0), omega (arith, a .1), omega (arith, a .2), omega (arith, a .3), b .0, b .1, b .2, b .3)
+put-standing-requires-2 c κs =
+    let h = head-last (c .before) in
+    let b = behind-near (start h .args .left .now) _ _ _ _ (left-put (c .before) .put-standing .ensures .0)
+    (omega (arith, h .loop .inv .0)) (out-near h) in
+    omega (arith, right-near h, b, h .loop .inv .0)
 
 same-length : tie.Need-same-length Inv-loop μ-loop
 same-length c = search needs
 
 returns : tie.Need-returns Inv-loop μ-loop
-returns c = walking-rest _ _ _ _ _ _ _ _ _ _ _ _ (c .before .before .before .before .before .before .before .before .before .loop .inv .1) _ _ _ _ (c .before .before .before .before .before .before .put-standing .ensures) (c .before .before .put-standing2 .ensures) (c .before .before .before .before .before .before .before .before .loop-test .left)
+returns c =
+    let right = c .before .before in
+    let known = right .before .before in
+    let left = left-put known in
+    let done = left .before .before in
+    walking-rest _ _ _ _ _ _ _ _ _ _ _ _ (done .before .loop .inv .1) _ _ _ _ (left .put-standing .ensures)
+    (right .put-standing2 .ensures) (done .loop-test .left)
 
 pub put-rising-spec : {M : Type 1} → statement M
 put-rising-spec =
