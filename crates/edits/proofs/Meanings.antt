@@ -19,7 +19,9 @@ use Rattle.builders.proofs.InOrders.{in-order-rising, rising-in-order, find-in-
 use Rattle.edits.specs.Keypath.{Step, index, name}
 use Rattle.edits.specs.Find.{_then_, place, step-place, step-name, item-at, step-into, look-up}
 use Rattle.edits.specs.Delete.{change-item, change-at, change-member, anew, remains, or-same, delete}
-use Rattle.edits.proofs.Deletes.{some-inj, nothing-some, then-some, found-or-not, find-other, find-changed, find-gone, change-rising, change-taken, step-below, item-there, item-past, item-changed, item-other, item-before, item-behind, count-changed, count-gone, change-split}
+use Rattle.edits.proofs.Deletes.{some-inj, nothing-some, then-some, found-or-not, find-other, find-changed, find-gone}
+use Rattle.edits.proofs.Deletes.{change-rising, change-taken, change-split, step-below, count-changed, count-gone}
+use Rattle.edits.proofs.Deletes.{item-there, item-past, item-changed, item-other, item-before, item-behind}
 use Rattle.edits.proofs.Kept.{look-up-kept}
 
 -- ---- paths in two parts

@@ -361,7 +361,8 @@ module _ (s : Bytes) (n a at : ℕ) (w : Array-at s n a) (o : Bytes) where
                   fine = fine-one (now .done) t (now .fine) (sym (sa .2) ∙ told .0);
                   stored =
                       one-stored o out out₁ (at + 4) (at + (4 + 4 * n)) (item-parts (stripped-items (now .done))) (part (stripped t))
-                      (here .jentry) (here .place) (strip-entry s x) (strip-item s x) (now .stored) (now .jentry) (now .spot) (sa .1) (sa .0) (told .2) (omega (arith, rm .0, more, now .index, count-stripped (now .done)))
+                      (here .jentry) (here .place) (strip-entry s x) (strip-item s x)
+                      (now .stored) (now .jentry) (now .spot) (sa .1) (sa .0) (told .2) (omega (arith, rm .0, more, now .index, count-stripped (now .done)))
                       ∙ ap (laid o (at + 4) (at + (4 + 4 * n))) (sym more-parts);
                   as-long = ap length (told .2) ∙ length-patch _ _ _ ∙ length-patch _ _ _ ∙ now .as-long;
                 }

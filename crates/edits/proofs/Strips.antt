@@ -20,7 +20,8 @@ use Rattle.layout.proofs.Answers.{from-require, to-require, gives-inj}
 use Rattle.layout.proofs.Values.{In, rising-tail, rising-all}
 use Rattle.builders.specs.Order.{by, in-order, find, distinct}
 use Rattle.builders.specs.Build.{count}
-use Rattle.builders.proofs.InOrders.{unlike, has-not, distinct-cons, rising-distinct, rising-cons, in-order-rising, rising-in-order, find-in-order, in-order-valid, in-order-sound, in-order-depth, gather, gather-in-order}
+use Rattle.builders.proofs.InOrders.{unlike, has-not, distinct-cons, rising-distinct, rising-cons, in-order-rising, rising-in-order}
+use Rattle.builders.proofs.InOrders.{find-in-order, in-order-valid, in-order-sound, in-order-depth, gather, gather-in-order}
 use Rattle.builders.proofs.Results.{is-true}
 use Rattle.builders.proofs.Twos.{and-false}
 use Rattle.edits.specs.Keypath.{Step, name, index}

@@ -10,7 +10,11 @@ returns : tie.Need-returns
 returns c = given-array _ _ _ (c .before .before .before .read-header .ensures) (c .before .n .given .1)
 
 returns-2 : tie.Need-returns-2
-returns-2 c = given-other _ _ _ (c .before .before .read-header .ensures) (λ n e. none-of (λ q. omega arith) (λ q. omega arith) (λ q. omega arith) (rw e at (c .before .match .keys2))) (c .as-item .ensures)
+returns-2 c =
+    let other = c .before in
+    given-other _ _ _ (other .before .read-header .ensures)
+    (λ n e. none-of (λ q. omega arith) (λ q. omega arith) (λ q. omega arith) (rw e at (other .match .keys2)))
+    (c .as-item .ensures)
 
 pub items-of-spec : {M : Type 1} → statement M
 items-of-spec =
