@@ -6,7 +6,11 @@ use Rattle.edits.proofs.merge.put_both.Statement.{statement}
 use Rattle.edits.proofs.merge.put_both.Tie as tie
 
 put-rising-requires : tie.Need-put-rising-requires
-put-rising-requires c κs = let w = and-both _ _ (sym (c .before .before .before .before .before .pre .1) ∙ c .before .if1 .taken) in (c .before .before .before .before .before .pre .0, w .0, w .1, c .before .before .before .before .before .pre .2, c .before .before .before .before .before .pre .3, c .before .before .before .before .before .pre .4, c .before .before .before .before .before .pre .5)
+put-rising-requires c κs =
+    let rises = c .before in
+    let p = rises .before .before .before .before .pre in
+    let w = and-both _ _ (sym (p .1) ∙ rises .if1 .taken) in
+    (p .0, w .0, w .1, p .2, p .3, p .4, p .5)
 
 pub put-both-spec : {M : Type 1} → statement M
 put-both-spec =

@@ -4,6 +4,19 @@ use borrow.Author.Needs.{needs}
 use Rattle.edits.proofs.merge.turn_of.Statement.{statement}
 use Rattle.edits.proofs.merge.turn_of.Tie as tie
 
+-- Where both sides have a member and their names are compared, and the ways back from there.
+abbrev Compared : Type 0
+Compared = tie.After-compare
+
+abbrev right : Compared → tie.After-r2
+right c = c .before .before .before .before
+
+abbrev left : Compared → tie.After-l
+left c = right c .before .before .before
+
+abbrev start : Compared → tie.Start
+start c = left c .before .before .before .before
+
 returns-2 : tie.Need-returns-2
 returns-2 c = let p = c .before .before .before .enum-told .given .1 in let q = c .before .r .given .1 in rw (p, q)
 
@@ -11,13 +24,25 @@ returns-3 : tie.Need-returns-3
 returns-3 c = let p = c .before .before .before .l .given .1 in let q = c .enum-told3 .given .1 in rw (p, q)
 
 returns-4 : tie.Need-returns-4
-returns-4 c = turn-less (c .before .before .before .before .before .before .before .before .before .before .before .before .before .args .left .now) (c .before .before .before .before .before .before .before .before .before .before .before .before .before .args .right .now) _ _ _ _ _ _ (c .before .before .before .before .before .before .before .before .before .l .given .1) (c .before .before .before .before .before .before .r2 .given .1) _ _ _ (c .before .before .before .before .payload-at .ensures) (c .before .before .before .payload-at2 .ensures) (c .before .before .compare .ensures) (c .enum-told4 .given .1)
+returns-4 c =
+    let t = c .before .before in
+    let a = start t .args in
+    turn-less (a .left .now) (a .right .now) _ _ _ _ _ _ (left t .l .given .1) (right t .r2 .given .1) _ _ _
+    (t .before .before .payload-at .ensures) (t .before .payload-at2 .ensures) (t .compare .ensures) (c .enum-told4 .given .1)
 
 returns-5 : tie.Need-returns-5
-returns-5 c = turn-equal (c .before .before .before .before .before .before .before .before .before .before .before .before .before .args .left .now) (c .before .before .before .before .before .before .before .before .before .before .before .before .before .args .right .now) _ _ _ _ _ _ (c .before .before .before .before .before .before .before .before .before .l .given .1) (c .before .before .before .before .before .before .r2 .given .1) _ _ _ (c .before .before .before .before .payload-at .ensures) (c .before .before .before .payload-at2 .ensures) (c .before .before .compare .ensures) (c .enum-told5 .given .1)
+returns-5 c =
+    let t = c .before .before in
+    let a = start t .args in
+    turn-equal (a .left .now) (a .right .now) _ _ _ _ _ _ (left t .l .given .1) (right t .r2 .given .1) _ _ _
+    (t .before .before .payload-at .ensures) (t .before .payload-at2 .ensures) (t .compare .ensures) (c .enum-told5 .given .1)
 
 returns-6 : tie.Need-returns-6
-returns-6 c = turn-greater (c .before .before .before .before .before .before .before .before .before .before .before .before .before .args .left .now) (c .before .before .before .before .before .before .before .before .before .before .before .before .before .args .right .now) _ _ _ _ _ _ (c .before .before .before .before .before .before .before .before .before .l .given .1) (c .before .before .before .before .before .before .r2 .given .1) _ _ _ (c .before .before .before .before .payload-at .ensures) (c .before .before .before .payload-at2 .ensures) (c .before .before .compare .ensures) (c .enum-told6 .given .1)
+returns-6 c =
+    let t = c .before .before in
+    let a = start t .args in
+    turn-greater (a .left .now) (a .right .now) _ _ _ _ _ _ (left t .l .given .1) (right t .r2 .given .1) _ _ _
+    (t .before .before .payload-at .ensures) (t .before .payload-at2 .ensures) (t .compare .ensures) (c .enum-told6 .given .1)
 
 pub turn-of-spec : {M : Type 1} → statement M
 turn-of-spec =
