@@ -6,7 +6,15 @@ use Rattle.edits.proofs.delete.put_run.Statement.{statement}
 use Rattle.edits.proofs.delete.put_run.Tie as tie
 
 returns : tie.Need-returns
-returns c = (refl, two-stored _ _ _ _ _ _ _ _ _ (c .before .before .before .before .before .before .before .before .before .before .before .slice .ensures) (c .before .before .before .before .before .before .slice2 .ensures) (c .before .before .before .before .before .before .before .before .before .copy .ensures) (c .before .before .before .before .copy2 .ensures))
+returns c =
+    let payloads = c .before .before .before .before in
+    let payloads-read = payloads .before .before in
+    let entries = payloads-read .before .before .before in
+    let entries-read = entries .before .before in (
+      refl,
+      two-stored _ _ _ _ _ _ _ _ _ (entries-read .slice .ensures) (payloads-read .slice2 .ensures)
+          (entries .copy .ensures) (payloads .copy2 .ensures),
+    )
 
 pub put-run-spec : {M : Type 1} → statement M
 put-run-spec =
