@@ -18,17 +18,54 @@ abbrev μ-loop : tie.MeasureT-loop
 loop-holds : tie.Need-loop-holds Inv-loop μ-loop
 loop-holds c = (c .before .pre, refl, refl)
 
+-- From the member read back to the head of the loop.
+abbrev head : tie.After-read-member Inv-loop μ-loop → tie.At-loop Inv-loop μ-loop
+head c = c .before .before .before
+
 ahead-behind-requires : tie.Need-ahead-behind-requires Inv-loop μ-loop
-ahead-behind-requires c κs = (c .before .before .before .loop .inv .0, c .before .if1 .taken)
+ahead-behind-requires c κs = (head c .loop .inv .0, c .before .if1 .taken)
+
+-- What is ahead behind the member read: near, and rising as it was.
+near-behind : (c : tie.After-ahead-behind Inv-loop μ-loop) → Near (c .ahead-behind .result)
+near-behind c =
+    let read = c .before in
+    near-on _ (read .read-member .result) _ (head read .loop .inv .0) (read .before .if1 .taken) (c .ahead-behind .ensures)
+
+as-rising : (c : tie.After-ahead-behind Inv-loop μ-loop)
+    → c .ahead-behind .result .«is_rising» ≡ head (c .before) .before .before .args .ahead .«is_rising»
+as-rising c = ap (λ x. x .«is_rising») (c .ahead-behind .ensures) ∙ head (c .before) .loop .inv .1
 
 returns : tie.Need-returns Inv-loop μ-loop
-returns c = (c .before .before .before .before .before .before .loop .inv .2 ∙ one-kept _ _ (c .before .before .before .before .before .before .loop .here) (c .before .before .before .before .if1 .taken) _ (c .before .before .before .read-member .ensures) _ (c .before .before .ahead-behind .ensures) _ (c .before .is-kept .ensures) (c .if2 .taken), ap (λ x. x .«is_rising») (c .before .before .ahead-behind .ensures) ∙ c .before .before .before .before .before .before .loop .inv .1, near-on _ (c .before .before .before .read-member .result) _ (c .before .before .before .before .before .before .loop .inv .0) (c .before .before .before .before .if1 .taken) (c .before .before .ahead-behind .ensures))
+returns c =
+    let kept = c .before in
+    let behind = kept .before in
+    let read = behind .before in
+    let h = head read in (
+      h .loop .inv .2
+          ∙ one-kept _ _ (h .loop .here) (read .before .if1 .taken) _ (read .read-member .ensures) _ (behind .ahead-behind .ensures) _
+          (kept .is-kept .ensures) (c .if2 .taken),
+      as-rising behind,
+      near-behind behind,
+    )
 
 loop-less : tie.Need-loop-less Inv-loop μ-loop
-loop-less c = fewer-on _ (c .before .before .before .read-member .result) _ (c .before .before .before .before .if1 .taken) (c .before .before .ahead-behind .ensures)
+loop-less c =
+    let behind = c .before .before in
+    let read = behind .before in
+    fewer-on _ (read .read-member .result) _ (read .before .if1 .taken) (behind .ahead-behind .ensures)
 
 loop-again : tie.Need-loop-again Inv-loop μ-loop
-loop-again c = (near-on _ (c .before .before .before .read-member .result) _ (c .before .before .before .before .before .before .loop .inv .0) (c .before .before .before .before .if1 .taken) (c .before .before .ahead-behind .ensures), ap (λ x. x .«is_rising») (c .before .before .ahead-behind .ensures) ∙ c .before .before .before .before .before .before .loop .inv .1, c .before .before .before .before .before .before .loop .inv .2 ∙ one-passed _ _ (c .before .before .before .before .before .before .loop .here) (c .before .before .before .before .if1 .taken) _ (c .before .before .before .read-member .ensures) _ (c .before .before .ahead-behind .ensures) _ (c .before .is-kept .ensures) (c .if2 .left))
+loop-again c =
+    let kept = c .before in
+    let behind = kept .before in
+    let read = behind .before in
+    let h = head read in (
+      near-behind behind,
+      as-rising behind,
+      h .loop .inv .2
+          ∙ one-passed _ _ (h .loop .here) (read .before .if1 .taken) _ (read .read-member .ensures) _ (behind .ahead-behind .ensures) _
+          (kept .is-kept .ensures) (c .if2 .left),
+    )
 
 returns-2 : tie.Need-returns-2 Inv-loop μ-loop
 returns-2 c = c .before .before .loop .inv .2 ∙ none-left _ _ (c .before .before .loop .here) (c .if1 .left)

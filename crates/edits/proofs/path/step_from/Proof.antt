@@ -1,24 +1,63 @@
 -- `edits::path::step_from` meets its contract.
+use Prim.Native.Nat.{_+_, _≤_, _<_}
 use native.Mathlib.Omega.{arith}
 use Rattle.edits.proofs.Helds.{leads-scalar, leads-none, step-small, leads-on}
 use borrow.Author.Needs.{needs}
 use Rattle.edits.proofs.path.step_from.Statement.{statement}
 use Rattle.edits.proofs.path.step_from.Tie as tie
 
+-- Ways back: from the code of the item to the start, from the search in its container to the code.
+abbrev start : tie.After-type-code → tie.Start
+start c = c .before .before .before
+
+abbrev to-code : tie.After-find-step → tie.After-type-code
+to-code c = c .before .before .before
+
+abbrev to-search : tie.After-part → tie.After-find-step
+to-search c = c .before .before
+
+-- The number of the part found and its place are small.
+small : (c : tie.After-part)
+    → (c .part .given .0 .0 .index < 32768) × (start (to-code (to-search c)) .args .item .place + c .part .given .0 .0 .place ≤ 65536)
+small c =
+    let search = to-search c in
+    let inner = search .before in
+    let code = to-code search in
+    let a = start code .args in
+    step-small (a .s .now) (a .item) _ _ (code .type-code .ensures) (inner .before .if1 .left) _ (inner .payload-at .ensures) _
+    (search .find-step .ensures) _ (c .part .given .1) (start code .pre)
+
 returns : tie.Need-returns
-returns c = leads-scalar (c .before .before .before .before .args .s .now) (c .before .before .before .before .args .item) _ _ (c .before .type-code .ensures) (c .if1 .taken)
+returns c =
+    let code = c .before in
+    let a = start code .args in
+    leads-scalar (a .s .now) (a .item) _ _ (code .type-code .ensures) (c .if1 .taken)
 
 returns-2 : tie.Need-returns-2
-returns-2 c = leads-none (c .before .before .before .before .before .before .before .before .args .s .now) (c .before .before .before .before .before .before .before .before .args .item) _ _ (c .before .before .before .before .before .type-code .ensures) (c .before .before .before .before .if1 .left) _ (c .before .before .before .payload-at .ensures) _ (c .before .before .find-step .ensures) (c .enum-told .given .1)
+returns-2 c =
+    let search = c .before .before in
+    let inner = search .before in
+    let code = to-code search in
+    let a = start code .args in
+    leads-none (a .s .now) (a .item) _ _ (code .type-code .ensures) (inner .before .if1 .left) _ (inner .payload-at .ensures) _
+    (search .find-step .ensures) (c .enum-told .given .1)
 
 read-jentry-requires : tie.Need-read-jentry-requires
-read-jentry-requires c κs = omega (arith, step-small (c .before .before .before .before .before .before .before .before .before .args .s .now) (c .before .before .before .before .before .before .before .before .before .args .item) _ _ (c .before .before .before .before .before .before .type-code .ensures) (c .before .before .before .before .before .if1 .left) _ (c .before .before .before .before .payload-at .ensures) _ (c .before .before .before .find-step .ensures) _ (c .before .part .given .1) (c .before .before .before .before .before .before .before .before .before .pre) .0)
+read-jentry-requires c κs = omega (arith, small (c .before) .0)
 
 add-t10 : tie.Need-add-t10
-add-t10 c = omega (arith, step-small (c .before .before .before .before .before .before .before .before .before .before .before .before .args .s .now) (c .before .before .before .before .before .before .before .before .before .before .before .before .args .item) _ _ (c .before .before .before .before .before .before .before .before .before .type-code .ensures) (c .before .before .before .before .before .before .before .before .if1 .left) _ (c .before .before .before .before .before .before .before .payload-at .ensures) _ (c .before .before .before .before .before .before .find-step .ensures) _ (c .before .before .before .before .part .given .1) (c .before .before .before .before .before .before .before .before .before .before .before .before .pre) .1)
+add-t10 c = let found = c .before .before .before .before in omega (arith, small found .1)
 
 returns-3 : tie.Need-returns-3
-returns-3 c = leads-on (c .before .before .before .before .before .before .before .before .before .before .before .before .args .s .now) (c .before .before .before .before .before .before .before .before .before .before .before .before .args .item) _ _ (c .before .before .before .before .before .before .before .before .before .type-code .ensures) (c .before .before .before .before .before .before .before .before .if1 .left) _ (c .before .before .before .before .before .before .before .payload-at .ensures) _ (c .before .before .before .before .before .before .find-step .ensures) _ (c .before .before .before .before .part .given .1) _ (c .before .before .read-jentry .ensures)
+returns-3 c =
+    let entry = c .before .before in
+    let found = entry .before .before in
+    let search = to-search found in
+    let inner = search .before in
+    let code = to-code search in
+    let a = start code .args in
+    leads-on (a .s .now) (a .item) _ _ (code .type-code .ensures) (inner .before .if1 .left) _ (inner .payload-at .ensures) _
+    (search .find-step .ensures) _ (found .part .given .1) _ (entry .read-jentry .ensures)
 
 pub step-from-spec : {M : Type 1} → statement M
 step-from-spec =
