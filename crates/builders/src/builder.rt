@@ -27,12 +27,11 @@ ghost use mathlib.Core.Path.{_≡_};
 ghost use mathlib.Core.Bool.{true};
 ghost use Prim.Native.Nat.{_+_, _*_};
 ghost use lib.ListN.{length};
-ghost use Rattle.layout.specs.Place.{«parts-at» as partsAt};
+ghost use Rattle.layout.specs.Parts.{texts, «parts-of» as partsOf};
 ghost use Rattle.layout.specs.Ended.{Ended};
 ghost use Rattle.layout.specs.Room.{EndedIn};
 ghost use Rattle.builders.specs.Order.{distinct};
 ghost use Rattle.builders.specs.Build.{append as appendOf, build, «on-two» as onTwo};
-ghost use Rattle.layout.specs.Parts.{texts};
 ghost use Rattle.builders.specs.Names.{Pairs};
 
 // Puts a record, as one item, at the end of an array record, where the result goes into `room` bytes.
@@ -76,7 +75,7 @@ pub fn append(array: &[u8], item: &[u8], out: &mut [u8]) -> Ending
 // Stores the object of n members with distinct names, in byte order of the names, where there is room for it. It is as long as
 // both records less one header.
 fn write_sorted(names: &[u8], values: &[u8], n: usize, out: &mut [u8], room: usize) -> Ending
-    requires { ⌜ Pairs (now names) (now values) n × (distinct (texts (partsAt (now names) 0 (4 + 4 * n) n)) ≡ true) ⌝ }
+    requires { ⌜ Pairs (now names) (now values) n × (distinct (texts (partsOf (now names) n)) ≡ true) ⌝ }
     ensures { λ e. ⌜ EndedIn e (now (out .entry)) (now (out .exit)) (onTwo build (now (names .entry)) (now (values .entry)) room) ⌝ }
 {
     let len = names.len() + (values.len() - HEADER_SIZE);

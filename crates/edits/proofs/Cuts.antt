@@ -11,15 +11,14 @@ use Rattle.layout.specs.Patch.{patch}
 use Rattle.layout.proofs.Level.{AllFit}
 use Rattle.layout.proofs.Decoding.{payloads-append}
 use Rattle.layout.proofs.Readables.{record-of-length}
-use Rattle.layout.specs.Parts.{next-part}
+use Rattle.layout.specs.Parts.{first-part, parts-end, next-part, PartOf, parts-of}
 use Rattle.edits.specs.Cut.{Stores}
-use Rattle.layout.specs.Parts.{PartOf, parts-of}
-use Rattle.edits.specs.Runs.{without, without-member}
+use Rattle.edits.specs.Runs.{without, without-member, Copied}
 use Rattle.layout.specs.declared.parts.PartAt.{PartAt}
 use Rattle.layout.specs.declared.parts.Cursor.{Cursor}
 use Rattle.edits.proofs.Rows.{row-lengths, row-entry}
 use Rattle.edits.proofs.Tables.{Parted}
-use Rattle.edits.proofs.Runs.{laid, laid-append, laid-one, laid-record, Run, Ran, run-is, run-stored}
+use Rattle.edits.proofs.Runs.{laid, laid-append, laid-one, laid-record, Run, run-is, run-stored}
 
 -- A list at one of its places.
 pub record Nth (ps : List Part) (k : ℕ) : Type 0 where
@@ -122,14 +121,14 @@ module _ (s : Bytes) (n : ℕ) (a : PartAt) (d : Part-at s n a) where
   abbrev ys : List Part
   ys = d .nth .right
 
-  pub run-before : Run s (record { index = 0; place = 4 + 4 * n }) a xs
+  pub run-before : Run s (first-part n) a xs
   run-before =
-      run-is (d .word) [] xs (q ∷ ys) s (record { index = 0; place = 4 + 4 * n }) a (d .bytes) refl (omega (arith, d .nth .before))
+      run-is (d .word) [] xs (q ∷ ys) s (first-part n) a (d .bytes) refl (omega (arith, d .nth .before))
       (omega (arith, d .total)) (d .place)
 
-  pub run-behind-it : Run s (next-part s a) (record { index = n; place = length s }) ys
+  pub run-behind-it : Run s (next-part s a) (parts-end s n) ys
   run-behind-it =
-      run-is (d .word) (xs ++ (q ∷ [])) ys [] s (next-part s a) (record { index = n; place = length s })
+      run-is (d .word) (xs ++ (q ∷ [])) ys [] s (next-part s a) (parts-end s n)
       (rw (append-assoc xs (q ∷ []) (ys ++ []), append-nil ys) (d .bytes))
       (omega (arith, d .nth .before, length-append xs (q ∷ [])))
       (omega (arith, d .count))
@@ -140,16 +139,16 @@ module _ (s : Bytes) (n : ℕ) (a : PartAt) (d : Part-at s n a) where
 -- An array without one of its items.
 module _ (s : Bytes) (n : ℕ) (a : PartAt) (d : Part-at s n a) (o o₁ o₂ o₃ : Bytes) (at w : ℕ) (start middle end : Cursor) (next : PartAt) where
   pub without-stored : o₁ ≡ patch o at (be32 w) → start .jentry ≡ at + 4 → start .place ≡ at + 4 * n
-      → Ran s (record { index = 0; place = 4 + 4 * n }) a start middle o₁ o₂
+      → Copied s (first-part n) a start middle o₁ o₂
       → next ≡ next-part s a
-      → Ran s next (record { index = n; place = length s }) middle end o₂ o₃
+      → Copied s next (parts-end s n) middle end o₂ o₃
       → Stores (end .place - at) o o₃ at (record-of w (without (a .index) (parts-of s n)))
   unfolding patch
   without-stored e₁ sj sp h₁ en h₂ =
       let x : List Part = d .nth .left in
       let y : List Part = d .nth .right in
       let r₁ = run-before s n a d in
-      let r₂ : Run s next (record { index = n; place = length s }) (d .nth .right) = rw en (run-behind-it s n a d) in
+      let r₂ : Run s next (parts-end s n) (d .nth .right) = rw en (run-behind-it s n a d) in
       let b₁ = run-stored o₁ (start .jentry) (start .place) [] (d .nth .left) s _ a start middle o₁ o₂ r₁
       (omega (arith, d .count, d .nth .before)) refl (omega arith) (omega arith) h₁ in
       let b₂ = run-stored o₁ (start .jentry) (start .place) (d .nth .left) (d .nth .right) s next _ middle end o₂ o₃ r₂
@@ -165,17 +164,17 @@ module _ (s : Bytes) (n : ℕ) (a : PartAt) (d : Part-at s n a) (o o₁ o₂ o�
 module _ (s : Bytes) (n : ℕ) (a : PartAt) (d : Part-at s n a) (o o₁ o₂ o₃ o₄ o₅ : Bytes) (at w len e : ℕ) (start here rest end : Cursor)
     (next : PartAt) (z : Part) where
   pub anew-stored : o₁ ≡ patch o at (be32 w) → start .jentry ≡ at + 4 → start .place ≡ at + (4 + 4 * n)
-      → Ran s (record { index = 0; place = 4 + 4 * n }) a start here o₁ o₂
+      → Copied s (first-part n) a start here o₁ o₂
       → Stores len o₂ o₃ (here .place) (z .bytes) → e ≡ entry-word z → o₄ ≡ patch o₃ (here .jentry) (be32 e)
       → rest .jentry ≡ here .jentry + 4 → rest .place ≡ here .place + len → next ≡ next-part s a
-      → Ran s next (record { index = n; place = length s }) rest end o₄ o₅
+      → Copied s next (parts-end s n) rest end o₄ o₅
       → Stores (end .place - at) o o₅ at (record-of w (d .nth .left ++ (z ∷ d .nth .right)))
   unfolding patch
   anew-stored e₁ sj sp h₁ l ez e₄ rj rp en h₂ =
       let x : List Part = d .nth .left in
       let y : List Part = d .nth .right in
       let r₁ = run-before s n a d in
-      let r₂ : Run s next (record { index = n; place = length s }) (d .nth .right) = rw en (run-behind-it s n a d) in
+      let r₂ : Run s next (parts-end s n) (d .nth .right) = rw en (run-behind-it s n a d) in
       let c₁ : length (d .nth .left) + 1 + length (d .nth .right) ≡ n = omega (arith, d .count, d .nth .before) in
       let b₁ = run-stored o₁ (start .jentry) (start .place) [] (d .nth .left) s _ a start here o₁ o₂ r₁ (omega (arith, c₁)) refl (omega arith) (omega arith) h₁ in
       let o₃-is : o₃ ≡ patch o₂ (here .place) (z .bytes) = l .stored in
@@ -284,11 +283,11 @@ module _ (s : Bytes) (n w : ℕ) (l : List Part) (x : Part) (m : List Part) (y :
 
   module _ (o o₁ o₂ o₃ o₄ : Bytes) (at v : ℕ) (start keys vals end : Cursor) (next after : PartAt) where
     pub two-stored : o₁ ≡ patch o at (be32 v) → start .jentry ≡ at + 4 → start .place + 4 ≡ at + 4 * n
-        → Ran s first key start keys o₁ o₂
+        → Copied s first key start keys o₁ o₂
         → next ≡ next-part s key
-        → Ran s next val keys vals o₂ o₃
+        → Copied s next val keys vals o₂ o₃
         → after ≡ next-part s val
-        → Ran s after last vals end o₃ o₄
+        → Copied s after last vals end o₃ o₄
         → Stores (end .place - at) o o₄ at (record-of v ((l ++ m) ++ r))
     unfolding patch
     two-stored e₁ sj sp h₁ en h₂ ea h₃ =

@@ -1,8 +1,9 @@
 -- The part that a step finds: the item of an array, the value of an object.
-use Rattle.layout.specs.Parts.{start-of}
-use Prim.Native.Nat.{ℕ, suc, _+_, _*_, _-_, _^_, _<_}
+use Rattle.layout.specs.Parts.{start-of, first-part, texts, nth-part}
+use Rattle.layout.proofs.Pieces.{nth-is}
+use Prim.Native.Nat.{ℕ, suc, _+_, _-_, _^_, _<_}
 use native.Mathlib.Omega.{arith}
-use native.Mathlib.Nat.{sub-zero, zero-add}
+use native.Mathlib.Nat.{zero-add}
 use mathlib.Core.Path.{_≡_, refl, sym, ap, _∙_}
 use mathlib.Core.Bool.{Bool, true, false, cond}
 use mathlib.Core.List.{List}
@@ -19,11 +20,9 @@ use Rattle.layout.specs.declared.util.Header.{Header}
 use Rattle.layout.specs.declared.util.Header.the-variants.{Array, Object, Scalar, Refused as NoHeader}
 use Rattle.layout.proofs.Places.{lengths-split}
 use Rattle.layout.proofs.Walks.{lengths-le}
-use Rattle.layout.specs.Parts.{texts}
 use Rattle.edits.specs.Keypath.{Step, index-text}
 use Rattle.edits.specs.Find.{place, step-place, step-name}
 use Rattle.edits.specs.Steps.{step, key-place}
-use Rattle.layout.specs.Parts.{nth-part}
 use Rattle.edits.specs.Spot.{place-told, first, spot-at, spot-member, spot}
 use Rattle.edits.specs.declared.keypath.KeyPath.{KeyPath}
 use Rattle.edits.specs.declared.keypath.KeyPath.the-variants.{Index, Name, Other}
@@ -80,7 +79,7 @@ module _ (s : Bytes) (n : ℕ) (o : Option ℕ) (r : Spot) (key : PartAt) (hr : 
 
 -- The item that an index finds.
 
-cond-some : (b : Bool) (x k : ℕ) → cond b (some x) nothing ≡ some k → (b ≡ true) × (x ≡ k)
+pub cond-some : (b : Bool) (x k : ℕ) → cond b (some x) nothing ≡ some k → (b ≡ true) × (x ≡ k)
 cond-some true x k e = (refl, cc)
 cond-some false x k e = let z : _≡_ {A = ℕ} 0 1 = cc in let w : ⊥ = omega arith in absurd w
 
@@ -95,12 +94,12 @@ item-name s n (Index z) h = absurd (h z refl)
 item-name s n Name h = refl
 item-name s n Other h = refl
 
-spot-none : (s : Bytes) (n : ℕ) (o : Option ℕ) → place-told o ≡ NoPlace → Nothing ≡ spot-at s n o
+pub place-none : (s : Bytes) (n : ℕ) (o : Option ℕ) → place-told o ≡ NoPlace → Nothing ≡ spot-at s n o
 unfolding spot-at
-spot-none s n nothing e = refl
-spot-none s n (some k) e = cc
+place-none s n nothing e = refl
+place-none s n (some k) e = cc
 
-told-some : (o : Option ℕ) (k : ℕ) → place-told o ≡ AtPlace k → o ≡ some k
+pub told-some : (o : Option ℕ) (k : ℕ) → place-told o ≡ AtPlace k → o ≡ some k
 told-some nothing k e = cc
 told-some (some j) k e = cc
 
@@ -110,16 +109,16 @@ module _ (s : Bytes) (n : ℕ) (key : KeyPath) (v z : ℤ) (r : Place) (hk : key
   item-place = rw (hk, ← hv) (sym hr)
 
   pub item-none : r ≡ NoPlace → Nothing ≡ spot-at s n (key-place key n)
-  item-none q = spot-none s n (key-place key n) (item-place ∙ q)
+  item-none q = place-none s n (key-place key n) (item-place ∙ q)
 
   module _ (k : ℕ) (q : r ≡ AtPlace k) where
     pub item-lt : k < n
     item-lt = place-lt v n k (told-some (place v n) k (sym hr ∙ q))
 
-    pub item-found : (p : ℕ) → p ≡ 4 + 4 * n + lengths s 0 (k - 0)
+    pub item-found : (first : PartAt) (p : ℕ) → first ≡ first-part n → p ≡ first .place + lengths s (first .index) (k - first .index)
         → At (record { index = k; place = p }) ≡ spot-at s n (key-place key n)
     unfolding spot-at
-    item-found p e = rw (told-some (key-place key n) k (item-place ∙ q), e, sub-zero k)
+    item-found first p f e = rw (told-some (key-place key n) k (item-place ∙ q)) (ap At (nth-is s n k p first f e))
 
 -- The value that a step finds.
 

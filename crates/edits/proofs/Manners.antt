@@ -1,13 +1,12 @@
 -- How a container is written anew, by its header and its names; and a run of its parts, as the code stores it.
-use Rattle.layout.specs.Parts.{rises, start-of}
-use Prim.Native.Nat.{ℕ, _+_, _*_, _-_}
-use native.Mathlib.Omega.{arith}
-use mathlib.Core.Path.{_≡_}
+use Rattle.layout.specs.Parts.{rises, first-part, part-payload}
+use Rattle.layout.specs.declared.parts.PartAt.{PartAt}
+use Rattle.layout.proofs.Pieces.{nth-is}
+use Prim.Native.Nat.{ℕ, _+_, _-_}
+use mathlib.Core.Path.{_≡_, ap, _∙_}
 use mathlib.Core.Bool.{Bool, true, false}
 use Rattle.layout.specs.Bytes.{Bytes}
-use lib.ListN.{take, drop}
-use Rattle.layout.specs.Entry.{length-of, entry-at, lengths}
-use Rattle.layout.specs.Place.{parts-at, rising-parts}
+use Rattle.layout.specs.Entry.{lengths}
 use Rattle.layout.specs.Patch.{patch}
 use Rattle.layout.specs.Read.{header}
 use Rattle.layout.specs.declared.refusal.Refusal.{Refusal}
@@ -15,7 +14,6 @@ use Rattle.layout.specs.declared.util.Header.{Header}
 use Rattle.layout.specs.declared.util.Header.the-variants.{Array, Object, Scalar, Refused}
 use Rattle.edits.specs.Manner.{manner-of}
 use Rattle.edits.specs.Cut.{name-of}
-use Rattle.layout.specs.Parts.{members-of}
 use Rattle.edits.specs.declared.delete.Manner.the-variants.{Items, Rising, Unsorted, Neither}
 
 module _ (s : Bytes) (h : Header) (hh : h ≡ header s) where
@@ -40,7 +38,7 @@ pub two-stored : (o o₁ o₂ x x′ y y′ : Bytes) (e p : ℕ) → x ≡ x′ 
     → o₂ ≡ patch (patch o e x′) p y′
 two-stored o o₁ o₂ x x′ y y′ e p hx hy e₁ e₂ = rw (e₂, e₁, hx, hy)
 
--- A name, by its entry and its place.
-pub name-is : (s r : Bytes) (n k p e l : ℕ) → p ≡ start-of (n + n) + lengths s 0 (k - 0) → e ≡ entry-at s k → l ≡ length-of e
-    → r ≡ take l (drop p s) → r ≡ name-of s n k
-name-is s r n k p e l hp he hl hr = let z : k - 0 ≡ k = omega arith in rw (hr, hl, he, hp, z)
+-- A name, by its place.
+pub name-is : (s r : Bytes) (n k p : ℕ) (first : PartAt) → first ≡ first-part (n + n)
+    → p ≡ first .place + lengths s (first .index) (k - first .index) → r ≡ part-payload s (record { index = k; place = p }) → r ≡ name-of s n k
+name-is s r n k p first f e h = h ∙ ap (part-payload s) (nth-is s (n + n) k p first f e)

@@ -13,7 +13,7 @@ use Rattle.layout.proofs.Level.{entries-length}
 use Rattle.layout.proofs.Decoding.{payloads-append}
 use Rattle.layout.proofs.Patches.{patch-append, patch-comm}
 use Rattle.builders.proofs.Weaves.{patch-then, entries-append}
-use Rattle.edits.specs.Runs.{run-entries, run-payloads, run-behind}
+use Rattle.edits.specs.Runs.{Copied, run-entries, run-payloads, run-behind}
 use Rattle.layout.specs.declared.parts.PartAt.{PartAt}
 use Rattle.layout.specs.declared.parts.Cursor.{Cursor}
 use Rattle.edits.proofs.Rows.{table-behind, payloads-behind}
@@ -50,6 +50,14 @@ laid-record o at w e p ps he hp =
     let la = length-append (be32 w) (entries ps) in
     patch-then o _ _ at p (be32 w ++ entries ps) (payloads ps) (patch-then o _ _ at e (be32 w) (entries ps) refl refl (omega arith)) refl (omega arith)
     ∙ ap (patch o at) (append-assoc (be32 w) (entries ps) (payloads ps))
+
+-- The places behind a run, as sums: a difference would have omega go by cases.
+pub behind-run : (from to : PartAt) (at : Cursor) {r : Cursor} → r ≡ run-behind from to at → from .index ≤ to .index → from .place ≤ to .place
+    → (r .jentry + 4 * from .index ≡ at .jentry + 4 * to .index) × (r .place + from .place ≡ at .place + to .place)
+behind-run from to at e hi hp =
+    let ej = ap (λ (x : Cursor). x .jentry) e in
+    let ep = ap (λ (x : Cursor). x .place) e in
+    omega arith
 
 -- A run of the parts of a record, by its places.
 module _ (w : ℕ) (xs ys zs : List Part) where
@@ -90,17 +98,12 @@ run-is w xs ys zs s a b e ai bi ap′ bp =
       bytes = d;
     }
 
--- What the writer of a run did: it stored the entries and the payloads of the parts from `a` up to `b`, and gave the cursor behind them.
-abbrev pub Ran : Bytes → PartAt → PartAt → Cursor → Cursor → Bytes → Bytes → Type 0
-Ran s a b at at′ o o′ =
-    (at′ ≡ run-behind a b at) × (o′ ≡ patch (patch o (at .jentry) (run-entries s a b)) (at .place) (run-payloads s a b))
-
 -- A run stored behind what was stored: `done` so far, and then `ys` too.
 module _ (o : Bytes) (e p : ℕ) where
   pub run-stored : (done ys : List Part) (s : Bytes) (a b : PartAt) (at at′ : Cursor) (o₁ o₂ : Bytes) → Run s a b ys
       → e + 4 * (length done + length ys) ≤ p
       → o₁ ≡ laid o e p done → at .jentry ≡ e + 4 * length done → at .place ≡ p + length (payloads done)
-      → Ran s a b at at′ o₁ o₂
+      → Copied s a b at at′ o₁ o₂
       → (o₂ ≡ laid o e p (done ++ ys)) × (at′ .jentry ≡ e + 4 * length (done ++ ys)) × (at′ .place ≡ p + length (payloads (done ++ ys)))
   run-stored done ys s a b at at′ o₁ o₂ r h e₁ ej ep h₂ =
       let l = length-append done ys in

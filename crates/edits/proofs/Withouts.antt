@@ -1,5 +1,5 @@
 -- An array and an object without one of their items, as the code stores them.
-use Rattle.layout.specs.Parts.{start-of}
+use Rattle.layout.specs.Parts.{start-of, first-part, nth-part, parts-end, next-part, PartOf, parts-of}
 use Prim.Native.Nat.{ℕ, _+_, _*_, _-_, _^_, _≤_, _<_}
 use native.Mathlib.Omega.{arith}
 use mathlib.Core.Path.{_≡_, refl, ap, sym, _∙_}
@@ -11,10 +11,9 @@ use Rattle.layout.specs.Entry.{length-of, entry-at, lengths}
 use Rattle.layout.specs.Encode.{record-of}
 use Rattle.layout.specs.Patch.{patch}
 use Rattle.layout.proofs.Level.{AllFit}
-use Rattle.layout.specs.Parts.{nth-part, next-part}
+use Rattle.layout.proofs.Pieces.{same-part, nth-is}
 use Rattle.edits.specs.Cut.{Stores}
-use Rattle.layout.specs.Parts.{PartOf, parts-of}
-use Rattle.edits.specs.Runs.{without, without-member, run-entries, run-payloads, run-behind}
+use Rattle.edits.specs.Runs.{without, without-member, Copied}
 use Rattle.layout.specs.declared.parts.PartAt.{PartAt}
 use Rattle.layout.specs.declared.parts.Cursor.{Cursor}
 use Rattle.edits.proofs.Tables.{Parted}
@@ -28,16 +27,13 @@ pub object-word : (n : ℕ) → n ≤ 65536 → bitOr (2 ^ 30) n ≡ 2 ^ 30 + n
 object-word n h = or-shifted 1 30 n (omega arith)
 
 module _ (s : Bytes) (n : ℕ) (a : PartAt) (d : Part-at s n a) (o o₁ o₂ o₃ : Bytes) (at w : ℕ) (start middle end : Cursor) (next : PartAt) where
-  pub array-gone : w ≡ bitOr (2 ^ 31) (n - 1) → o₁ ≡ patch o at (be32 w) → start .jentry ≡ at + 4 → start .place ≡ at + 4 * n
-      → (middle ≡ run-behind (record { index = 0; place = 4 + 4 * n }) a start)
-      × (o₂ ≡ patch (patch o₁ (start .jentry) (run-entries s (record { index = 0; place = 4 + 4 * n }) a)) (start .place) (run-payloads s (record { index = 0; place = 4 + 4 * n }) a))
-      → next ≡ next-part s a
-      → (end ≡ run-behind next (record { index = n; place = length s }) middle)
-      × (o₃ ≡ patch (patch o₂ (middle .jentry) (run-entries s next (record { index = n; place = length s }))) (middle .place) (run-payloads s next (record { index = n; place = length s })))
+  pub array-gone : (first last : PartAt) → first ≡ first-part n → last ≡ parts-end s n
+      → w ≡ bitOr (2 ^ 31) (n - 1) → o₁ ≡ patch o at (be32 w) → start .jentry ≡ at + 4 → start .place ≡ at + 4 * n
+      → Copied s first a start middle o₁ o₂ → next ≡ next-part s a → Copied s next last middle end o₂ o₃
       → Stores (end .place - at) o o₃ at (record-of (2 ^ 31 + (n - 1)) (without (a .index) (parts-of s n)))
-  array-gone ew e₁ sj sp h₁ en h₂ =
+  array-gone first last hf hl ew e₁ sj sp h₁ en h₂ =
       let q : w ≡ 2 ^ 31 + (n - 1) = ew ∙ array-word (n - 1) (omega (arith, d .table, d .short)) in
-      rw (← q) (without-stored s n a d o o₁ o₂ o₃ at w start middle end next e₁ sj sp h₁ en h₂)
+      rw (← q) (without-stored s n a d o o₁ o₂ o₃ at w start middle end next e₁ sj sp (rw hf at h₁) en (rw hl at h₂))
 
 -- An object at one of its values, the name of which is its part `k`.
 module _ (s : Bytes) (n : ℕ) (p : Parted s (n + n)) (val : PartAt) (h : PartOf s (n + n) val) (lo : n ≤ val .index) where
@@ -74,11 +70,16 @@ module _ (s : Bytes) (n : ℕ) (p : Parted s (n + n)) (val : PartAt) (h : PartOf
 
   pub bounds : Bounds
   bounds =
-      let kz = key-size s (n + n) (p .word) (mem .left) (mem .key) (mem .middle) (mem .val) (mem .right) bytes fits total key val (sym (mem .before)) val-at refl val-stands in
-      let kp = key-place s (n + n) (p .word) (mem .left) (mem .key) (mem .middle) (mem .val) (mem .right) bytes fits total key val (sym (mem .before)) val-at refl val-stands in
-      let vp = val-place s (n + n) (p .word) (mem .left) (mem .key) (mem .middle) (mem .val) (mem .right) bytes fits total key val (sym (mem .before)) val-at refl val-stands in
-      let vz = val-size s (n + n) (p .word) (mem .left) (mem .key) (mem .middle) (mem .val) (mem .right) bytes fits total key val (sym (mem .before)) val-at refl val-stands in
-      let ve = two-end s (n + n) (p .word) (mem .left) (mem .key) (mem .middle) (mem .val) (mem .right) bytes fits total key val (sym (mem .before)) val-at refl val-stands in
+      let kz = key-size s (n + n) (p .word) (mem .left) (mem .key) (mem .middle) (mem .val) (mem .right) bytes fits total
+      key val (sym (mem .before)) val-at refl val-stands in
+      let kp = key-place s (n + n) (p .word) (mem .left) (mem .key) (mem .middle) (mem .val) (mem .right) bytes fits total
+      key val (sym (mem .before)) val-at refl val-stands in
+      let vp = val-place s (n + n) (p .word) (mem .left) (mem .key) (mem .middle) (mem .val) (mem .right) bytes fits total
+      key val (sym (mem .before)) val-at refl val-stands in
+      let vz = val-size s (n + n) (p .word) (mem .left) (mem .key) (mem .middle) (mem .val) (mem .right) bytes fits total
+      key val (sym (mem .before)) val-at refl val-stands in
+      let ve = two-end s (n + n) (p .word) (mem .left) (mem .key) (mem .middle) (mem .val) (mem .right) bytes fits total
+      key val (sym (mem .before)) val-at refl val-stands in
       record {
         table = p .table;
         short = p .short;
@@ -88,33 +89,19 @@ module _ (s : Bytes) (n : ℕ) (p : Parted s (n + n)) (val : PartAt) (h : PartOf
       }
 
   module _ (o o₁ o₂ o₃ o₄ : Bytes) (at w place : ℕ) (start keys vals end : Cursor) (next after : PartAt) where
-    abbrev first : PartAt
-    first = record { index = 0; place = start-of (n + n) }
-
-    abbrev last : PartAt
-    last = record { index = n + n; place = length s }
-
     abbrev name : PartAt
     name = record { index = val .index - n; place = place }
 
-    pub object-gone : w ≡ bitOr (2 ^ 30) (n - 1) → place ≡ start-of (n + n) + lengths s 0 (val .index - n - 0) → o₁ ≡ patch o at (be32 w)
-        → start .jentry ≡ at + 4 → start .place ≡ at + 4 + 4 * (n - 1 + (n - 1))
-        → (keys ≡ run-behind first name start)
-        × (o₂ ≡ patch (patch o₁ (start .jentry) (run-entries s first name)) (start .place) (run-payloads s first name))
-        → next ≡ next-part s name
-        → (vals ≡ run-behind next val keys)
-        × (o₃ ≡ patch (patch o₂ (keys .jentry) (run-entries s next val)) (keys .place) (run-payloads s next val))
-        → after ≡ next-part s val
-        → (end ≡ run-behind after last vals)
-        × (o₄ ≡ patch (patch o₃ (vals .jentry) (run-entries s after last)) (vals .place) (run-payloads s after last))
+    pub object-gone : (first last : PartAt) → first ≡ first-part (n + n) → last ≡ parts-end s (n + n)
+        → w ≡ bitOr (2 ^ 30) (n - 1) → place ≡ first .place + lengths s (first .index) (val .index - n - first .index)
+        → o₁ ≡ patch o at (be32 w) → start .jentry ≡ at + 4 → start .place ≡ at + 4 + 4 * (n - 1 + (n - 1))
+        → Copied s first name start keys o₁ o₂ → next ≡ next-part s name → Copied s next val keys vals o₂ o₃
+        → after ≡ next-part s val → Copied s after last vals end o₃ o₄
         → Stores (end .place - at) o o₄ at (record-of (2 ^ 30 + (n - 1)) (without-member n (val .index - n) (parts-of s (n + n))))
-    object-gone ew ep e₁ sj sp h₁ en h₂ ea h₃ =
+    object-gone first last hf hl ew ep e₁ sj sp h₁ en h₂ ea h₃ =
         let q : w ≡ 2 ^ 30 + (n - 1) = ew ∙ object-word (n - 1) (omega (arith, p .table, p .short)) in
-        let z : val .index - n - 0 ≡ val .index - n = omega arith in
+        let k : place ≡ start-of (n + n) + lengths s 0 (val .index - n) = same-part (nth-is s (n + n) _ place first hf ep) .1 in
         rw (mem .gone, ← q)
-        (two-stored s (n + n) (p .word) (mem .left) (mem .key) (mem .middle) (mem .val) (mem .right) bytes fits total name val (sym (mem .before)) val-at (rw z at ep) val-stands
-        o o₁ o₂ o₃ o₄ at w start keys vals end next after e₁ sj (omega (arith, sp, lo, h .inside)) h₁ en h₂ ea h₃)
-
--- The place of a name, as the code sums it.
-pub key-stands : (s : Bytes) (n k : ℕ) {place : ℕ} → place ≡ start-of (n + n) + lengths s 0 (k - 0) → place ≡ start-of (n + n) + lengths s 0 k
-key-stands s n k e = let z : k - 0 ≡ k = omega arith in rw z at e
+        (two-stored s (n + n) (p .word) (mem .left) (mem .key) (mem .middle) (mem .val) (mem .right) bytes fits total name val
+        (sym (mem .before)) val-at k val-stands o o₁ o₂ o₃ o₄ at w start keys vals end next after e₁ sj
+        (omega (arith, sp, lo, h .inside)) (rw hf at h₁) en h₂ ea (rw hl at h₃))

@@ -1,8 +1,8 @@
--- A container without the item that a path finds in it: measured first, by the same writer on a part of no bytes, then stored where
--- there is room; and the numbers of delete in their order.
-use Prim.Native.Nat.{ℕ, _+_, _*_, _-_, _^_, _≤_, _<_}
+-- A container without the item that a path finds in it: stored at once where the buffer is as long as the record, else measured first, by
+-- the same writer on a part of no bytes, and stored where there is room.
+use Prim.Native.Nat.{ℕ, _-_, _^_, _≤_, _<_}
 use native.Mathlib.Omega.{arith}
-use mathlib.Core.Path.{_≡_, ap, _∙_}
+use mathlib.Core.Path.{_≡_, ap, sym, _∙_}
 use mathlib.Core.List.{[], _++_}
 use mathlib.Core.Option.{some}
 use lib.ListN.{length}
@@ -13,7 +13,7 @@ use Rattle.layout.specs.Check.{checked}
 use Rattle.layout.specs.Patch.{patch}
 use Rattle.layout.specs.Ended.{into}
 use Rattle.layout.specs.Room.{EndedIn}
-use Rattle.layout.specs.Place.{parts-at}
+use Rattle.layout.specs.Parts.{first-part, parts-of}
 use Rattle.layout.specs.declared.check.Check.the-variants.{Readable}
 use Rattle.layout.specs.declared.refusal.Refusal.the-variants.{Buffer}
 use Rattle.layout.specs.declared.ending.Ending.the-variants.{Done, Refused}
@@ -26,55 +26,63 @@ use Rattle.edits.specs.Remains.{remains-of}
 use Rattle.edits.specs.declared.delete.Way.{Way}
 use Rattle.edits.proofs.Onwards.{cuts-shorter}
 
--- The way at its start.
-abbrev pub whole-way : ℕ → Way
-whole-way n = record { step = record { index = 0; place = 4 + 4 * n }; count = n }
+-- What the code knows of a deletion: the record, a path of `n` steps that finds an item in it, and the way at its start.
+pub record Deletion (s path : Bytes) (n : ℕ) (w : Way) : Type 0 where
+  pub octets : Octets s
+  pub readable : checked (nested 64 s) ≡ Readable
+  pub short : length s ≤ 65536
+  pub few : n < 2 ^ 29
+  pub more : 0 < n
+  pub finds : (t : Tree) × (finding s (part-steps (parts-of path n)) ≡ some t)
+  pub whole : w ≡ record { step = first-part n; count = n }
 
-steps-whole : (path : Bytes) (n : ℕ) → steps-from path (whole-way n) ≡ part-steps (parts-at path 0 (4 + 4 * n) n)
-steps-whole path n = let z : n - 0 ≡ n = omega arith in rw z
-
-pub whole-cuts : (s path : Bytes) (n : ℕ) → checked (nested 64 s) ≡ Readable → length s ≤ 65536 → n < 2 ^ 29 → 0 < n
-    → (t : Tree) × (finding s (part-steps (parts-at path 0 (4 + 4 * n) n)) ≡ some t) → Cuts s path (whole-way n) 64
-whole-cuts s path n c l few more f =
-    record {
-      readable = c;
-      allowed = omega arith;
-      short = l;
-      more = more;
-      few = few;
-      near = omega arith;
-      finds = (f .0, ap (finding s) (steps-whole path n) ∙ f .1);
-    }
-
--- A buffer that is as long as the record has room.
-pub room-enough : (s path : Bytes) (n : ℕ) (o : Bytes) (room : ℕ) (o′ : Bytes) (len : ℕ) → Octets s → Cuts s path (whole-way n) 64 → length s ≤ room
-    → Stores len o o′ 0 (remains-of s (steps-from path (whole-way n)))
-    → EndedIn (Done len) o o′ (into room (remains-of s (part-steps (parts-at path 0 (4 + 4 * n) n))))
-room-enough s path n o room o′ len b c h l =
-    let e = ap (remains-of s) (steps-whole path n) in
-    let q : len ≡ length (remains-of s (part-steps (parts-at path 0 (4 + 4 * n) n))) = l .length-is ∙ ap length e in
-    let k : length (remains-of s (part-steps (parts-at path 0 (4 + 4 * n) n))) ≤ room =
-    omega (arith, q, l .length-is, cuts-shorter s path (whole-way n) 64 b c, h) in
-    in-full _ o room o′ len k q (l .stored ∙ ap (patch o 0) e)
-
--- What was measured on no bytes.
-module _ (s path : Bytes) (n : ℕ) (o : Bytes) (room : ℕ) (e : Bytes) (len : ℕ) (d : Stores len [] e 0 (remains-of s (steps-from path (whole-way n)))) where
+module _ {s path : Bytes} {n : ℕ} {w : Way} (d : Deletion s path n w) where
   abbrev result : Bytes
-  result = remains-of s (part-steps (parts-at path 0 (4 + 4 * n) n))
+  result = remains-of s (part-steps (parts-of path n))
 
-  as-steps : remains-of s (steps-from path (whole-way n)) ≡ result
-  as-steps = ap (remains-of s) (steps-whole path n)
+  steps-whole : steps-from path w ≡ part-steps (parts-of path n)
+  steps-whole = let z : n - 0 ≡ n = omega arith in rw (d .whole, z)
 
-  measured : len ≡ length result
-  measured = d .length-is ∙ ap length as-steps
+  as-steps : remains-of s (steps-from path w) ≡ result
+  as-steps = ap (remains-of s) steps-whole
 
-  untouched : e ++ o ≡ o
-  untouched = rw (d .stored, patch-empty)
+  whole-way : Cuts s path (record { step = first-part n; count = n }) 64
+  whole-way =
+      let found : steps-from path (record { step = first-part n; count = n }) ≡ part-steps (parts-of path n) =
+      ap (steps-from path) (sym (d .whole)) ∙ steps-whole in
+      record {
+        readable = d .readable;
+        allowed = omega arith;
+        short = d .short;
+        more = d .more;
+        few = d .few;
+        near = omega (arith, d .few);
+        finds = (d .finds .0, ap (finding s) found ∙ d .finds .1);
+      }
 
-  pub no-room : room < len → EndedIn (Refused Buffer) o (e ++ o) (into room result)
-  no-room h = rw untouched (in-short result o room (omega (arith, measured, h)))
+  pub whole-cuts : Cuts s path w 64
+  whole-cuts = rw (d .whole) whole-way
 
-  pub has-room : (len₂ : ℕ) (o′ : Bytes) → len ≤ room → Stores len₂ (e ++ o) o′ 0 (remains-of s (steps-from path (whole-way n)))
+  -- A buffer that is as long as the record has room.
+  pub room-enough : (o o′ : Bytes) (room len : ℕ) → length s ≤ room → Stores len o o′ 0 (remains-of s (steps-from path w))
       → EndedIn (Done len) o o′ (into room result)
-  has-room len₂ o′ h l =
-      in-full result o room o′ len (omega (arith, measured, h)) measured (l .stored ∙ rw (untouched, as-steps))
+  room-enough o o′ room len h l =
+      let q : len ≡ length result = l .length-is ∙ ap length as-steps in
+      let k : length result ≤ room = omega (arith, q, l .length-is, cuts-shorter s path w 64 (d .octets) whole-cuts, h) in
+      in-full _ o room o′ len k q (l .stored ∙ ap (patch o 0) as-steps)
+
+  -- What was measured on no bytes.
+  module _ (o e : Bytes) (room len : ℕ) (m : Stores len [] e 0 (remains-of s (steps-from path w))) where
+    measured : len ≡ length result
+    measured = m .length-is ∙ ap length as-steps
+
+    untouched : e ++ o ≡ o
+    untouched = rw (m .stored, patch-empty)
+
+    pub no-room : room < len → EndedIn (Refused Buffer) o (e ++ o) (into room result)
+    no-room h = rw untouched (in-short result o room (omega (arith, measured, h)))
+
+    pub has-room : (len₂ : ℕ) (o′ : Bytes) → len ≤ room → Stores len₂ (e ++ o) o′ 0 (remains-of s (steps-from path w))
+        → EndedIn (Done len) o o′ (into room result)
+    has-room len₂ o′ h l =
+        in-full result o room o′ len (omega (arith, measured, h)) measured (l .stored ∙ rw (untouched, as-steps))

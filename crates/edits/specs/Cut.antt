@@ -1,16 +1,15 @@
 -- A container without an item, or with one written anew, as the code of delete stores it. `array-led` and `rising-led` of
 -- proofs/Leds.antt, `gone` of proofs/Sorteds.antt and `below` of proofs/Onwards.antt tie it to `remains`.
-use Rattle.layout.specs.Parts.{start-of, name-in, value-in}
+use Rattle.layout.specs.Parts.{nth-part, part-payload, name-in, value-in}
 use Prim.Native.Nat.{ℕ, _+_}
 use mathlib.Core.Path.{_≡_}
 use mathlib.Core.Bool.{cond}
 use mathlib.Core.List.{List, [], _∷_}
 use lib.ListN.{length}
 use Rattle.layout.specs.Bytes.{Bytes}
-use Rattle.layout.specs.Entry.{entry-of, lengths}
+use Rattle.layout.specs.Entry.{entry-of}
 use Rattle.layout.specs.Read.{header}
 use Rattle.layout.specs.Patch.{patch}
-use Rattle.layout.specs.Place.{part-at}
 use Rattle.layout.specs.Order.{same-bytes}
 use Rattle.layout.specs.declared.parts.MemberAt.{MemberAt}
 use Rattle.edits.specs.Keypath.{Step}
@@ -33,7 +32,7 @@ StoresBy s a r before after at = (p : Step) → spot (header s) s p ≡ At a →
 
 -- The name of member `k`.
 abbrev pub name-of : Bytes → ℕ → ℕ → Bytes
-name-of s n k = part-at s k (start-of (n + n) + lengths s 0 k) .bytes
+name-of s n k = part-payload s (nth-part s (n + n) k)
 
 -- The value of a member and its entry, where the values of a name are written anew.
 abbrev pub anew-value : Bytes → Bytes → List Step → MemberAt → Bytes

@@ -8,6 +8,7 @@ use Rattle.layout.specs.Bytes.{Bytes}
 use Rattle.layout.specs.Encode.{Part}
 use Rattle.layout.specs.Read.{header, nested}
 use Rattle.layout.specs.Check.{checked}
+use Rattle.layout.specs.Patch.{patch}
 use Rattle.layout.specs.declared.check.Check.the-variants.{Readable}
 use Rattle.layout.specs.Parts.{count-parts}
 use Rattle.layout.specs.declared.parts.PartAt.{PartAt}
@@ -29,6 +30,12 @@ run-payloads s a b = take (b .place - a .place) (drop (a .place) s)
 abbrev pub run-behind : PartAt → PartAt → Cursor → Cursor
 run-behind a b at =
     record { jentry = at .jentry + 4 * (b .index - a .index); place = at .place + (b .place - a .place) }
+
+-- A run stored from some places on: the places behind it, and the buffer then.
+abbrev pub Copied : Bytes → PartAt → PartAt → Cursor → Cursor → Bytes → Bytes → Type 0
+Copied s a b at end before after =
+    (end ≡ run-behind a b at)
+    × (after ≡ patch (patch before (at .jentry) (run-entries s a b)) (at .place) (run-payloads s a b))
 
 -- Without part `k`; without the name and the value of member `k` of `n`.
 abbrev pub without : ℕ → List Part → List Part

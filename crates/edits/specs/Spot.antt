@@ -1,20 +1,17 @@
 -- The part of a container that a step finds, by its place. proofs/Spots.antt ties it to `step-into`.
-use Rattle.layout.specs.Parts.{start-of}
-use Prim.Native.Nat.{ℕ, suc, _+_, _*_}
+use Prim.Native.Nat.{ℕ, suc, _+_}
 use mathlib.Core.Bool.{cond}
 use mathlib.Core.List.{List, [], _∷_}
 use mathlib.Core.Option.{Option, none as nothing, some}
 use lib.Dec.{ltb}
 use lib.IntN.{ℤ, pos, negsuc}
 use Rattle.layout.specs.Bytes.{Bytes}
-use Rattle.layout.specs.Place.{parts-at}
 use Rattle.layout.specs.declared.util.Header.{Header}
 use Rattle.layout.specs.declared.util.Header.the-variants.{Array, Object, Scalar, Refused}
 use Rattle.layout.specs.Order.{same-bytes}
-use Rattle.layout.specs.Parts.{texts, nth-part}
+use Rattle.layout.specs.Parts.{names-of, nth-part}
 use Rattle.edits.specs.Keypath.{Step}
 use Rattle.edits.specs.Find.{step-place, step-name}
-use Rattle.layout.specs.declared.parts.PartAt.{PartAt}
 use Rattle.edits.specs.declared.find.Place.{Place}
 use Rattle.edits.specs.declared.find.Place.the-variants.{Nothing as NoPlace, At as AtPlace}
 use Rattle.edits.specs.declared.find.Spot.{Spot}
@@ -50,6 +47,6 @@ spot-member s n (some k) = At (nth-part s (n + n) (n + k))
 unfoldable pub spot : Header → Bytes → Step → Spot
 unfolding spot-at spot-member
 spot (Array n) s t = spot-at s n (step-place t n)
-spot (Object n) s t = spot-member s n (first (step-name t) (texts (parts-at s 0 (start-of (n + n)) n)))
+spot (Object n) s t = spot-member s n (first (step-name t) (names-of s n))
 spot (Scalar n) s t = Nothing
 spot (Refused r) s t = Nothing

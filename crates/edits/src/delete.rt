@@ -24,8 +24,11 @@ use layout::parts::Cursor;
 use layout::parts::MemberAt;
 use layout::parts::PartAt;
 use layout::parts::Places;
+use layout::parts::first_part;
 use layout::parts::members_of;
 use layout::parts::part_behind;
+use layout::parts::part_payload;
+use layout::parts::parts_end;
 use layout::parts::payload_at;
 use layout::parts::place_after;
 use layout::refusal::Refusal;
@@ -48,26 +51,19 @@ ghost use Rattle.layout.specs.Check.{checked};
 ghost use Rattle.layout.specs.Patch.{patch};
 ghost use Rattle.layout.specs.Ended.{into};
 ghost use Rattle.layout.specs.Room.{EndedIn};
-ghost use Rattle.layout.specs.Place.{«parts-at» as partsAt};
 ghost use Rattle.layout.specs.declared.check.Check.the-variants.{Readable};
 ghost use Rattle.layout.specs.Order.{«same-bytes» as sameBytes};
-ghost use Rattle.layout.specs.Parts.{«name-in» as nameIn, «value-in» as valueIn};
+ghost use Rattle.layout.specs.Parts.{«name-in» as nameIn, «value-in» as valueIn, PartOf, «parts-of» as partsOf};
 ghost use Rattle.builders.specs.Weave.{behind, stored};
 ghost use Rattle.edits.specs.Steps.{«part-steps» as partSteps};
 ghost use Rattle.edits.specs.Held.{finding};
-ghost use Rattle.edits.specs.Cut.{Stores, LedTo, StoresBy};
-ghost use Rattle.edits.specs.Way.{Cuts, Onward};
-ghost use Rattle.edits.specs.Manner.{InRuns};
-ghost use Rattle.edits.specs.Runs.{Table, without, «without-member» as withoutMember};
-ghost use Rattle.layout.specs.Parts.{PartOf};
+ghost use Rattle.edits.specs.Cut.{Stores, LedTo, StoresBy, «name-of» as nameOf, «anew-value» as anewValue};
+ghost use Rattle.edits.specs.Cut.{«anew-entry» as anewEntry};
+ghost use Rattle.edits.specs.Way.{Cuts, Onward, «steps-from» as stepsFrom, «way-behind» as wayBehind};
+ghost use Rattle.edits.specs.Manner.{InRuns, «manner-of» as mannerOf};
+ghost use Rattle.edits.specs.Runs.{Table, without, «without-member» as withoutMember, «run-entries» as runEntries};
+ghost use Rattle.edits.specs.Runs.{«run-payloads» as runPayloads, «run-behind» as runBehind};
 ghost use Rattle.edits.specs.Remains.{«remains-of» as remainsOf};
-ghost use Rattle.edits.specs.Way.{«steps-from» as stepsFrom};
-ghost use Rattle.layout.specs.Parts.{«parts-of» as partsOf};
-ghost use Rattle.edits.specs.Runs.{«run-entries» as runEntries, «run-payloads» as runPayloads, «run-behind» as runBehind};
-ghost use Rattle.edits.specs.Cut.{«name-of» as nameOf};
-ghost use Rattle.edits.specs.Way.{«way-behind» as wayBehind};
-ghost use Rattle.edits.specs.Cut.{«anew-value» as anewValue, «anew-entry» as anewEntry};
-ghost use Rattle.edits.specs.Manner.{«manner-of» as mannerOf};
 
 // A path of `count` steps, of which `step` is the next.
 pub struct Way {
@@ -102,7 +98,7 @@ fn manner_of(s: &[u8]) -> Manner
 }
 
 // Stores the parts from one up to another, entries and payloads in one go each, and gives the places behind them.
-fn put_run(s: &[u8], from: PartAt, to: PartAt, out: &mut [u8], at: Cursor) -> Cursor
+pub fn put_run(s: &[u8], from: PartAt, to: PartAt, out: &mut [u8], at: Cursor) -> Cursor
     requires { ⌜ (from .index ≤ to .index) × (to .index ≤ 2 ^ 20) × (from .place ≤ to .place) × (to .place ≤ 2 ^ 20)
         × (at .jentry ≤ 2 ^ 30) × (at .place ≤ 2 ^ 30) ⌝ }
     ensures is { λ r. ⌜ r ≡ runBehind from to at ⌝ }
@@ -124,19 +120,13 @@ fn put_run(s: &[u8], from: PartAt, to: PartAt, out: &mut [u8], at: Cursor) -> Cu
 }
 
 // Stores an array of n items without one of them, and gives its length.
-fn put_array_without(s: &[u8], n: usize, item: PartAt, out: &mut [u8], at: usize) -> usize
+pub fn put_array_without(s: &[u8], n: usize, item: PartAt, out: &mut [u8], at: usize) -> usize
     requires { ⌜ Table (now s) n × PartOf (now s) n item × (at ≤ 2 ^ 23) ⌝ }
     ensures { λ r. ⌜ Stores r (now (out .entry)) (now (out .exit)) at
         (recordOf (2 ^ 31 + (n - 1)) (without (item .index) (partsOf (now (s .entry)) n))) ⌝ }
 {
-    let first = PartAt {
-        index: 0,
-        place: HEADER_SIZE + JENTRY_SIZE * n,
-    };
-    let last = PartAt {
-        index: n,
-        place: s.len(),
-    };
+    let first = first_part(n);
+    let last = parts_end(s, n);
     let start = Cursor {
         jentry: at + HEADER_SIZE,
         place: at + JENTRY_SIZE * n,
@@ -148,19 +138,13 @@ fn put_array_without(s: &[u8], n: usize, item: PartAt, out: &mut [u8], at: usize
 }
 
 // Stores an object of n members whose names rise, without the one with this value, and gives its length.
-fn put_object_without(s: &[u8], n: usize, val: PartAt, out: &mut [u8], at: usize) -> usize
+pub fn put_object_without(s: &[u8], n: usize, val: PartAt, out: &mut [u8], at: usize) -> usize
     requires { ⌜ Table (now s) (n + n) × PartOf (now s) (n + n) val × (n ≤ val .index) × (at ≤ 2 ^ 23) ⌝ }
     ensures { λ r. ⌜ Stores r (now (out .entry)) (now (out .exit)) at
         (recordOf (2 ^ 30 + (n - 1)) (withoutMember n (val .index - n) (partsOf (now (s .entry)) (n + n)))) ⌝ }
 {
-    let first = PartAt {
-        index: 0,
-        place: HEADER_SIZE + JENTRY_SIZE * (n + n),
-    };
-    let last = PartAt {
-        index: n + n,
-        place: s.len(),
-    };
+    let first = first_part(n + n);
+    let last = parts_end(s, n + n);
     let k = val.index - n;
     let key = PartAt {
         index: k,
@@ -182,15 +166,12 @@ fn name_of(s: &[u8], n: usize, k: usize) -> &[u8]
     requires { ⌜ (n < 2 ^ 29) × (k < n) ⌝ }
     ensures { λ r. ⌜ now r ≡ nameOf (now (s .entry)) n k ⌝ }
 {
-    let first = PartAt {
-        index: 0,
-        place: HEADER_SIZE + JENTRY_SIZE * (n + n),
+    let first = first_part(n + n);
+    let key = PartAt {
+        index: k,
+        place: place_after(s, first, k),
     };
-    slice(
-        s,
-        place_after(s, first, k),
-        payload_len(read_jentry(s, k)) as usize,
-    )
+    part_payload(s, key)
 }
 
 // Stores an object of n members in byte order of the names, without the member with this value, and gives its length.
@@ -386,15 +367,12 @@ fn put_deleted(s: &[u8], path: &[u8], way: Way, out: &mut [u8], at: usize, allow
 // so only a buffer that is shorter than that has it measured first, on no bytes.
 pub(crate) fn write_deleted(s: &[u8], path: &[u8], n: usize, out: &mut [u8], room: usize) -> Ending
     requires { ⌜ (checked (nested 64 (now s)) ≡ Readable) × (length (now s) ≤ 65536) × (n < 2 ^ 29) × (0 < n)
-        × ((t : Tree) × (finding (now s) (partSteps (partsAt (now path) 0 (4 + 4 * n) n)) ≡ some t)) ⌝ }
+        × ((t : Tree) × (finding (now s) (partSteps (partsOf (now path) n)) ≡ some t)) ⌝ }
     ensures { λ e. ⌜ EndedIn e (now (out .entry)) (now (out .exit))
-        (into room (remainsOf (now (s .entry)) (partSteps (partsAt (now (path .entry)) 0 (4 + 4 * n) n)))) ⌝ }
+        (into room (remainsOf (now (s .entry)) (partSteps (partsOf (now (path .entry)) n)))) ⌝ }
 {
     let way = Way {
-        step: PartAt {
-            index: 0,
-            place: HEADER_SIZE + JENTRY_SIZE * n,
-        },
+        step: first_part(n),
         count: n,
     };
     if s.len() <= room {

@@ -2,12 +2,11 @@
 use crate::keypath::KeyPath;
 use crate::keypath::key_of;
 use crate::keypath::put_index;
-use layout::constants::HEADER_SIZE;
-use layout::constants::JENTRY_SIZE;
 use layout::jentry::payload_len;
 use layout::jentry::read_jentry;
 use layout::order::is_same_bytes;
 use layout::parts::PartAt;
+use layout::parts::first_part;
 use layout::parts::place_after;
 use layout::util::Header;
 use layout::util::read_header;
@@ -15,9 +14,8 @@ use layout::util::slice;
 ghost use mathlib.Core.Path.{_≡_};
 ghost use Prim.Native.Nat.{_+_, _-_, _*_, _^_, _≤_, _<_};
 ghost use Rattle.layout.specs.Entry.{«code-of» as codeOf, lengths};
-ghost use Rattle.layout.specs.Place.{«parts-at» as partsAt};
+ghost use Rattle.layout.specs.Parts.{«names-of» as namesOf};
 ghost use Rattle.layout.specs.Read.{header};
-ghost use Rattle.layout.specs.Parts.{texts};
 ghost use Rattle.edits.specs.Steps.{«code-key» as codeKey, «key-place» as keyPlace, step};
 ghost use Rattle.edits.specs.Spot.{«place-told» as placeTold, among, first, «spot-at» as spotAt};
 ghost use Rattle.edits.specs.Spot.{«spot-member» as spotMember, spot};
@@ -66,9 +64,10 @@ fn place_of(i: i32, n: usize) -> Place
 // The first of n names that has equal bytes.
 fn find_name(s: &[u8], n: usize, name: &[u8]) -> Spot
     requires { ⌜ n < 2 ^ 29 ⌝ }
-    ensures { λ r. ⌜ r ≡ spotAt (now (s .entry)) (n + n) (first (now (name .entry)) (texts (partsAt (now (s .entry)) 0 (4 + 4 * (n + n)) n))) ⌝ }
+    ensures { λ r. ⌜ r ≡ spotAt (now (s .entry)) (n + n) (first (now (name .entry)) (namesOf (now (s .entry)) n)) ⌝ }
 {
-    let mut place = HEADER_SIZE + JENTRY_SIZE * (n + n);
+    let first = first_part(n + n);
+    let mut place = first.place;
     let mut i = 0;
     while i < n {
         let len = payload_len(read_jentry(s, i)) as usize;
@@ -82,9 +81,9 @@ fn find_name(s: &[u8], n: usize, name: &[u8]) -> Spot
 }
 
 // The value of the first of n members whose name has equal bytes.
-fn find_member(s: &[u8], n: usize, name: &[u8]) -> Spot
+pub fn find_member(s: &[u8], n: usize, name: &[u8]) -> Spot
     requires { ⌜ n < 2 ^ 29 ⌝ }
-    ensures { λ r. ⌜ r ≡ spotMember (now (s .entry)) n (first (now (name .entry)) (texts (partsAt (now (s .entry)) 0 (4 + 4 * (n + n)) n))) ⌝ }
+    ensures { λ r. ⌜ r ≡ spotMember (now (s .entry)) n (first (now (name .entry)) (namesOf (now (s .entry)) n)) ⌝ }
 {
     let Spot::At(key) = find_name(s, n, name) else {
         return Spot::Nothing;
@@ -107,20 +106,17 @@ fn find_item(s: &[u8], n: usize, key: KeyPath) -> Spot
     let Place::At(index) = place_of(i, n) else {
         return Spot::Nothing;
     };
-    let start = PartAt {
-        index: 0,
-        place: HEADER_SIZE + JENTRY_SIZE * n,
-    };
+    let first = first_part(n);
     Spot::At(PartAt {
         index,
-        place: place_after(s, start, index),
+        place: place_after(s, first, index),
     })
 }
 
 // The value of an object that a step finds: an index stands for its decimal text.
 fn find_value(s: &[u8], n: usize, key: KeyPath, text: &[u8]) -> Spot
     requires { ⌜ n < 2 ^ 29 ⌝ }
-    ensures { λ r. ⌜ r ≡ spotMember (now (s .entry)) n (first (stepName (step key (now (text .entry)))) (texts (partsAt (now (s .entry)) 0 (4 + 4 * (n + n)) n))) ⌝ }
+    ensures { λ r. ⌜ r ≡ spotMember (now (s .entry)) n (first (stepName (step key (now (text .entry)))) (namesOf (now (s .entry)) n)) ⌝ }
 {
     let KeyPath::Index(i) = key else {
         return find_member(s, n, text);

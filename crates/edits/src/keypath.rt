@@ -1,8 +1,6 @@
 // Path records, after the Rust's keypath.rs: an array record whose strings are names and whose integers are indexes.
 use layout::check::Check;
 use layout::check::check_record;
-use layout::constants::HEADER_SIZE;
-use layout::constants::JENTRY_SIZE;
 use layout::constants::NUMBER_CODE;
 use layout::constants::STRING_CODE;
 use layout::decimal::put_decimal;
@@ -10,6 +8,7 @@ use layout::jentry::payload_len;
 use layout::jentry::read_jentry;
 use layout::jentry::type_code;
 use layout::number::Number;
+use layout::parts::first_part;
 use layout::util::Header;
 use layout::util::read_header;
 use layout::util::slice;
@@ -19,7 +18,7 @@ ghost use Prim.Native.Nat.{_+_, _*_, _^_, _≤_, _<_};
 ghost use lib.ListN.{length};
 ghost use Rattle.layout.specs.Entry.{«code-of» as codeOf};
 ghost use Rattle.layout.specs.Patch.{patch};
-ghost use Rattle.layout.specs.Place.{«parts-at» as partsAt};
+ghost use Rattle.layout.specs.Parts.{«parts-of» as partsOf};
 ghost use Rattle.edits.specs.Keypath.{«index-text» as indexText, «path-of» as pathOf};
 ghost use Rattle.edits.specs.Steps.{«number-key» as numberKey, «int-key» as intKey, «code-key» as codeKey};
 ghost use Rattle.edits.specs.Steps.{«are-steps» as areSteps, «steps-told» as stepsTold};
@@ -106,9 +105,10 @@ pub(crate) fn key_of(jentry: u32, payload: &[u8]) -> KeyPath
 // Whether n items are steps, all of them.
 fn are_steps(path: &[u8], n: usize) -> bool
     requires { ⌜ n < 2 ^ 29 ⌝ }
-    ensures { λ r. ⌜ r ≡ areSteps (partsAt (now (path .entry)) 0 (4 + 4 * n) n) ⌝ }
+    ensures { λ r. ⌜ r ≡ areSteps (partsOf (now (path .entry)) n) ⌝ }
 {
-    let mut place = HEADER_SIZE + JENTRY_SIZE * n;
+    let first = first_part(n);
+    let mut place = first.place;
     let mut i = 0;
     while i < n {
         let jentry = read_jentry(path, i);

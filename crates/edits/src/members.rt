@@ -74,7 +74,7 @@ pub(crate) fn measure_members(s: &[u8], from: Places, n: usize, kept: Kept) -> S
 }
 
 // Where an object of these sizes stores its members.
-pub(crate) fn places_for(sizes: Sizes, at: usize) -> Places
+pub fn places_for(sizes: Sizes, at: usize) -> Places
     requires { ⌜ (sizes .count < 2 ^ 29) × (sizes .keys < 2 ^ 60) × (at ≤ 2 ^ 23) ⌝ }
     ensures { λ r. ⌜ r ≡ placesFor sizes at ⌝ }
 {
@@ -88,7 +88,7 @@ pub(crate) fn places_for(sizes: Sizes, at: usize) -> Places
 }
 
 // All n members of an object.
-pub(crate) fn members_ahead(s: &[u8], n: usize) -> Ahead
+pub fn members_ahead(s: &[u8], n: usize) -> Ahead
     requires { ⌜ n < 2 ^ 29 ⌝ }
     ensures { λ r. ⌜ r ≡ allAhead (now (s .entry)) n ⌝ }
 {
@@ -157,13 +157,7 @@ pub(crate) fn measure_ahead(s: &[u8], ahead: Ahead, kept: Kept) -> Sizes
 }
 
 // The next member in byte order behind the last one taken, those left out aside.
-pub(crate) fn next_in_order(
-    s: &[u8],
-    ahead: Ahead,
-    kept: Kept,
-    is_first: bool,
-    last: &[u8],
-) -> NextMember
+pub fn next_in_order(s: &[u8], ahead: Ahead, kept: Kept, is_first: bool, last: &[u8]) -> NextMember
     requires { ⌜ Near ahead × (ahead .«is_rising» ≡ false → ahead .index ≡ 0) ⌝ }
     ensures { λ r. ⌜ Next (now (s .entry)) kept (bound «is_first» (now (last .entry))) ahead r ⌝ }
 {

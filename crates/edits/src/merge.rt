@@ -113,7 +113,7 @@ fn put_merged(left: &[u8], m: usize, right: &[u8], n: usize, out: &mut [u8], to:
 }
 
 // Stores `count` members as they stand, and gives the places behind them.
-fn put_standing(s: &[u8], from: Places, count: usize, out: &mut [u8], to: Places) -> Places
+pub fn put_standing(s: &[u8], from: Places, count: usize, out: &mut [u8], to: Places) -> Places
     requires { ⌜ (count < 2 ^ 29)
         × (from .«key_jentry» < 2 ^ 59) × (from .«val_jentry» < 2 ^ 59) × (from .key < 2 ^ 59) × (from .val < 2 ^ 59)
         × (to .«key_jentry» < 2 ^ 59) × (to .«val_jentry» < 2 ^ 59) × (to .key < 2 ^ 59) × (to .val < 2 ^ 59) ⌝ }

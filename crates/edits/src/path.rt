@@ -9,7 +9,6 @@ use layout::check::check_record;
 use layout::constants::CONTAINER_CODE;
 use layout::constants::EXTENSION_CODE;
 use layout::constants::HEADER_SIZE;
-use layout::constants::JENTRY_SIZE;
 use layout::constants::SCALAR_CONTAINER_TAG;
 use layout::constants::SCALAR_START;
 use layout::ending::Ending;
@@ -18,6 +17,7 @@ use layout::jentry::payload_len;
 use layout::jentry::read_jentry;
 use layout::jentry::type_code;
 use layout::parts::ItemAt;
+use layout::parts::first_part;
 use layout::parts::payload_at;
 use layout::refusal::Refusal;
 use layout::util::Header;
@@ -31,7 +31,7 @@ ghost use lib.ListN.{length};
 ghost use Rattle.layout.specs.Entry.{«code-of» as codeOf};
 ghost use Rattle.layout.specs.Read.{nested};
 ghost use Rattle.layout.specs.Check.{checked};
-ghost use Rattle.layout.specs.Place.{«parts-at» as partsAt};
+ghost use Rattle.layout.specs.Parts.{«parts-of» as partsOf};
 ghost use Rattle.layout.specs.Ended.{Ended, into};
 ghost use Rattle.layout.specs.Room.{EndedIn};
 ghost use Rattle.layout.specs.declared.check.Check.the-variants.{Readable};
@@ -66,13 +66,14 @@ fn step_from(s: &[u8], item: ItemAt, jentry: u32, text: &[u8]) -> Item
 // What a path of n steps finds in a container.
 fn find_path(s: &[u8], path: &[u8], n: usize) -> Item
     requires { ⌜ (length (now s) ≤ 65536) × (checked (nested 64 (now s)) ≡ Readable) × (n < 2 ^ 29) ⌝ }
-    ensures { λ r. ⌜ Finds (now (s .entry)) (partSteps (partsAt (now (path .entry)) 0 (4 + 4 * n) n)) r ⌝ }
+    ensures { λ r. ⌜ Finds (now (s .entry)) (partSteps (partsOf (now (path .entry)) n)) r ⌝ }
 {
     let mut item = ItemAt {
         jentry: encoded(CONTAINER_CODE, s.len() as u32),
         place: 0,
     };
-    let mut place = HEADER_SIZE + JENTRY_SIZE * n;
+    let first = first_part(n);
+    let mut place = first.place;
     let mut i = 0;
     while i < n {
         let jentry = read_jentry(path, i);
@@ -88,7 +89,7 @@ fn find_path(s: &[u8], path: &[u8], n: usize) -> Item
 }
 
 // Stores bytes as they are, where they go into `room` bytes.
-pub(crate) fn write_copy(s: &[u8], out: &mut [u8], room: usize) -> Ending
+pub fn write_copy(s: &[u8], out: &mut [u8], room: usize) -> Ending
     ensures { λ e. ⌜ EndedIn e (now (out .entry)) (now (out .exit)) (into room (now (s .entry))) ⌝ }
 {
     if room < s.len() {
@@ -99,7 +100,7 @@ pub(crate) fn write_copy(s: &[u8], out: &mut [u8], room: usize) -> Ending
 }
 
 // Stores an item as a record, where it goes into `room` bytes: a container as it is, anything else as a scalar record.
-fn write_item(s: &[u8], item: ItemAt, out: &mut [u8], room: usize) -> Ending
+pub fn write_item(s: &[u8], item: ItemAt, out: &mut [u8], room: usize) -> Ending
     requires { ⌜ Stands (now s) item ⌝ }
     ensures { λ e. ⌜ EndedIn e (now (out .entry)) (now (out .exit)) (into room (itemRecord (now (s .entry)) item)) ⌝ }
 {

@@ -16,7 +16,7 @@ ghost use Rattle.layout.specs.Read.{read};
 ghost use Rattle.layout.specs.Check.{checked};
 ghost use Rattle.layout.specs.Refusal.{number};
 ghost use Rattle.builders.specs.Build.{append as appendOf, build, «on-two» as onTwo};
-ghost use Rattle.edits.specs.Keypath.{«get-by» as getBy, «delete-by» as deleteBy, «on-path» as onPath};
+ghost use Rattle.edits.specs.Path.{«get-by» as getBy, «delete-by» as deleteBy, «on-path» as onPath};
 ghost use Rattle.edits.specs.Concat.{concat as concatOf};
 ghost use Rattle.edits.specs.Strip.{strip, «on-one» as onOne};
 ghost use Rattle.jsonb.specs.C.{«c-check» as cCheck, «c-ending» as cEnding, EndedC};

@@ -6,7 +6,7 @@ use mathlib.Core.Path.{_≡_, refl, sym, ap, _∙_}
 use lib.ListN.{take, drop}
 use Rattle.layout.specs.Bytes.{Bytes}
 use Rattle.layout.specs.Entry.{length-of, entry-at, lengths}
-use Rattle.layout.specs.Parts.{start-of, first-part, part-payload, bytes-at, next-part, members-of, past, behind-member}
+use Rattle.layout.specs.Parts.{start-of, first-part, nth-part, part-payload, bytes-at, next-part, members-of, past, behind-member}
 use Rattle.layout.specs.declared.parts.ItemAt.{ItemAt}
 use Rattle.layout.specs.declared.parts.MemberAt.{MemberAt}
 use Rattle.layout.specs.declared.parts.PartAt.{PartAt}
@@ -19,9 +19,14 @@ pub payload-is : (r s : Bytes) (x : ItemAt) (n : ℕ) → n ≡ length-of (x .je
     → r ≡ bytes-at s x
 payload-is r s x n e h = rw (h, e)
 
--- The first part, by its two numbers, as sums want them.
-pub first-is : (n : ℕ) {p : PartAt} → p ≡ first-part n → (p .index ≡ 0) × (p .place ≡ 4 + 4 * n)
-first-is n e = (ap (λ (p : PartAt). p .index) e, ap (λ (p : PartAt). p .place) e)
+-- Equal parts have equal numbers, as sums want them.
+pub same-part : {p q : PartAt} → p ≡ q → (p .index ≡ q .index) × (p .place ≡ q .place)
+same-part e = (ap (λ (x : PartAt). x .index) e, ap (λ (x : PartAt). x .place) e)
+
+-- Part `k`, behind the first ones.
+pub nth-is : (s : Bytes) (n k p : ℕ) (first : PartAt) → first ≡ first-part n → p ≡ first .place + lengths s (first .index) (k - first .index)
+    → record { index = k; place = p } ≡ nth-part s n k
+nth-is s n k p first f e = let z : k - 0 ≡ k = omega arith in rw (e, f, z)
 
 pub part-payload-is : (r s : Bytes) (p : PartAt) (e l : ℕ) → e ≡ entry-at s (p .index) → l ≡ length-of e
     → r ≡ take l (drop (p .place) s) → r ≡ part-payload s p

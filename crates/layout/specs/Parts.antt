@@ -40,6 +40,10 @@ abbrev pub texts : List Part → List Bytes
 texts [] = []
 texts (p ∷ ps) = p .bytes ∷ texts ps
 
+-- The names of an object of `n` members.
+abbrev pub names-of : Bytes → ℕ → List Bytes
+names-of s n = texts (parts-at s 0 (start-of (n + n)) n)
+
 -- The part behind this one.
 abbrev pub next-part : Bytes → PartAt → PartAt
 next-part s p = record { index = p .index + 1; place = p .place + length-of (entry-at s (p .index)) }

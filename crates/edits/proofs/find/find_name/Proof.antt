@@ -1,19 +1,19 @@
 -- `edits::find::find_name` meets its contract.
-use Rattle.layout.specs.Parts.{start-of}
 use native.Mathlib.Omega.{arith}
 use borrow.Author.Needs.{needs}
 use Prim.Native.Nat.{_+_, _-_, _*_, _^_, _≤_}
 use mathlib.Core.Path.{_≡_}
 use Rattle.layout.specs.Entry.{lengths}
 use Rattle.layout.specs.Place.{parts-at}
+use Rattle.layout.specs.Parts.{start-of, texts}
 use Rattle.layout.proofs.Fields.{length-lt}
-use Rattle.layout.specs.Parts.{texts}
+use Rattle.layout.proofs.Pieces.{same-part, place-start, place-next}
 use Rattle.edits.specs.Spot.{first}
-use Rattle.layout.proofs.Pieces.{place-start, place-next}
 use Rattle.edits.proofs.Parts.{moved, first-start, first-found, first-more, first-none}
 use Rattle.edits.proofs.find.find_name.Statement.{statement}
 use Rattle.edits.proofs.find.find_name.Tie as tie
 
+-- Name i stands behind those before it, and the first of all is the first of what is left.
 abbrev Inv-loop : tie.InvT-loop
 Inv-loop s n name place₀ i₀ place i =
     (i ≤ n)
@@ -24,14 +24,41 @@ Inv-loop s n name place₀ i₀ place i =
 abbrev μ-loop : tie.MeasureT-loop
 μ-loop s n name place₀ i₀ place i = n - i
 
+-- The comparison of a turn, its entry, and the head of the loop.
+abbrev Turn : Type 0
+Turn = tie.After-is-same-bytes Inv-loop μ-loop
+
+abbrev to-entry : Turn → tie.After-read-jentry Inv-loop μ-loop
+to-entry c = c .before .before .before
+
+abbrev to-head : Turn → tie.At-loop Inv-loop μ-loop
+to-head c = to-entry c .before .before
+
 loop-holds : tie.Need-loop-holds Inv-loop μ-loop
-loop-holds c = (omega arith, omega arith, place-start _ _, first-start _ _ _ _)
+loop-holds c = rw (same-part (c .first-part .ensures) .1) (omega arith, omega arith, place-start _ _, first-start _ _ _ _)
 
 returns : tie.Need-returns Inv-loop μ-loop
-returns c = first-found _ _ _ _ _ (c .before .before .before .before .before .before .loop .inv .3) (c .before .before .before .before .before .loop-test .taken) _ _ _ _ (c .before .before .before .before .read-jentry .ensures) (c .before .before .before .payload-len .ensures) (c .before .before .slice .ensures) (c .before .is-same-bytes .ensures) (c .if1 .taken) (c .before .before .before .before .before .before .loop .inv .2)
+returns c =
+    let turn = c .before in
+    let sliced = turn .before in
+    let entry = to-entry turn in
+    let head = to-head turn in
+    first-found _ _ _ _ _ (head .loop .inv .3) (entry .before .loop-test .taken) _ _ _ _ (entry .read-jentry .ensures)
+    (sliced .before .payload-len .ensures) (sliced .slice .ensures) (turn .is-same-bytes .ensures) (c .if1 .taken) (head .loop .inv .2)
 
 loop-again : tie.Need-loop-again Inv-loop μ-loop
-loop-again c = (omega arith, omega (arith, c .before .before .before .payload-len .ensures, length-lt (c .before .before .before .before .read-jentry .result)), place-next _ _ _ _ _ _ (c .before .before .before .before .read-jentry .ensures) (c .before .before .before .payload-len .ensures) (c .before .before .before .before .before .before .loop .inv .2), first-more _ _ _ _ _ (c .before .before .before .before .before .before .loop .inv .3) (c .before .before .before .before .before .loop-test .taken) _ _ _ _ (c .before .before .before .before .read-jentry .ensures) (c .before .before .before .payload-len .ensures) (c .before .before .slice .ensures) (c .before .is-same-bytes .ensures) (c .if1 .left))
+loop-again c =
+    let turn = c .before in
+    let sliced = turn .before in
+    let sized = sliced .before in
+    let entry = to-entry turn in
+    let head = to-head turn in (
+      omega arith,
+      omega (arith, sized .payload-len .ensures, length-lt (entry .read-jentry .result)),
+      place-next _ _ _ _ _ _ (entry .read-jentry .ensures) (sized .payload-len .ensures) (head .loop .inv .2),
+      first-more _ _ _ _ _ (head .loop .inv .3) (entry .before .loop-test .taken) _ _ _ _ (entry .read-jentry .ensures)
+          (sized .payload-len .ensures) (sliced .slice .ensures) (turn .is-same-bytes .ensures) (c .if1 .left),
+    )
 
 returns-2 : tie.Need-returns-2 Inv-loop μ-loop
 returns-2 c = first-none _ _ _ _ _ (c .before .loop .inv .3) (c .loop-test .left)
@@ -43,8 +70,7 @@ find-name-spec =
     Inv-loop
     μ-loop
     (λ c. search needs)
-    (λ c. search needs)
-    (λ c. search needs)
+    (λ c κs. search needs)
     loop-holds
     (λ c κs. search needs)
     (λ c κs. search needs)

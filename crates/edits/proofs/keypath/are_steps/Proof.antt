@@ -5,29 +5,57 @@ use Prim.Native.Nat.{_+_, _-_, _*_, _^_, _≤_}
 use mathlib.Core.Path.{_≡_}
 use mathlib.Core.Logic.{⊎-elim}
 use Rattle.layout.specs.Place.{parts-at}
+use Rattle.layout.specs.Parts.{start-of}
 use Rattle.layout.proofs.Fields.{length-lt}
+use Rattle.layout.proofs.Pieces.{same-part}
 use Rattle.edits.specs.Steps.{are-steps}
 use Rattle.edits.proofs.Keys.{steps-start, steps-other, steps-more, steps-end}
 use Rattle.edits.proofs.keypath.are_steps.Statement.{statement}
 use Rattle.edits.proofs.keypath.are_steps.Tie as tie
 
+-- All items are steps where those that are left are.
 abbrev Inv-loop : tie.InvT-loop
 Inv-loop path n place₀ i₀ place i =
     (i ≤ n)
-    × (place ≤ 4 + 4 * n + 2 ^ 28 * i)
-    × (are-steps (parts-at path 0 (4 + 4 * n) n) ≡ are-steps (parts-at path i place (n - i)))
+    × (place ≤ start-of n + 2 ^ 28 * i)
+    × (are-steps (parts-at path 0 (start-of n) n) ≡ are-steps (parts-at path i place (n - i)))
 
 abbrev μ-loop : tie.MeasureT-loop
 μ-loop path n place₀ i₀ place i = n - i
 
+-- What an item of a turn is, its entry, and the head of the loop.
+abbrev Turn : Type 0
+Turn = tie.After-key-of Inv-loop μ-loop
+
+abbrev to-entry : Turn → tie.After-read-jentry Inv-loop μ-loop
+to-entry c = c .before .before .before
+
+abbrev to-head : Turn → tie.At-loop Inv-loop μ-loop
+to-head c = to-entry c .before .before
+
 loop-holds : tie.Need-loop-holds Inv-loop μ-loop
-loop-holds c = (omega arith, omega arith, steps-start _ _ _)
+loop-holds c = rw (same-part (c .first-part .ensures) .1) (omega arith, omega arith, steps-start _ _ _)
 
 returns : tie.Need-returns Inv-loop μ-loop
-returns c = steps-other _ _ _ _ _ (c .before .before .before .before .before .before .before .loop .inv .2) (c .before .before .before .before .before .before .loop-test .taken) _ _ _ _ (c .before .before .before .before .before .read-jentry .ensures) (c .before .before .before .before .payload-len .ensures) (c .before .before .before .slice .ensures) (c .before .before .key-of .ensures) (c .enum-told .given .1)
+returns c =
+    let turn = c .before .before in
+    let sliced = turn .before in
+    let entry = to-entry turn in
+    steps-other _ _ _ _ _ (to-head turn .loop .inv .2) (entry .before .loop-test .taken) _ _ _ _ (entry .read-jentry .ensures)
+    (sliced .before .payload-len .ensures) (sliced .slice .ensures) (turn .key-of .ensures) (c .enum-told .given .1)
 
 loop-again : tie.Need-loop-again Inv-loop μ-loop
-loop-again c = (omega arith, omega (arith, c .before .before .before .payload-len .ensures, length-lt (c .before .before .before .before .read-jentry .result)), steps-more _ _ _ _ _ (c .before .before .before .before .before .before .loop .inv .2) (c .before .before .before .before .before .loop-test .taken) _ _ _ _ (c .before .before .before .before .read-jentry .ensures) (c .before .before .before .payload-len .ensures) (c .before .before .slice .ensures) (c .before .key-of .ensures) (λ e. ⊎-elim (λ q. omega arith) (λ q. omega arith) (rw e at (c .match .keys2))))
+loop-again c =
+    let turn = c .before in
+    let sliced = turn .before in
+    let sized = sliced .before in
+    let entry = to-entry turn in (
+      omega arith,
+      omega (arith, sized .payload-len .ensures, length-lt (entry .read-jentry .result)),
+      steps-more _ _ _ _ _ (to-head turn .loop .inv .2) (entry .before .loop-test .taken) _ _ _ _ (entry .read-jentry .ensures)
+          (sized .payload-len .ensures) (sliced .slice .ensures) (turn .key-of .ensures)
+          (λ e. ⊎-elim (λ q. omega arith) (λ q. omega arith) (rw e at (c .match .keys2))),
+    )
 
 returns-2 : tie.Need-returns-2 Inv-loop μ-loop
 returns-2 c = steps-end _ _ _ _ _ (c .before .loop .inv .2) (c .loop-test .left)
@@ -38,8 +66,7 @@ are-steps-spec =
     (tie.spec
     Inv-loop
     μ-loop
-    (λ c. search needs)
-    (λ c. search needs)
+    (λ c κs. search needs)
     loop-holds
     (λ c κs. search needs)
     (λ c κs. search needs)

@@ -1,50 +1,91 @@
 -- `edits::path::find_path` meets its contract.
 use native.Mathlib.Omega.{arith}
 use borrow.Author.Needs.{needs}
-use Prim.Native.Nat.{_+_, _-_, _*_, _^_, _≤_}
+use Prim.Native.Nat.{_+_, _-_, _*_, _^_, _<_, _≤_}
+use Rattle.layout.specs.Bytes.{Octets}
+use Rattle.layout.specs.Parts.{start-of}
 use Rattle.layout.proofs.Fields.{length-lt}
 use Rattle.layout.proofs.Words.{octets-of}
+use Rattle.layout.proofs.Pieces.{same-part}
 use Rattle.edits.proofs.Lookups.{Going, going-start, going-stop, going-on, going-end}
 use Rattle.edits.proofs.path.find_path.Statement.{statement}
 use Rattle.edits.proofs.path.find_path.Tie as tie
 
+-- What the whole path finds is what the steps that are left find, from the item on.
 abbrev Inv-loop : tie.InvT-loop
-Inv-loop s path n item₀ place₀ i₀ item place i = (i ≤ n) × (place ≤ 4 + 4 * n + 2 ^ 28 * i) × Going s path n item place i
+Inv-loop s path n item₀ place₀ i₀ item place i = (i ≤ n) × (place ≤ start-of n + 2 ^ 28 * i) × Going s path n item place i
 
 abbrev μ-loop : tie.MeasureT-loop
 μ-loop s path n item₀ place₀ i₀ item place i = n - i
 
+-- The step of a turn, its entry, the head of the loop, and the start.
+abbrev Turn : Type 0
+Turn = tie.After-step-from Inv-loop μ-loop
+
+abbrev to-entry : Turn → tie.After-read-jentry Inv-loop μ-loop
+to-entry c = c .before .before .before
+
+abbrev to-head : Turn → tie.At-loop Inv-loop μ-loop
+to-head c = to-entry c .before .before
+
+abbrev to-encoded : tie.After-first-part Inv-loop μ-loop → tie.After-encoded Inv-loop μ-loop
+to-encoded c = c .before
+
+abbrev to-start : tie.After-encoded Inv-loop μ-loop → tie.Start Inv-loop μ-loop
+to-start c = c .before .before .before
+
+-- What the payload of a step adds to the place stays small.
+near : (c : Turn) → c .before .before .payload-len .result < 2 ^ 28
+near c = omega (arith, c .before .before .payload-len .ensures, length-lt (to-entry c .read-jentry .result))
+
+octets : (c : tie.After-encoded Inv-loop μ-loop) → Octets (to-start c .args .s .now)
+octets c = octets-of (to-start c .args .s .now) (λ i. omega (arith, c .before .before .shared-slice-known .given i))
+
 cast-encoded : tie.Need-cast-encoded Inv-loop μ-loop
 cast-encoded c = omega (arith, c .before .before .pre .0)
 
-mul-place : tie.Need-mul-place Inv-loop μ-loop
-mul-place c = omega (arith, c .before .before .before .pre .2)
-
-add-place : tie.Need-add-place Inv-loop μ-loop
-add-place c = omega (arith, c .before .before .before .pre .2)
+first-part-requires : tie.Need-first-part-requires Inv-loop μ-loop
+first-part-requires c κs = omega (arith, to-start c .pre .2)
 
 loop-holds : tie.Need-loop-holds Inv-loop μ-loop
-loop-holds c = (
-  omega arith,
-  omega arith,
-  going-start _ _ _ _ (octets-of (c .before .before .before .args .s .now) (λ i. omega (arith, c .before .before .shared-slice-known .given i))) (c .before .before .before .pre .0) (c .before .before .before .pre .1) (c .encoded .ensures),
-)
+loop-holds c =
+    let encoded = to-encoded c in
+    let start = to-start encoded in
+    rw (same-part (c .first-part .ensures) .1)
+    (omega arith, omega arith, going-start _ _ _ _ (octets encoded) (start .pre .0) (start .pre .1) (encoded .encoded .ensures))
 
 step-from-requires : tie.Need-step-from-requires Inv-loop μ-loop
-step-from-requires c κs = (c .before .before .before .before .loop .inv .2 .tree, c .before .before .before .before .loop .inv .2 .held)
+step-from-requires c κs =
+    let head = c .before .before .before .before in
+    (head .loop .inv .2 .tree, head .loop .inv .2 .held)
 
 returns : tie.Need-returns Inv-loop μ-loop
-returns c = going-stop _ _ _ _ _ _ (c .before .before .before .before .before .before .before .loop .inv .2) (c .before .before .before .before .before .before .loop-test .taken) _ _ _ _ (c .before .before .before .before .before .read-jentry .ensures) (c .before .before .before .before .payload-len .ensures) (c .before .before .before .slice .ensures) (c .before .before .step-from .ensures) (c .enum-told .given .1)
+returns c =
+    let turn = c .before .before in
+    let sliced = turn .before in
+    let entry = to-entry turn in
+    going-stop _ _ _ _ _ _ (to-head turn .loop .inv .2) (entry .before .loop-test .taken) _ _ _ _ (entry .read-jentry .ensures)
+    (sliced .before .payload-len .ensures) (sliced .slice .ensures) (turn .step-from .ensures) (c .enum-told .given .1)
 
-add-place-2 : tie.Need-add-place-2 Inv-loop μ-loop
-add-place-2 c = omega (arith, c .before .before .before .before .before .before .before .before .before .before .before .before .pre .2, c .before .before .before .before .before .before .before .before .loop .inv .1, c .before .before .before .before .before .before .before .loop-test .taken, c .before .before .before .before .before .payload-len .ensures, length-lt (c .before .before .before .before .before .before .read-jentry .result))
+add-place : tie.Need-add-place Inv-loop μ-loop
+add-place c =
+    let turn = c .before .before .before in
+    let head = to-head turn in
+    omega (arith, to-start (to-encoded (head .before)) .pre .2, head .loop .inv .1, to-entry turn .before .loop-test .taken, near turn)
 
 loop-again : tie.Need-loop-again Inv-loop μ-loop
-loop-again c = (
-  omega (arith, c .before .before .before .before .before .before .before .loop-test .taken),
-  omega (arith, c .before .before .before .before .before .before .before .before .loop .inv .1, c .before .before .before .before .before .payload-len .ensures, length-lt (c .before .before .before .before .before .before .read-jentry .result)),
-  going-on _ _ _ _ _ _ (c .before .before .before .before .before .before .before .before .loop .inv .2) (c .before .before .before .before .before .before .before .loop-test .taken) _ _ _ _ (c .before .before .before .before .before .before .read-jentry .ensures) (c .before .before .before .before .before .payload-len .ensures) (c .before .before .before .before .slice .ensures) (c .before .before .before .step-from .ensures) _ (c .before .next .given .1),
-)
+loop-again c =
+    let found = c .before in
+    let turn = found .before .before in
+    let sliced = turn .before in
+    let sized = sliced .before in
+    let entry = to-entry turn in
+    let head = to-head turn in (
+      omega (arith, entry .before .loop-test .taken),
+      omega (arith, head .loop .inv .1, near turn),
+      going-on _ _ _ _ _ _ (head .loop .inv .2) (entry .before .loop-test .taken) _ _ _ _ (entry .read-jentry .ensures)
+          (sized .payload-len .ensures) (sliced .slice .ensures) (turn .step-from .ensures) _ (found .next .given .1),
+    )
 
 returns-2 : tie.Need-returns-2 Inv-loop μ-loop
 returns-2 c = going-end _ _ _ _ _ _ (c .before .loop .inv .2) (c .loop-test .left)
@@ -57,8 +98,7 @@ find-path-spec =
     μ-loop
     cast-encoded
     (λ c κs. search needs)
-    mul-place
-    add-place
+    first-part-requires
     loop-holds
     (λ c κs. search needs)
     (λ c κs. search needs)
@@ -68,7 +108,7 @@ find-path-spec =
     (λ c. search needs)
     (λ c. search needs)
     returns
-    add-place-2
+    add-place
     (λ c. search needs)
     (λ c. search needs)
     loop-again
