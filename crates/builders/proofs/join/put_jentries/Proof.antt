@@ -6,13 +6,25 @@ use Rattle.builders.proofs.join.put_jentries.Statement.{statement}
 use Rattle.builders.proofs.join.put_jentries.Tie as tie
 
 mul-slice : tie.Need-mul-slice
-mul-slice c = omega (arith, count-table _ _ (c .before .given .given .1), c .before .before .before .before .before .pre)
+mul-slice c =
+    let told = c .before in
+    let start = told .before .before .before .before in
+    omega (arith, count-table _ _ (told .given .given .1), start .pre)
 
 returns : tie.Need-returns
-returns c = entries-table _ _ _ _ _ _ _ (c .before .before .before .before .before .before .given .given .1) (c .before .before .before .before .slice .ensures) (c .before .before .copy .ensures)
+returns c =
+    let stored = c .before .before in
+    let table = stored .before .before in
+    let told = table .before .before in
+    entries-table _ _ _ _ _ _ _ (told .given .given .1) (table .slice .ensures) (stored .copy .ensures)
 
 returns-2 : tie.Need-returns-2
-returns-2 c = entries-whole _ _ _ _ _ _ (c .before .before .before .before .before .enum-told .given .1) (c .before .before .before .before .before .before .before .before .before .pre .1) (c .before .before .before .encoded .ensures) (c .before .before .put-u32 .ensures)
+returns-2 c =
+    let stored = c .before .before in
+    let entry = stored .before in
+    let whole = entry .before .before in
+    let start = whole .before .before .before .before in
+    entries-whole _ _ _ _ _ _ (whole .enum-told .given .1) (start .pre .1) (entry .encoded .ensures) (stored .put-u32 .ensures)
 
 pub put-jentries-spec : {M : Type 1} → statement M
 put-jentries-spec =

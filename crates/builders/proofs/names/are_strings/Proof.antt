@@ -19,10 +19,22 @@ loop-holds : tie.Need-loop-holds Inv-loop μ-loop
 loop-holds c = (omega arith, ap (strings-at _ 0) (sym (sub-zero _)))
 
 returns : tie.Need-returns Inv-loop μ-loop
-returns c = strings-other _ _ _ (c .before .before .before .before .loop .inv .1) (c .before .before .before .loop-test .taken) _ _ (c .before .before .read-jentry .ensures) (c .before .type-code .ensures) (c .if1 .taken)
+returns c =
+    let code = c .before in
+    let entry = code .before in
+    let more = entry .before in
+    strings-other _ _ _ (more .before .loop .inv .1) (more .loop-test .taken) _ _ (entry .read-jentry .ensures) (code .type-code .ensures)
+    (c .if1 .taken)
 
 loop-again : tie.Need-loop-again Inv-loop μ-loop
-loop-again c = (omega arith, strings-more _ _ _ (c .before .before .before .before .loop .inv .1) (c .before .before .before .loop-test .taken) _ _ (c .before .before .read-jentry .ensures) (c .before .type-code .ensures) (c .if1 .left))
+loop-again c =
+    let code = c .before in
+    let entry = code .before in
+    let more = entry .before in (
+      omega arith,
+      strings-more _ _ _ (more .before .loop .inv .1) (more .loop-test .taken) _ _ (entry .read-jentry .ensures) (code .type-code .ensures)
+          (c .if1 .left),
+    )
 
 returns-2 : tie.Need-returns-2 Inv-loop μ-loop
 returns-2 c = strings-end _ _ _ (c .before .loop .inv .1) (c .loop-test .left)
