@@ -8,11 +8,11 @@ use Rattle.layout.specs.Bytes.{Bytes}
 use Rattle.layout.specs.Tree.{Tree}
 use Rattle.layout.specs.Read.{header, nested}
 use Rattle.layout.specs.Check.{checked}
-use Rattle.layout.specs.Place.{part-at, parts-at}
+use Rattle.layout.specs.Place.{parts-at}
 use Rattle.layout.specs.declared.check.Check.the-variants.{Readable}
 use Rattle.edits.specs.Keypath.{Step}
 use Rattle.edits.specs.Steps.{part-step, part-steps}
-use Rattle.layout.specs.Parts.{next-part}
+use Rattle.layout.specs.Parts.{next-part, part-in}
 use Rattle.edits.specs.Spot.{spot}
 use Rattle.edits.specs.Held.{finding}
 use Rattle.layout.specs.declared.parts.PartAt.{PartAt}
@@ -21,7 +21,7 @@ use Rattle.edits.specs.declared.delete.Way.{Way}
 
 -- The steps that are still to be taken, the next one first.
 abbrev pub step-at : Bytes → PartAt → Step
-step-at path p = part-step (part-at path (p .index) (p .place))
+step-at path p = part-step (part-in path p)
 
 abbrev pub way-behind : Bytes → Way → Way
 way-behind path w = record { step = next-part path (w .step); count = w .count }

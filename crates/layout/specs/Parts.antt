@@ -58,9 +58,12 @@ nth-part s n k = record { index = k; place = start-of n + lengths s 0 k }
 abbrev pub parts-end : Bytes → ℕ → PartAt
 parts-end s n = record { index = n; place = length s }
 
--- The payload of a part.
+-- A part with its kind and bytes, by its place; and its payload.
+abbrev pub part-in : Bytes → PartAt → Part
+part-in s p = part-at s (p .index) (p .place)
+
 abbrev pub part-payload : Bytes → PartAt → Bytes
-part-payload s p = part-at s (p .index) (p .place) .bytes
+part-payload s p = part-in s p .bytes
 
 -- That a part is one of the `n` of a container.
 pub record PartOf (s : Bytes) (n : ℕ) (p : PartAt) : Type 0 where
