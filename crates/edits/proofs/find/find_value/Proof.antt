@@ -12,10 +12,22 @@ use Rattle.edits.proofs.find.find_value.Statement.{statement}
 use Rattle.edits.proofs.find.find_value.Tie as tie
 
 returns : tie.Need-returns
-returns c = value-name _ _ (c .before .before .before .before .args .key) (c .before .before .before .before .args .text .now) _ _ (λ z e. ⊎-elim (λ q. omega arith) (λ q. omega arith) (rw e at (c .before .match .keys2))) (c .find-member .ensures)
+returns c =
+    let other = c .before in
+    let start = other .before .before .before in
+    value-name _ _ (start .args .key) (start .args .text .now) _ _
+    (λ z e. ⊎-elim (λ q. omega arith) (λ q. omega arith) (rw e at (other .match .keys2))) (c .find-member .ensures)
 
 returns-2 : tie.Need-returns-2
-returns-2 c = value-index _ _ (c .before .before .before .before .before .before .before .before .before .before .before .args .key) (c .before .before .before .before .before .before .before .before .before .before .before .args .text .now) _ _ (toZ w32 (ofZ w32 (c .before .before .before .before .before .before .before .key .given .0 .0))) _ _ (c .before .before .before .before .before .before .before .key .given .1) (toZ-ofZ w32 _ (record { sfits = c .before .before .before .before .before .before .known-told .given .0 .1 })) (text-back _ _ _ _ _ refl (c .before .before .before .before .put-index .ensures) (c .before .slice .ensures)) (c .find-member2 .ensures)
+returns-2 c =
+    let sliced = c .before in
+    let stored = sliced .before .before .before in
+    let told = stored .before .before in
+    let key = told .before in
+    let start = key .before .before .before .before in
+    value-index _ _ (start .args .key) (start .args .text .now) _ _ (toZ w32 (ofZ w32 (key .key .given .0 .0))) _ _ (key .key .given .1)
+    (toZ-ofZ w32 _ (record { sfits = told .known-told .given .0 .1 }))
+    (text-back _ _ _ _ _ refl (stored .put-index .ensures) (sliced .slice .ensures)) (c .find-member2 .ensures)
 
 pub find-value-spec : {M : Type 1} → statement M
 find-value-spec =

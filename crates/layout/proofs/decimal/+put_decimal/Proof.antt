@@ -31,16 +31,26 @@ put-decimal-returns : (t : ℕ) → put-decimal-lts.Need-returns (put-decimal-cl
 put-decimal-returns t c = digits-none _ _ _ _ (c .if1 .taken)
 
 put-decimal-returns-2 : (t : ℕ) → put-decimal-lts.Need-returns-2 (put-decimal-claims t) (put-decimal-at t) put-decimal.Post
-put-decimal-returns-2 t c = digits-one _ _ _ _ (c .before .before .before .before .before .if1 .left) _ (c .before .before .before .before .if2 .taken) (c .before .before .put .ensures)
+put-decimal-returns-2 t c =
+    let digit = c .before .before in
+    let last = digit .before .before in
+    digits-one _ _ _ _ (last .before .if1 .left) _ (last .if2 .taken) (digit .put .ensures)
 
 put-decimal-put-decimal-requires : (t : ℕ) → put-decimal-lts.Need-put-decimal-requires (put-decimal-claims t) (put-decimal-at t) put-decimal.Post
 put-decimal-put-decimal-requires t c κs = (omega (arith, c .before .before .before .before .pre .0), (omega arith, omega arith))
 
 put-decimal-add-result-2 : (t : ℕ) → put-decimal-lts.Need-add-result-2 (put-decimal-claims t) (put-decimal-at t) put-decimal.Post
-put-decimal-add-result-2 t c = omega (arith, c .before .before .before .before .before .before .put-decimal .ensures .0 .0, c .before .before .before .before .before .before .put-decimal .ensures .0 .1)
+put-decimal-add-result-2 t c =
+    let digit = c .before .before in
+    let front = digit .before .before .before .before in
+    omega (arith, front .put-decimal .ensures .0 .0, front .put-decimal .ensures .0 .1)
 
 put-decimal-returns-3 : (t : ℕ) → put-decimal-lts.Need-returns-3 (put-decimal-claims t) (put-decimal-at t) put-decimal.Post
-put-decimal-returns-3 t c = digits-more _ _ _ _ (c .before .before .before .before .before .before .before .before .before .if1 .left) _ _ _ (c .before .before .before .before .before .before .before .before .if2 .left) (c .before .before .before .before .before .before .put-decimal .ensures) (c .before .before .put2 .ensures)
+put-decimal-returns-3 t c =
+    let digit = c .before .before in
+    let front = digit .before .before .before .before in
+    let more = front .before .before in
+    digits-more _ _ _ _ (more .before .if1 .left) _ _ _ (more .if2 .left) (front .put-decimal .ensures) (digit .put2 .ensures)
 
 pub +put-decimal-spec : {M : Type 1} → statement M
 +put-decimal-spec = close μ-put-decimal λ t. put-decimal-lts.spec (put-decimal-claims t)

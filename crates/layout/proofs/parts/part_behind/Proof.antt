@@ -5,7 +5,11 @@ use Rattle.layout.proofs.parts.part_behind.Statement.{statement}
 use Rattle.layout.proofs.parts.part_behind.Tie as tie
 
 returns : tie.Need-returns
-returns c = part-behind-is _ (c .before .before .before .before .before .args .part) _ _ (c .before .before .read-jentry .ensures) (c .before .payload-len .ensures)
+returns c =
+    let sized = c .before in
+    let read = sized .before in
+    let start = read .before .before .before in
+    part-behind-is _ (start .args .part) _ _ (read .read-jentry .ensures) (sized .payload-len .ensures)
 
 pub part-behind-spec : {M : Type 1} → statement M
 part-behind-spec =
