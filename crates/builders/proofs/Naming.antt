@@ -2,18 +2,16 @@
 use Prim.Native.Nat.{ℕ, _+_, _-_, _<_, _≤_}
 use native.Mathlib.Omega.{arith}
 use native.Mathlib.Nat.{sub-zero}
-use mathlib.Core.Path.{_≡_, refl, ap, sym, _∙_}
-use mathlib.Core.Bool.{Bool, true, false, _&&_}
-use mathlib.Core.List.{List, [], _∷_}
+use mathlib.Core.Path.{_≡_, sym, _∙_}
+use mathlib.Core.Bool.{Bool, true, false}
 use lib.ListN.{take, drop}
 use borrow.Author.Tests.{eq-eqb, ne-eqb}
 use Rattle.layout.specs.Bytes.{Bytes}
 use Rattle.layout.specs.Entry.{code-of, length-of, entry-at}
-use Rattle.layout.specs.Encode.{Part}
-use Rattle.layout.specs.Place.{parts-at, rising-from, rising-parts}
-use Rattle.layout.specs.Order.{before, rising, same-bytes}
+use Rattle.layout.specs.Place.{parts-at, rising-parts}
+use Rattle.layout.specs.Order.{rising, same-bytes}
 use Rattle.layout.proofs.Checks.{one-less, parts-step}
-use Rattle.layout.proofs.Sounds.{rising-test}
+use Rattle.layout.proofs.Sounds.{rising-test, texts-rise}
 use Rattle.builders.specs.Order.{has, distinct}
 use Rattle.layout.specs.Parts.{texts}
 use Rattle.builders.specs.Names.{strings-at}
@@ -53,16 +51,6 @@ module _ (name s : Bytes) (from start n i p : ℕ)
   among-end h = let z : n - i ≡ 0 = omega arith in rw (inv, z)
 
 -- Distinct: names that rise are.
-texts-rise-from : (n : Bytes) (ps : List Part) → rising-from n ps ≡ rising (n ∷ texts ps)
-unfolding rising-from
-texts-rise-from n [] = refl
-texts-rise-from n (p ∷ ps) = ap (λ b. before n (p .bytes) && b) (texts-rise-from (p .bytes) ps)
-
-texts-rise : (ps : List Part) → rising-parts ps ≡ rising (texts ps)
-unfolding rising-parts
-texts-rise [] = refl
-texts-rise (p ∷ ps) = texts-rise-from (p .bytes) ps
-
 pub distinct-rising : (s : Bytes) (start n : ℕ) (g : Bool) → g ≡ rising-parts (parts-at s 0 start n) → g ≡ true
     → true ≡ distinct (texts (parts-at s 0 start n))
 distinct-rising s start n g e q =

@@ -50,7 +50,7 @@ scalar-header r = rw (le-ltb (length (be32 (2 ^ 29) ++ r)) 4 (head-long (2 ^ 29)
 
 -- Parts that fit their entries.
 
-fits-of : (t : Tree) → length (payload t) < 2 ^ 28 → Fits (part t)
+pub fits-of : (t : Tree) → length (payload t) < 2 ^ 28 → Fits (part t)
 fits-of null h = (tt, h)
 fits-of (boolean true) h = (tt, h)
 fits-of (boolean false) h = (tt, h)
@@ -241,7 +241,7 @@ scalar-complete t f e h =
     (to-bind _ (ap (entry false) (word-be32 (entry-word p) (p .bytes) w) ∙ entry-complete false p f tt)
     (rw (drop-be32 (entry-word p) (p .bytes)) (to-require _ _ _ _ (eqb-refl (length (p .bytes))) e))))))
 
-small-scalar : (t : Tree) → length (scalar t) ≤ 65536 → length (payload t) < 2 ^ 28
+pub small-scalar : (t : Tree) → length (scalar t) ≤ 65536 → length (payload t) < 2 ^ 28
 small-scalar t h =
     let p : Part = part t in
     omega (

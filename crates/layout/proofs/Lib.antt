@@ -21,7 +21,9 @@ pub mod Pieces
 pub mod Passes
 pub mod Nestings
 pub mod Orders
+pub mod Asks
 pub mod Sounds
+pub mod InLines
 pub mod Walks
 pub mod Walked
 pub mod WalkCases

@@ -7,7 +7,7 @@ use mathlib.Core.Bool.{Bool, true, false, not, cond, _&&_, _||_}
 use mathlib.Core.List.{List, [], _∷_, _++_}
 use lib.Dec.{T, leb, ltb, eqb, leb→le, le→leb, ltb→lt, lt→ltb}
 use lib.ListN.{length, take, drop, length-drop}
-use lib.Seq.{drop-drop}
+use lib.Seq.{drop-drop, take-at}
 use borrow.Author.Tests.{lt-ltb, le-ltb, ltb-false, eqb-true}
 use Rattle.layout.specs.Bytes.{Bytes, word-at}
 use Rattle.layout.specs.Answer.{Answer, refused, gives, _>>=_, require}
@@ -237,3 +237,10 @@ drop-parts s i p (suc k) l =
     let e′ : i + 1 + k ≡ i + suc k = omega arith in
     let e″ : p + length-of (entry-at s i) + lengths s (i + 1) k ≡ p + (length-of (entry-at s i) + lengths s (i + 1) k) = omega arith in
     rw (e, drop-parts s (i + 1) (p + length-of (entry-at s i)) k l, e′, e″)
+
+-- The parts of an object's record: all of them, and the names.
+pub names-at : (w n : ℕ) (ps qs : List Part) → length ps ≡ n → n + n ≡ length (ps ++ qs) → AllFit (ps ++ qs) → Named n (kinds (ps ++ qs)) →
+    (parts-at (record-of w (ps ++ qs)) 0 (4 + 4 * (n + n)) (n + n) ≡ ps ++ qs) × (parts-at (record-of w (ps ++ qs)) 0 (4 + 4 * (n + n)) n ≡ ps)
+names-at w n ps qs l h f k =
+    let whole : parts-at (record-of w (ps ++ qs)) 0 (4 + 4 * (n + n)) (n + n) ≡ ps ++ qs = rw h (parts-at-record w n (ps ++ qs) f k) in
+    (whole, sym (take-parts (record-of w (ps ++ qs)) 0 (4 + 4 * (n + n)) n n) ∙ ap (take n) whole ∙ take-at ps qs n l)

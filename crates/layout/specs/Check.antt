@@ -5,7 +5,7 @@ use lib.Dec.{leb}
 use Rattle.layout.specs.Answer.{Answer, gives, refused}
 use Rattle.layout.specs.Tree.{Tree}
 use Rattle.layout.specs.Limits.{depth}
-use Rattle.layout.specs.Order.{is-sound}
+use Rattle.layout.specs.Every.{is-sound}
 use Rattle.layout.specs.declared.check.Check.{Check}
 use Rattle.layout.specs.declared.check.Check.the-variants.{Readable, Refused}
 use Rattle.layout.specs.declared.check.Nesting.{Nesting}

@@ -22,6 +22,7 @@ pub mod Walk
 pub mod Order
 pub mod Place
 pub mod Parts
+pub mod Every
 pub mod Pass
 pub mod Patch
 pub mod Room

@@ -18,7 +18,8 @@ ghost use Prim.Native.Nat.{_+_, _*_, _^_, _<_};
 ghost use Rattle.layout.specs.Read.{read};
 ghost use Rattle.layout.specs.Entry.{«kind-of» as kindOf};
 ghost use Rattle.layout.specs.Place.{«parts-at» as partsAt, «rising-parts» as risingParts};
-ghost use Rattle.layout.specs.Place.{«sound-part» as soundPart, «sound-parts» as soundParts, «sound-at» as soundAt};
+ghost use Rattle.layout.specs.Every.{«every-part» as everyPart, «every-parts» as everyParts};
+ghost use Rattle.layout.specs.Every.{«sound-ask» as soundAsk, «sound-at» as soundAt};
 ghost use Rattle.layout.specs.Check.{soundness};
 
 pub enum Soundness {
@@ -54,7 +55,7 @@ pub fn is_rising(s: &[u8], n: usize, start: usize) -> bool
 
 // Whether every object in an item's payload has rising names, down to `allowance` levels.
 fn is_sound_item(code: u32, payload: &[u8], allowance: u32) -> bool
-    ensures { λ r. ⌜ r ≡ soundPart (soundAt allowance) (kindOf code) (now (payload .entry)) ⌝ }
+    ensures { λ r. ⌜ r ≡ everyPart soundAsk (soundAt allowance) (kindOf code) (now (payload .entry)) ⌝ }
 {
     if code == CONTAINER_CODE {
         return is_sound_nested(payload, allowance);
@@ -65,7 +66,7 @@ fn is_sound_item(code: u32, payload: &[u8], allowance: u32) -> bool
 // The same for n items, the payload of the first at `start`.
 fn are_sound(s: &[u8], n: usize, start: usize, allowance: u32) -> bool
     requires { ⌜ (n < 2 ^ 30) × (start < 2 ^ 33) ⌝ }
-    ensures { λ r. ⌜ r ≡ soundParts (soundAt allowance) (partsAt (now (s .entry)) 0 start n) ⌝ }
+    ensures { λ r. ⌜ r ≡ everyParts soundAsk (soundAt allowance) (partsAt (now (s .entry)) 0 start n) ⌝ }
 {
     let mut place = start;
     let mut i = 0;

@@ -24,8 +24,8 @@ use Rattle.layout.proofs.Words.{word-be32}
 use Rattle.layout.proofs.Level.{eq-test}
 use Rattle.layout.proofs.Encoding.{array-header, object-header, scalar-header, array-fits, object-fits, ObjectFits, names-count, items-fit}
 use Rattle.layout.proofs.Readables.{record-of-length}
-use Rattle.layout.proofs.Places.{parts-at-record, drop-parts}
-use Rattle.layout.proofs.Sounds.{both, names-at}
+use Rattle.layout.proofs.Places.{parts-at-record, drop-parts, names-at}
+use Rattle.layout.proofs.Sounds.{both}
 use Rattle.layout.specs.Order.{same-bytes}
 use Rattle.layout.proofs.Orders.{bytes-test}
 use Rattle.values.specs.Alike.{payload-at, same-kind, same-payload, same-part, same-parts, Member, member-at, next, members-from, first, members, same-at}

@@ -13,8 +13,8 @@ use Rattle.layout.specs.Encode.{encode}
 use Rattle.layout.specs.Read.{read}
 use Rattle.layout.specs.Sound.{Sound}
 use Rattle.layout.specs.Value.{Same}
-use Rattle.layout.specs.Order.{is-sound, same-bytes}
-use Rattle.layout.specs.Place.{sound-at}
+use Rattle.layout.specs.Order.{same-bytes}
+use Rattle.layout.specs.Every.{sound-ask, sound-at}
 use Rattle.layout.specs.Check.{checked}
 use Rattle.layout.specs.declared.check.Check.{Check}
 use Rattle.layout.specs.declared.check.Check.the-variants.{Readable, Refused}
@@ -24,7 +24,8 @@ use Rattle.layout.proofs.Decoding.{read-sound}
 use Rattle.layout.proofs.Nestings.{readable-gives, refused-as}
 use Rattle.layout.proofs.Values.{same-refl, sound-bytes}
 use Rattle.layout.proofs.Places.{and-both}
-use Rattle.layout.proofs.Sounds.{sound-test, record-sound}
+use Rattle.layout.proofs.Asks.{every-read}
+use Rattle.layout.proofs.Sounds.{sound-test}
 use Rattle.layout.proofs.Orders.{bytes-test}
 use Rattle.values.specs.Alike.{same-at}
 use Rattle.values.specs.Value.{EqualValues}
@@ -44,10 +45,7 @@ same-value a b t u o p e f =
 
 sound-value : (s : Bytes) (t : Tree) → Octets s → read s ≡ gives t → sound-at 64 s ≡ true → Sound t
 sound-value s t o e q =
-    let d = read-sound s t o e in
-    let l : length (encode t) ≤ 65536 = rw (d .0 .bytes) (d .1) in
-    let w : sound-at 64 s ≡ is-sound t = rw (d .0 .bytes) at (record-sound t (d .0 .deep) l) in
-    sound-test t .0 (subst T (sym q ∙ w) tt)
+    sound-test t .0 (subst T (sym q ∙ every-read sound-ask s t o e) tt)
 
 -- The answers of `is_same_value`.
 module _ (a b : Bytes) (k : Check) (hk : k ≡ checked (read a)) where

@@ -6,10 +6,12 @@ use mathlib.Core.Path.{_≡_}
 use native.Mathlib.Nat.{sub-zero}
 use native.Mathlib.Omega.{arith}
 use borrow.Author.Needs.{needs}
-use Rattle.layout.specs.Place.{parts-at, sound-parts, sound-at}
+use Rattle.layout.specs.Place.{parts-at}
+use Rattle.layout.specs.Every.{every-parts, sound-ask, sound-at}
 use Rattle.layout.proofs.Fields.{length-lt}
 use Rattle.layout.proofs.Checks.{told-array, told-object}
-use Rattle.layout.proofs.Sounds.{item-container, item-other, sound-stop, sound-more, sound-end, sound-none, sound-refused, sound-scalar, sound-array, sound-object, sound-not}
+use Rattle.layout.proofs.Asks.{every-container, every-stop, every-more, every-end, every-none, every-refused, every-array}
+use Rattle.layout.proofs.Sounds.{sound-other, sound-scalar, sound-object, sound-misnamed}
 use Prim.Native.Nat.{ℕ, _<_}
 use borrow.Fn.Kinds.{In}
 use borrow.Fn.PlainCycle.{Measures, is, falls, and}
@@ -66,14 +68,25 @@ is-sound-nested-below t =
 abbrev are-sound-Inv-loop : are-sound-lts.InvT-loop
 are-sound-Inv-loop s n start allowance place₀ i₀ place i =
     (place ≤ start + 268435456 * i)
-    × (sound-parts (sound-at allowance) (parts-at s 0 start n) ≡ sound-parts (sound-at allowance) (parts-at s i place (n - i)))
+    × (every-parts sound-ask (sound-at allowance) (parts-at s 0 start n) ≡ every-parts sound-ask (sound-at allowance) (parts-at s i place (n - i)))
 
 abbrev are-sound-μ-loop : are-sound-lts.MeasureT-loop
 are-sound-μ-loop s n start allowance place₀ i₀ place i = n - i
 
 -- what the functions that `are-sound` calls ask and give
 abbrev are-sound-claims : ℕ → are-sound-lts.Claims
-are-sound-claims t = (read-jentry-reads.Asked, read-jentry-reads.Learnt, payload-len-reads.Asked, payload-len-reads.Learnt, type-code-reads.Asked, type-code-reads.Learnt, slice-reads.Asked, slice-reads.Learnt, is-sound-item-below t, is-sound-item.Post)
+are-sound-claims t = (
+  read-jentry-reads.Asked,
+  read-jentry-reads.Learnt,
+  payload-len-reads.Asked,
+  payload-len-reads.Learnt,
+  type-code-reads.Asked,
+  type-code-reads.Learnt,
+  slice-reads.Asked,
+  slice-reads.Learnt,
+  is-sound-item-below t,
+  is-sound-item.Post,
+)
 
 -- what the functions that `is-sound-item` calls ask and give
 abbrev is-sound-item-claims : ℕ → is-sound-item-lts.Claims
@@ -81,73 +94,167 @@ is-sound-item-claims t = (is-sound-nested-below t, is-sound-nested.Post)
 
 -- what the functions that `is-sound-nested` calls ask and give
 abbrev is-sound-nested-claims : ℕ → is-sound-nested-lts.Claims
-is-sound-nested-claims t = (read-header-reads.Asked, read-header-reads.Learnt, are-sound-below t, are-sound.Post, is-rising-reads.Asked, is-rising-reads.Learnt)
+is-sound-nested-claims t = (
+  read-header-reads.Asked,
+  read-header-reads.Learnt,
+  are-sound-below t,
+  are-sound.Post,
+  is-rising-reads.Asked,
+  is-rising-reads.Learnt,
+)
+
+-- The loop over the items.
 
 are-sound-loop-holds : (t : ℕ) → are-sound-lts.Need-loop-holds (are-sound-claims t) (are-sound-at t) are-sound.Post are-sound-Inv-loop are-sound-μ-loop
 are-sound-loop-holds t c = (omega arith, rw sub-zero)
 
 are-sound-add-place : (t : ℕ) → are-sound-lts.Need-add-place (are-sound-claims t) (are-sound-at t) are-sound.Post are-sound-Inv-loop are-sound-μ-loop
-are-sound-add-place t c = rw (c .before .before .before .before .payload-len .ensures) (omega (arith, length-lt (c .before .before .before .before .before .read-jentry .result)))
+are-sound-add-place t c =
+    let sized = c .before .before .before .before in
+    rw (sized .payload-len .ensures) (omega (arith, length-lt (sized .before .read-jentry .result)))
 
 are-sound-loop-again : (t : ℕ) → are-sound-lts.Need-loop-again (are-sound-claims t) (are-sound-at t) are-sound.Post are-sound-Inv-loop are-sound-μ-loop
-are-sound-loop-again t c = (rw (c .before .before .before .before .payload-len .ensures) (omega (arith, length-lt (c .before .before .before .before .before .read-jentry .result))), sound-more _ _ _ (c .before .before .before .before .before .before .before .loop .i) (c .before .before .before .before .before .before .before .loop .place) _ _ _ _ _ (c .before .before .before .before .before .before .loop-test .taken) (c .before .before .before .before .before .before .before .loop .inv .1) (c .before .before .before .before .before .read-jentry .ensures) (c .before .before .before .before .payload-len .ensures) (c .before .before .before .type-code .ensures) _ (c .before .before .slice .ensures) (c .before .is-sound-item .ensures) (c .if1 .taken))
+are-sound-loop-again t c =
+    let asked = c .before in
+    let sized = asked .before .before .before in
+    let entry = sized .before in
+    let turn = entry .before in
+    let head = turn .before in (
+      rw (sized .payload-len .ensures) (omega (arith, length-lt (entry .read-jentry .result))),
+      every-more _ _ _ _ (head .loop .i) (head .loop .place) _ (head .loop .inv .1) _ _ _ _
+          (turn .loop-test .taken)
+          (entry .read-jentry .ensures)
+          (sized .payload-len .ensures)
+          (asked .before .before .type-code .ensures)
+          _
+          (asked .before .slice .ensures)
+          (asked .is-sound-item .ensures)
+          (c .if1 .taken),
+    )
 
 are-sound-returns : (t : ℕ) → are-sound-lts.Need-returns (are-sound-claims t) (are-sound-at t) are-sound.Post are-sound-Inv-loop are-sound-μ-loop
-are-sound-returns t c = sound-stop _ _ _ (c .before .before .before .before .before .before .before .loop .i) (c .before .before .before .before .before .before .before .loop .place) _ _ _ _ _ (c .before .before .before .before .before .before .loop-test .taken) (c .before .before .before .before .before .before .before .loop .inv .1) (c .before .before .before .before .before .read-jentry .ensures) (c .before .before .before .before .payload-len .ensures) (c .before .before .before .type-code .ensures) _ (c .before .before .slice .ensures) (c .before .is-sound-item .ensures) (c .if1 .left)
+are-sound-returns t c =
+    let asked = c .before in
+    let sized = asked .before .before .before in
+    let entry = sized .before in
+    let turn = entry .before in
+    let head = turn .before in
+    every-stop _ _ _ _ (head .loop .i) (head .loop .place) _ (head .loop .inv .1) _ _ _ _
+    (turn .loop-test .taken)
+    (entry .read-jentry .ensures)
+    (sized .payload-len .ensures)
+    (asked .before .before .type-code .ensures)
+    _
+    (asked .before .slice .ensures)
+    (asked .is-sound-item .ensures)
+    (c .if1 .left)
 
 are-sound-returns-2 : (t : ℕ) → are-sound-lts.Need-returns-2 (are-sound-claims t) (are-sound-at t) are-sound.Post are-sound-Inv-loop are-sound-μ-loop
-are-sound-returns-2 t c = sound-end _ _ _ (c .before .loop .i) (c .before .loop .place) _ (c .loop-test .left) (c .before .loop .inv .1)
+are-sound-returns-2 t c =
+    let head = c .before in
+    every-end _ _ _ _ (head .loop .i) (head .loop .place) _ (head .loop .inv .1) (c .loop-test .left)
+
+-- One item.
 
 is-sound-item-returns : (t : ℕ) → is-sound-item-lts.Need-returns (is-sound-item-claims t) (is-sound-item-at t) is-sound-item.Post
-is-sound-item-returns t c = item-container _ _ _ _ (c .before .if1 .taken) (c .is-sound-nested .ensures)
+is-sound-item-returns t c = every-container _ _ _ _ _ (c .before .if1 .taken) (c .is-sound-nested .ensures)
 
 is-sound-item-returns-2 : (t : ℕ) → is-sound-item-lts.Need-returns-2 (is-sound-item-claims t) (is-sound-item-at t) is-sound-item.Post
-is-sound-item-returns-2 t c = item-other _ _ _ (c .if1 .left)
+is-sound-item-returns-2 t c = sound-other _ _ _ (c .if1 .left)
+
+-- A record by its header.
 
 is-sound-nested-returns : (t : ℕ) → is-sound-nested-lts.Need-returns (is-sound-nested-claims t) (is-sound-nested-at t) is-sound-nested.Post
-is-sound-nested-returns t c = sound-none _ _ (c .if1 .taken)
+is-sound-nested-returns t c = every-none _ _ _ (c .if1 .taken)
 
 is-sound-nested-mul-are-sound : (t : ℕ) → is-sound-nested-lts.Need-mul-are-sound (is-sound-nested-claims t) (is-sound-nested-at t) is-sound-nested.Post
-is-sound-nested-mul-are-sound t c = let h = told-array _ _ (c .before .before .before .read-header .ensures) _ (c .before .n .given .1) in omega arith
+is-sound-nested-mul-are-sound t c =
+    let arm = c .before in
+    let h = told-array _ _ (arm .before .before .read-header .ensures) _ (arm .n .given .1) in
+    omega arith
 
 is-sound-nested-add-are-sound : (t : ℕ) → is-sound-nested-lts.Need-add-are-sound (is-sound-nested-claims t) (is-sound-nested-at t) is-sound-nested.Post
-is-sound-nested-add-are-sound t c = let h = told-array _ _ (c .before .before .before .read-header .ensures) _ (c .before .n .given .1) in omega arith
+is-sound-nested-add-are-sound t c =
+    let arm = c .before in
+    let h = told-array _ _ (arm .before .before .read-header .ensures) _ (arm .n .given .1) in
+    omega arith
 
 is-sound-nested-are-sound-requires : (t : ℕ) → is-sound-nested-lts.Need-are-sound-requires (is-sound-nested-claims t) (is-sound-nested-at t) is-sound-nested.Post
-is-sound-nested-are-sound-requires t c κs = let h = told-array _ _ (c .before .before .before .read-header .ensures) _ (c .before .n .given .1) in omega arith
+is-sound-nested-are-sound-requires t c κs =
+    let arm = c .before in
+    let h = told-array _ _ (arm .before .before .read-header .ensures) _ (arm .n .given .1) in
+    omega arith
 
 is-sound-nested-add-start : (t : ℕ) → is-sound-nested-lts.Need-add-start (is-sound-nested-claims t) (is-sound-nested-at t) is-sound-nested.Post
-is-sound-nested-add-start t c = let h = told-object _ _ (c .before .before .before .read-header .ensures) _ (c .before .n2 .given .1) in omega arith
+is-sound-nested-add-start t c =
+    let arm = c .before in
+    let h = told-object _ _ (arm .before .before .read-header .ensures) _ (arm .n2 .given .1) in
+    omega arith
 
 is-sound-nested-mul-start : (t : ℕ) → is-sound-nested-lts.Need-mul-start (is-sound-nested-claims t) (is-sound-nested-at t) is-sound-nested.Post
-is-sound-nested-mul-start t c = let h = told-object _ _ (c .before .before .before .read-header .ensures) _ (c .before .n2 .given .1) in omega arith
+is-sound-nested-mul-start t c =
+    let arm = c .before in
+    let h = told-object _ _ (arm .before .before .read-header .ensures) _ (arm .n2 .given .1) in
+    omega arith
 
 is-sound-nested-add-start-2 : (t : ℕ) → is-sound-nested-lts.Need-add-start-2 (is-sound-nested-claims t) (is-sound-nested-at t) is-sound-nested.Post
-is-sound-nested-add-start-2 t c = let h = told-object _ _ (c .before .before .before .read-header .ensures) _ (c .before .n2 .given .1) in omega arith
+is-sound-nested-add-start-2 t c =
+    let arm = c .before in
+    let h = told-object _ _ (arm .before .before .read-header .ensures) _ (arm .n2 .given .1) in
+    omega arith
 
 is-sound-nested-is-rising-requires : (t : ℕ) → is-sound-nested-lts.Need-is-rising-requires (is-sound-nested-claims t) (is-sound-nested-at t) is-sound-nested.Post
-is-sound-nested-is-rising-requires t c κs = let h = told-object _ _ (c .before .before .before .read-header .ensures) _ (c .before .n2 .given .1) in omega arith
+is-sound-nested-is-rising-requires t c κs =
+    let arm = c .before in
+    let h = told-object _ _ (arm .before .before .read-header .ensures) _ (arm .n2 .given .1) in
+    omega arith
 
 is-sound-nested-add-are-sound-2 : (t : ℕ) → is-sound-nested-lts.Need-add-are-sound-2 (is-sound-nested-claims t) (is-sound-nested-at t) is-sound-nested.Post
-is-sound-nested-add-are-sound-2 t c = let h = told-object _ _ (c .before .before .before .before .before .read-header .ensures) _ (c .before .before .before .n2 .given .1) in omega arith
+is-sound-nested-add-are-sound-2 t c =
+    let arm = c .before .before .before in
+    let h = told-object _ _ (arm .before .before .read-header .ensures) _ (arm .n2 .given .1) in
+    omega arith
 
 is-sound-nested-are-sound-requires-2 : (t : ℕ) → is-sound-nested-lts.Need-are-sound-requires-2 (is-sound-nested-claims t) (is-sound-nested-at t) is-sound-nested.Post
-is-sound-nested-are-sound-requires-2 t c κs = let h = told-object _ _ (c .before .before .before .before .before .read-header .ensures) _ (c .before .before .before .n2 .given .1) in omega arith
+is-sound-nested-are-sound-requires-2 t c κs =
+    let arm = c .before .before .before in
+    let h = told-object _ _ (arm .before .before .read-header .ensures) _ (arm .n2 .given .1) in
+    omega arith
 
 is-sound-nested-returns-2 : (t : ℕ) → is-sound-nested-lts.Need-returns-2 (is-sound-nested-claims t) (is-sound-nested-at t) is-sound-nested.Post
-is-sound-nested-returns-2 t c = sound-object _ _ _ (c .before .before .before .before .before .before .before .if1 .left) (c .before .before .before .before .before .before .read-header .ensures) _ _ (c .before .before .before .before .n2 .given .1) (c .before .before .is-rising .ensures) _ (c .before .if2 .taken) (c .are-sound2 .ensures)
+is-sound-nested-returns-2 t c =
+    let arm = c .before .before .before .before in
+    let told = arm .before .before in
+    let rises = c .before .before in
+    sound-object _ _ _ (told .before .if1 .left) (told .read-header .ensures) _ _ (arm .n2 .given .1)
+    (rises .is-rising .ensures)
+    _
+    (c .before .if2 .taken)
+    (c .are-sound2 .ensures)
 
 is-sound-nested-returns-3 : (t : ℕ) → is-sound-nested-lts.Need-returns-3 (is-sound-nested-claims t) (is-sound-nested-at t) is-sound-nested.Post
-is-sound-nested-returns-3 t c = sound-refused _ _ _ (c .before .before .before .if1 .left) (c .before .before .read-header .ensures) _ (c .enum-told .given .1)
+is-sound-nested-returns-3 t c =
+    let told = c .before .before in
+    every-refused _ _ _ _ (told .before .if1 .left) (told .read-header .ensures) _ (c .enum-told .given .1)
 
 is-sound-nested-returns-4 : (t : ℕ) → is-sound-nested-lts.Need-returns-4 (is-sound-nested-claims t) (is-sound-nested-at t) is-sound-nested.Post
-is-sound-nested-returns-4 t c = sound-scalar _ _ _ (c .before .before .before .if1 .left) (c .before .before .read-header .ensures) _ (c .enum-told2 .given .1)
+is-sound-nested-returns-4 t c =
+    let told = c .before .before in
+    sound-scalar _ _ _ (told .before .if1 .left) (told .read-header .ensures) _ (c .enum-told2 .given .1)
 
 is-sound-nested-returns-5 : (t : ℕ) → is-sound-nested-lts.Need-returns-5 (is-sound-nested-claims t) (is-sound-nested-at t) is-sound-nested.Post
-is-sound-nested-returns-5 t c = sound-array _ _ _ (c .before .before .before .before .before .if1 .left) (c .before .before .before .before .read-header .ensures) _ _ (c .before .before .n .given .1) (c .are-sound .ensures)
+is-sound-nested-returns-5 t c =
+    let arm = c .before .before in
+    let told = arm .before .before in
+    every-array _ _ _ _ (told .before .if1 .left) (told .read-header .ensures) _ _ (arm .n .given .1) (c .are-sound .ensures)
 
 is-sound-nested-returns-6 : (t : ℕ) → is-sound-nested-lts.Need-returns-6 (is-sound-nested-claims t) (is-sound-nested-at t) is-sound-nested.Post
-is-sound-nested-returns-6 t c = sound-not _ _ _ (c .before .before .before .before .before .before .if1 .left) (c .before .before .before .before .before .read-header .ensures) _ _ (c .before .before .before .n2 .given .1) (c .before .is-rising .ensures) (c .if2 .left)
+is-sound-nested-returns-6 t c =
+    let arm = c .before .before .before in
+    let told = arm .before .before in
+    sound-misnamed _ _ _ (told .before .if1 .left) (told .read-header .ensures) _ _ (arm .n2 .given .1)
+    (c .before .is-rising .ensures)
+    (c .if2 .left)
 
 pub +are-sound+is-sound-item+is-sound-nested-spec : {M : Type 1} → statement M
 +are-sound+is-sound-item+is-sound-nested-spec =
@@ -170,7 +277,7 @@ pub +are-sound+is-sound-item+is-sound-nested-spec : {M : Type 1} → statement M
     (are-sound-returns t)
     (are-sound-returns-2 t))
     (λ t. is-sound-item-lts.spec
-    (is-sound-nested-below t, is-sound-nested.Post)
+    (is-sound-item-claims t)
     (is-sound-item-at t)
     is-sound-item.Post
     (λ c κs. search needs)
