@@ -13,7 +13,7 @@ use Rattle.layout.specs.Answer.{gives, refused, _>>=_, require}
 use Rattle.layout.specs.Entry.{code-of, entry-at, kind-of}
 use Rattle.layout.specs.Tree.{Tree, null, boolean, number, string, extension, array, object, Items, none, item, Members, names, pair}
 use Rattle.layout.specs.Encode.{Part, entries, payloads, name-parts, item-parts, member-parts, part, encode}
-use Rattle.layout.specs.Read.{header, is-string, read}
+use Rattle.layout.specs.Read.{header, read}
 use Rattle.layout.specs.Limits.{depth, depth-items, depth-members}
 use Rattle.layout.specs.Order.{rising}
 use Rattle.layout.specs.Sound.{Rising}
@@ -33,6 +33,7 @@ use Rattle.layout.proofs.Words.{drop-be32}
 use Rattle.layout.proofs.Fields.{code-lt}
 use Rattle.layout.proofs.Decoding.{names-pair, parts-pair, payloads-append}
 use Rattle.layout.proofs.Encoding.{array-fits, names-count}
+use Rattle.layout.proofs.Entries.{is-string}
 use Rattle.layout.proofs.Level.{AllFit}
 use Rattle.layout.proofs.Readables.{record-of-length, length-encode}
 use Rattle.layout.proofs.Places.{parts-at-record}

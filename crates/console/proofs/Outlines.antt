@@ -13,11 +13,11 @@ use mir.Syntax.{w64}
 use mir.Val.{Fits, SFits, toZ, ofZ}
 use mir.ValLaws.{toZ-ofZ}
 use Rattle.layout.specs.Bytes.{Bytes, inside, word-at}
-use Rattle.layout.specs.Entry.{length-of}
+use Rattle.layout.specs.Entry.{length-of, entry-good}
 use Rattle.layout.specs.Number.{pattern}
 use Rattle.layout.specs.Read.{read}
 use Rattle.layout.specs.Check.{checked}
-use Rattle.layout.specs.Walk.{entry-good, item-of, array-step, member-step, object-step}
+use Rattle.layout.specs.Walk.{item-of, array-step, member-step, object-step}
 use Rattle.layout.proofs.Fields.{inside-le}
 use Rattle.layout.proofs.Checks.{read-long}
 use Rattle.layout.proofs.Patterns.{pattern-high}

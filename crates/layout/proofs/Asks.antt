@@ -1,9 +1,9 @@
--- The laws of `every`, for any question: asked by places of a record's bytes it has the answer that it has of the tree; and each way
--- through code that asks it, a part, a loop over parts, a container, comes to that.
+-- The laws of `every`, for any question: asked by places of a record's bytes it has the answer that it has of the tree;
+-- and each way through code that asks it, a part, a loop over parts, a container, comes to that.
 use Prim.Native.Nat.{ℕ, zero, suc, _+_, _-_, _^_, _<_, _≤_}
 use native.Mathlib.Omega.{arith}
 use mathlib.Core.Path.{_≡_, refl, ap, ap₂, _∙_}
-use mathlib.Core.Bool.{Bool, true, false, _&&_}
+use mathlib.Core.Bool.{Bool, true, false, _&&_, and-true}
 use mathlib.Core.List.{List, [], _∷_, _++_}
 use lib.Dec.{T}
 use lib.ListN.{length, take, drop, length-append}
@@ -79,10 +79,6 @@ mutual
       let l = length-append (payload t) (payloads (member-parts ms)) in
       ap₂ _&&_ (every-payload a t k (omega arith) (omega arith)) (every-member-parts a ms k (omega arith) (omega arith))
 
-and-true : (b : Bool) → (b && true) ≡ b
-and-true true = refl
-and-true false = refl
-
 -- A scalar's record is its one part.
 scalar-part : (a : Ask) (k : ℕ) (t : Tree) → length (scalar t) ≤ 65536 →
     every-at a (suc k) (scalar t) ≡ every-part a (λ b. true) (kind t) (payload t)
@@ -152,7 +148,7 @@ mutual
 
 -- ---- in the terms of the code
 
--- One part of code `c`. A container has the answer of its own bytes, which is the promise of the call on the nested payload.
+-- One part of code `c`. A container has the answer of its own bytes: the promise of the call on the nested payload.
 module _ (a : Ask) (f : Bytes → Bool) (c : ℕ) (b : Bytes) where
   pub every-container : (g : Bool) → c ≡ 5 → g ≡ f b → g ≡ every-part a f (kind-of c) b
   unfolding every-part kind-of

@@ -3,7 +3,7 @@ use Prim.Native.Nat.{ℕ, zero, suc, _+_, _*_, _-_, _/_, _%_, _^_, _<_, _≤_}
 use native.Mathlib.Omega.{arith}
 use native.Mathlib.Nat.{add-zero}
 use mathlib.Core.Path.{_≡_, refl, sym, ap, _∙_}
-use mathlib.Core.Bool.{Bool, true, false, not, cond, _&&_, _||_}
+use mathlib.Core.Bool.{Bool, true, false, not, cond, _&&_, _||_, and-true}
 use mathlib.Core.List.{List, [], _∷_}
 use lib.Dec.{T, leb, ltb, eqb, nltb→le}
 use lib.ListN.{length, take, drop, length-drop}
@@ -11,13 +11,13 @@ use lib.Seq.{take-all, drop-drop}
 use borrow.Author.Tests.{lt-ltb, le-ltb, le-leb, lt-leb, eq-eqb, ne-eqb}
 use Rattle.layout.specs.Bytes.{Bytes, word, word-at}
 use Rattle.layout.specs.Answer.{Answer, gives, refused, _>>=_, require}
-use Rattle.layout.specs.Entry.{top-of, code-of, length-of, sort-of, count-of, entry-at, kind-of, lengths}
+use Rattle.layout.specs.Entry.{top-of, code-of, length-of, entry-good, sort-of, count-of, entry-at, kind-of, lengths}
 use Rattle.layout.specs.Text.{utf8}
 use Rattle.layout.specs.Number.{listed}
 use Rattle.layout.specs.Tree.{Tree, array, object, Items, pair}
 use Rattle.layout.specs.Encode.{Part}
-use Rattle.layout.specs.Read.{header, text, number-in, payload-in, items-in, names-in, parts, array-in, object-in, scalar-in, container-in, nested, root-in, read}
-use Rattle.layout.specs.Place.{entry-ok, table-ok, part-at, parts-at, body}
+use Rattle.layout.specs.Read.{header, entry-ok, text, number-in, payload-in, items-in, names-in, parts, array-in, object-in, scalar-in, container-in, nested, root-in, read}
+use Rattle.layout.specs.Place.{table-ok, part-at, parts-at, body}
 use Rattle.layout.specs.Check.{checked}
 use Rattle.layout.specs.Pass.{and-then, item-checked, items-checked}
 use Rattle.layout.specs.declared.refusal.Refusal.{Refusal}
@@ -106,13 +106,13 @@ no-payload f b n (suc (suc (suc (suc (suc (suc (suc (suc c)))))))) l p q r s t =
 
 module _ (f : Bytes → Answer Tree) (e : ℕ) (b : Bytes) where
   pub item-top : (e / 2 ^ 31 ≡ 0 → ⊥) → Refused Layout ≡ item-checked f e b
-  unfolding item-checked entry-ok top-of
+  unfolding item-checked entry-ok entry-good top-of
   item-top h = rw (ne-eqb (e / 2 ^ 31) 0 h)
 
   module _ (z : e / 2 ^ 31 ≡ 0) (c : ℕ) (hc : c ≡ code-of e) where
     by-code : item-checked f e b ≡ cond (code-test c (length-of e)) (checked (payload-in f (kind-of c) b)) (Refused Layout)
-    unfolding item-checked entry-ok top-of
-    by-code = rw (z, ← hc)
+    unfolding item-checked entry-ok entry-good top-of
+    by-code = rw (z, ← hc, and-true (not (eqb c 7)))
 
     module _ (g : Bool) where
       pub item-text : c ≡ 1 → g ≡ utf8 b → g ≡ true → Readable ≡ item-checked f e b

@@ -12,7 +12,7 @@ use Rattle.layout.specs.Entry.{sort-of, count-of}
 use Rattle.layout.specs.Text.{utf8}
 use Rattle.layout.specs.Tree.{Tree, null, boolean, number, string, extension, array, object, Items, none, item, names, pair, kind}
 use Rattle.layout.specs.Encode.{Part, entries, payloads, name-parts, item-parts, member-parts, part, record-of, encode}
-use Rattle.layout.specs.Read.{header, length-ok, text, number-in, payload-in, items-in, names-in, array-in, object-in, scalar-in, container-in, too-deep, nested, root-in, read}
+use Rattle.layout.specs.Read.{header, text, number-in, payload-in, items-in, names-in, array-in, object-in, scalar-in, container-in, too-deep, nested, root-in, read}
 use Rattle.layout.specs.Limits.{Valid, ValidItems, ValidMembers, depth, depth-items, depth-members}
 use Rattle.layout.specs.declared.item.Kind.{Kind}
 use Rattle.layout.specs.declared.item.Kind.the-variants.{Null, String, Number, False, True, Container, Extension}
@@ -21,6 +21,7 @@ use Rattle.layout.specs.declared.util.Header.{Header}
 use Rattle.layout.specs.declared.util.Header.the-variants.{Array, Object, Scalar, Refused}
 use Rattle.layout.proofs.Words.{be32-word, octets-drop, octets-left, octets-right}
 use Rattle.layout.proofs.Answers.{from-bind, from-require, gives-inj, refused-gives}
+use Rattle.layout.proofs.Entries.{length-ok}
 use Rattle.layout.proofs.Level.{AllFit, kinds, Named, string-kind, parts-sound, entry-sound}
 
 -- Headers.

@@ -1,4 +1,5 @@
--- Definitions that are now said by others, in the lines that they had, each with the law that it says the same.
+-- Definitions that are now said by others, in the lines that they had, each with the law that it says the same. That of
+-- rule 5 is `entry-in-lines` of Entries.antt.
 use Prim.Native.Nat.{ℕ, zero, suc, _+_, _*_}
 use mathlib.Core.Path.{_≡_, refl, sym, ap, ap₂}
 use mathlib.Core.Bool.{Bool, true, _&&_}

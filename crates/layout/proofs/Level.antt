@@ -1,7 +1,7 @@
 -- One level of a record: a table of entries and their payloads is read exactly as it is written.
 use Prim.Native.Nat.{ℕ, zero, suc, _+_, _*_, _/_, _%_, _^_, _<_, _≤_}
 use native.Mathlib.Omega.{arith}
-use mathlib.Core.Path.{_≡_, refl, ap, _∙_}
+use mathlib.Core.Path.{_≡_, refl, sym, ap, _∙_}
 use mathlib.Core.Bool.{Bool, true, false, not, _||_}
 use mathlib.Core.List.{List, [], _∷_, _++_, append-assoc}
 use lib.Dec.{T, eqb, leb→le, eqb→eq, le→leb, eqb-refl}
@@ -12,10 +12,11 @@ use Rattle.layout.specs.Bytes.{Bytes, be32, word, Octets}
 use Rattle.layout.specs.Answer.{gives}
 use Rattle.layout.specs.Entry.{top-of, code-of, length-of, entry-of, code, kind-of}
 use Rattle.layout.specs.Encode.{Part, entry-word, entries, payloads}
-use Rattle.layout.specs.Read.{Entry, known-kind, is-string, length-ok, entry, table, total, cut, parts}
+use Rattle.layout.specs.Read.{Entry, entry, table, total, cut, parts}
 use Rattle.layout.specs.declared.item.Kind.{Kind}
 use Rattle.layout.specs.declared.item.Kind.the-variants.{Null, String, Number, False, True, Container, Extension}
 use Rattle.layout.proofs.Words.{word-be32, be32-word, drop-be32, length-be32, octets-drop}
+use Rattle.layout.proofs.Entries.{known-kind, is-string, length-ok, entry-lines}
 use Rattle.layout.proofs.Answers.{from-bind, from-require, gives-inj, refused-gives, to-bind, to-require}
 
 pub eq-test : (m n : ℕ) → m ≡ n → T (eqb m n)
@@ -69,9 +70,9 @@ abbrev Ok : Entry → Type 0
 Ok e = T (length-ok (e .kind) (e .len)) × (e .len < 2 ^ 28)
 
 pub entry-sound : (name : Bool) (w : ℕ) (e : Entry) → entry name w ≡ gives e → (w ≡ word-of e) × Ok e × T (not name || is-string (e .kind))
-unfolding entry top-of code-of length-of
+unfolding top-of code-of length-of
 entry-sound name w e h =
-    from-require _ _ _ h λ ht h₁.
+    from-require _ _ _ (sym (entry-lines name w) ∙ h) λ ht h₁.
     from-bind h₁ λ k hk h₂.
     from-require _ _ _ h₂ λ hn h₃.
     from-require _ _ _ h₃ λ ok h₄.
@@ -227,13 +228,14 @@ all-described [] = []
 all-described (p ∷ ps) = described p ∷ all-described ps
 
 pub entry-complete : (name : Bool) (p : Part) → Fits p → T (not name || is-string (p .kind)) → entry name (entry-word p) ≡ gives (described p)
-unfolding entry top-of code-of length-of
+unfolding top-of code-of length-of
 entry-complete name p f s =
     let c : code (p .kind) < 7 = code-small (p .kind) in
     let z : entry-word p / 2 ^ 31 ≡ 0 = omega (arith, f .1) in
     let q : entry-word p / 2 ^ 28 % 2 ^ 3 ≡ code (p .kind) = omega (arith, f .1) in
     let r : entry-word p % 2 ^ 28 ≡ length (p .bytes) = omega (arith, f .1) in
-    to-require _ _ _ _ (eq-test (entry-word p / 2 ^ 31) 0 z)
+    entry-lines name (entry-word p)
+    ∙ to-require _ _ _ _ (eq-test (entry-word p / 2 ^ 31) 0 z)
     (to-bind _ (ap known-kind q ∙ code-kind (p .kind))
     (rw r (to-require _ _ _ _ s (to-require _ _ _ _ (f .0) refl))))
 

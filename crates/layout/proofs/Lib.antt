@@ -6,6 +6,7 @@ pub mod Patterns
 pub mod Numbers
 pub mod Words
 pub mod Answers
+pub mod Entries
 pub mod Level
 pub mod Decoding
 pub mod Encoding

@@ -10,11 +10,11 @@ use lib.Seq.{drop-drop}
 use borrow.Author.Tests.{eqb-true, ltb-false, lt-ltb, le-ltb, eq-eqb, ne-eqb}
 use Rattle.layout.specs.Bytes.{Bytes}
 use Rattle.layout.specs.Answer.{Answer, _>>=_, require}
-use Rattle.layout.specs.Entry.{top-of, code-of, length-of, entry-at, kind-of, lengths}
+use Rattle.layout.specs.Entry.{top-of, code-of, length-of, entry-at, kind-of, lengths, entry-good}
 use Rattle.layout.specs.Text.{ascii}
 use Rattle.layout.specs.Tree.{Tree}
-use Rattle.layout.specs.Read.{text, items-in}
-use Rattle.layout.specs.Place.{entry-ok, table-ok, part-at, parts-at, body}
+use Rattle.layout.specs.Read.{entry-ok, text, items-in}
+use Rattle.layout.specs.Place.{table-ok, part-at, parts-at, body}
 use Rattle.layout.specs.Check.{checked}
 use Rattle.layout.specs.Pass.{and-then, item-checked, items-checked, names-end, payload-refusal}
 use Rattle.layout.specs.declared.refusal.Refusal.{Refusal}
@@ -98,7 +98,7 @@ unfolding top-of code-of
 name-whole w h k = omega arith
 
 name-entry : (w : ℕ) → w / 2 ^ 28 ≡ 1 → entry-ok true w ≡ true
-unfolding entry-ok
+unfolding entry-ok entry-good
 name-entry w h = rw (name-top w h .0, name-top w h .1)
 
 -- An entry's code has a meaning, and its length is right.
@@ -109,19 +109,19 @@ abbrev sized : ℕ → Bool
 sized w = not (eqb (code-of w) 0 || (eqb (code-of w) 3 || eqb (code-of w) 4)) || eqb (length-of w) 0
 
 entry-name : (w : ℕ) → entry-ok true w ≡ true → w / 2 ^ 28 ≡ 1
-unfolding entry-ok
+unfolding entry-ok entry-good
 entry-name w q =
-    let a = and-both (eqb (top-of w) 0) (known w && (eqb (code-of w) 1 && sized w)) q in
-    let b = and-both (known w) (eqb (code-of w) 1 && sized w) (a .1) in
-    let c = and-both (eqb (code-of w) 1) (sized w) (b .1) in
-    name-whole w (eqb-true (top-of w) 0 (a .0)) (eqb-true (code-of w) 1 (c .0))
+    let good = and-both (eqb (top-of w) 0 && (known w && eqb (code-of w) 1)) (sized w) q in
+    let a = and-both (eqb (top-of w) 0) (known w && eqb (code-of w) 1) (good .0) in
+    let b = and-both (known w) (eqb (code-of w) 1) (a .1) in
+    name-whole w (eqb-true (top-of w) 0 (a .0)) (eqb-true (code-of w) 1 (b .1))
 
 -- An entry that is good, of a name too, is good as an item's.
 entry-item : (name : Bool) (w : ℕ) → entry-ok name w ≡ true → entry-ok false w ≡ true
-unfolding entry-ok
+unfolding entry-ok entry-good
 entry-item name w q = go (eqb (top-of w) 0) (known w) (not name || eqb (code-of w) 1) (sized w) q
   where
-    go : (t u v x : Bool) → (t && (u && (v && x))) ≡ true → (t && (u && x)) ≡ true
+    go : (t u v x : Bool) → (t && (u && v) && x) ≡ true → (t && (u && true) && x) ≡ true
     go true true true x q = q
     go true true false x q = cc
     go true false v x q = cc

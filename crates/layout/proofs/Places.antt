@@ -3,64 +3,32 @@ use Prim.Native.Nat.{ℕ, zero, suc, _+_, _*_, _-_, _<_, _≤_}
 use native.Mathlib.Omega.{arith}
 use native.Mathlib.Nat.{sub-zero}
 use mathlib.Core.Path.{_≡_, refl, ap, sym, _∙_}
-use mathlib.Core.Bool.{Bool, true, false, not, cond, _&&_, _||_}
+use mathlib.Core.Bool.{Bool, true, false, cond, _&&_}
 use mathlib.Core.List.{List, [], _∷_, _++_}
 use lib.Dec.{T, leb, ltb, eqb, leb→le, le→leb, ltb→lt, lt→ltb}
 use lib.ListN.{length, take, drop, length-drop}
 use lib.Seq.{drop-drop, take-at}
 use borrow.Author.Tests.{lt-ltb, le-ltb, ltb-false, eqb-true}
 use Rattle.layout.specs.Bytes.{Bytes, word-at}
-use Rattle.layout.specs.Answer.{Answer, refused, gives, _>>=_, require}
-use Rattle.layout.specs.Entry.{top-of, code-of, length-of, entry-at, kind-of, lengths}
+use Rattle.layout.specs.Answer.{refused, gives, _>>=_, require}
+use Rattle.layout.specs.Entry.{code-of, length-of, entry-at, kind-of, lengths}
 use Rattle.layout.specs.Encode.{Part, entries, payloads, record-of}
-use Rattle.layout.specs.Read.{Entry, known-kind, is-string, length-ok, entry, table, total, cut, parts}
-use Rattle.layout.specs.Place.{entry-ok, table-ok, parts-at}
+use Rattle.layout.specs.Read.{Entry, entry-ok, entry, table, total, cut, parts}
+use Rattle.layout.specs.Place.{table-ok, parts-at}
 use Rattle.layout.specs.declared.refusal.Refusal.the-variants.{Short, Layout}
 use Rattle.layout.proofs.Answers.{gives-inj, refused-gives}
 use Rattle.layout.proofs.Words.{drop-be32}
-use Rattle.layout.proofs.Fields.{code-lt}
 use Rattle.layout.proofs.Level.{AllFit, kinds, Named, parts-complete}
 use Rattle.layout.proofs.Readables.{record-of-length}
 
 -- One entry.
 
-all-three : (t x y : Bool) (e : Entry) →
-    (require t Layout >>= λ _. require x Layout >>= λ _. require y Layout >>= λ _. gives e) ≡ cond (t && (x && y)) (gives e) (refused Layout)
-unfolding _>>=_ require
-all-three true true true e = refl
-all-three true true false e = refl
-all-three true false y e = refl
-all-three false x y e = refl
-
-abbrev entry-read : Bool → Bool → ℕ → ℕ → Answer Entry
-entry-read t name c n =
-    require t Layout >>= λ _. known-kind c >>= λ k. require (not name || is-string k) Layout >>= λ _. require (length-ok k n) Layout >>= λ _.
-    gives (record { kind = k; len = n })
-
-abbrev entry-test : Bool → Bool → ℕ → ℕ → Bool
-entry-test t name c n =
-    t && (not (eqb c 7) && ((not name || eqb c 1) && (not (eqb c 0 || (eqb c 3 || eqb c 4)) || eqb n 0)))
-
-by-code : (t name : Bool) (c n : ℕ) → c < 8 →
-    entry-read t name c n ≡ cond (entry-test t name c n) (gives (record { kind = kind-of c; len = n })) (refused Layout)
-unfolding _>>=_ require kind-of
-by-code t name zero n h = all-three t (not name || false) (eqb n 0) _
-by-code t name (suc zero) n h = all-three t (not name || true) true _
-by-code t name (suc (suc zero)) n h = all-three t (not name || false) true _
-by-code t name (suc (suc (suc zero))) n h = all-three t (not name || false) (eqb n 0) _
-by-code t name (suc (suc (suc (suc zero)))) n h = all-three t (not name || false) (eqb n 0) _
-by-code t name (suc (suc (suc (suc (suc zero))))) n h = all-three t (not name || false) true _
-by-code t name (suc (suc (suc (suc (suc (suc zero)))))) n h = all-three t (not name || false) true _
-by-code true name (suc (suc (suc (suc (suc (suc (suc zero))))))) n h = refl
-by-code false name (suc (suc (suc (suc (suc (suc (suc zero))))))) n h = refl
-by-code t name (suc (suc (suc (suc (suc (suc (suc (suc c)))))))) n h = let z : ⊥ = omega arith in absurd z
-
 abbrev pub entry-of-word : ℕ → Entry
 entry-of-word w = record { kind = kind-of (code-of w); len = length-of w }
 
 pub entry-is : (name : Bool) (w : ℕ) → entry name w ≡ cond (entry-ok name w) (gives (entry-of-word w)) (refused Layout)
-unfolding entry entry-ok
-entry-is name w = by-code (eqb (top-of w) 0) name (code-of w) (length-of w) (code-lt w)
+unfolding entry
+entry-is name w = refl
 
 -- The table.
 

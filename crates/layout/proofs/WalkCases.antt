@@ -3,8 +3,8 @@ use mathlib.Core.Path.{_≡_, refl}
 use mathlib.Core.List.{[], _∷_}
 use Prim.Native.Nat.{_-_, _^_}
 use Rattle.layout.specs.Bytes.{word, inside, word-at}
-use Rattle.layout.specs.Entry.{top-of, code-of, length-of, kind-of}
-use Rattle.layout.specs.Walk.{entry-good, item-of, array-step, member-step, object-step}
+use Rattle.layout.specs.Entry.{top-of, code-of, length-of, kind-of, entry-good}
+use Rattle.layout.specs.Walk.{item-of, array-step, member-step, object-step}
 use Rattle.layout.specs.declared.item.Kind.the-variants.{Null}
 use Rattle.layout.specs.declared.refusal.Refusal.the-variants.{Short, Layout}
 use Rattle.layout.specs.declared.iterator.ArrayStep.the-variants.{Item, End, Refused}

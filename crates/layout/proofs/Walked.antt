@@ -10,12 +10,12 @@ use lib.ListN.{length, take, drop}
 use borrow.Author.Tests.{le-leb, lt-ltb, ne-eqb}
 use Rattle.layout.specs.Bytes.{Bytes, inside, word-at}
 use Rattle.layout.specs.Answer.{gives, refused}
-use Rattle.layout.specs.Entry.{top-of, code-of, length-of, entry-at, lengths}
+use Rattle.layout.specs.Entry.{top-of, code-of, length-of, entry-at, lengths, entry-good}
 use Rattle.layout.specs.Tree.{Tree, array, object, Items, Members, pair}
 use Rattle.layout.specs.Encode.{Part}
-use Rattle.layout.specs.Read.{header, number-in, payload-in, items-in, names-in, scalar-in, nested, root-in, read}
-use Rattle.layout.specs.Place.{entry-ok, table-ok, parts-at}
-use Rattle.layout.specs.Walk.{entry-good, item-of, array-step, member-step, object-step, array-walk, object-walk, opening, array-opened, array-open, object-opened, object-open, walked, object-walked, paired}
+use Rattle.layout.specs.Read.{header, entry-ok, number-in, payload-in, items-in, names-in, scalar-in, nested, root-in, read}
+use Rattle.layout.specs.Place.{table-ok, parts-at}
+use Rattle.layout.specs.Walk.{item-of, array-step, member-step, object-step, array-walk, object-walk, opening, array-opened, array-open, object-opened, object-open, walked, object-walked, paired}
 use Rattle.layout.specs.declared.item.Kind.{Kind}
 use Rattle.layout.specs.declared.item.Kind.the-variants.{Null, String, Number, False, True, Container, Extension}
 use Rattle.layout.specs.declared.refusal.Refusal.{Refusal}
@@ -44,18 +44,11 @@ inside-yes : (s : Bytes) (at n : ℕ) → at + n ≤ length s → inside s at n 
 unfolding inside
 inside-yes s at n h = le-leb (at + n) (length s) h
 
-and-three : (a b c d : Bool) → (a && (b && (c && d))) ≡ true → (a && (b && c)) ≡ true
-and-three true true true d q = refl
-and-three true true false d q = q
-and-three true false c d q = q
-and-three false b c d q = q
-
 -- Rule 5 asks all that a step asks.
 ok-good : (name : Bool) (e : ℕ) → entry-ok name e ≡ true → entry-good name e ≡ true
-unfolding entry-ok entry-good
+unfolding entry-ok
 ok-good name e q =
-    and-three (eqb (top-of e) 0) (not (eqb (code-of e) 7)) (not name || eqb (code-of e) 1)
-    (not (eqb (code-of e) 0 || (eqb (code-of e) 3 || eqb (code-of e) 4)) || eqb (length-of e) 0) q
+    and-both (entry-good name e) (not (eqb (code-of e) 0 || (eqb (code-of e) 3 || eqb (code-of e) 4)) || eqb (length-of e) 0) q .0
 
 -- What is good as a name is good as an item.
 good-item : (name : Bool) (e : ℕ) → entry-good name e ≡ true → entry-good false e ≡ true

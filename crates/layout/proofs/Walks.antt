@@ -10,8 +10,8 @@ use Rattle.layout.specs.Bytes.{Bytes, inside, word-at}
 use Rattle.layout.specs.Answer.{Answer, gives, refused}
 use Rattle.layout.specs.Tree.{Tree}
 use Rattle.layout.specs.Check.{checked}
-use Rattle.layout.specs.Entry.{length-of, entry-at, lengths}
-use Rattle.layout.specs.Walk.{entry-good, item-of, array-step, member-step, object-step, array-walk, object-walk, opening, array-opened, object-opened}
+use Rattle.layout.specs.Entry.{length-of, entry-at, lengths, entry-good}
+use Rattle.layout.specs.Walk.{item-of, array-step, member-step, object-step, array-walk, object-walk, opening, array-opened, object-opened}
 use Rattle.layout.specs.Parts.{first-part, members-of}
 use Rattle.layout.proofs.Fields.{inside-le, length-lt}
 use Rattle.layout.specs.declared.refusal.Refusal.{Refusal}

@@ -1,6 +1,8 @@
 -- Entries and headers: document 01, "Parts, from the leaf up".
 use Prim.Native.Nat.{ℕ, zero, suc, _+_, _*_, _/_, _%_, _^_}
+use mathlib.Core.Bool.{Bool, not, _&&_, _||_}
 use mathlib.Core.List.{[], _∷_}
+use lib.Dec.{eqb}
 use lib.ListN.{getD}
 use Rattle.layout.specs.Bytes.{Bytes, word-at}
 use Rattle.layout.specs.declared.item.Kind.{Kind}
@@ -32,6 +34,11 @@ code Extension = 6
 -- The kind of a code: its place in this list. Code 7 "has no meaning", and counts as null where no test has refused it.
 unfoldable pub kind-of : ℕ → Kind
 kind-of c = getD (Null ∷ String ∷ Number ∷ False ∷ True ∷ Container ∷ Extension ∷ []) c Null
+
+-- What the check and the walks both ask of an entry: "code 7, bit 31 set, or a name whose code is not 1 gives 2". The
+-- check asks more, `entry-ok` of Read.antt.
+unfoldable pub entry-good : Bool → ℕ → Bool
+entry-good name w = eqb (top-of w) 0 && (not (eqb (code-of w) 7) && (not name || eqb (code-of w) 1))
 
 -- A header: "the top three bits: 80000000 array, 40000000 object, 20000000 scalar; the low 29 are a count".
 unfoldable pub sort-of : ℕ → ℕ

@@ -1,6 +1,6 @@
--- A question asked of everything in a record: of each number, of each extension and of the names of each object, at every level.
--- `every` asks it of the tree that a record reads as, `every-at` by places in the bytes, as the code goes; that both answer alike
--- is `every-record` of proofs/Asks.antt. Soundness is one such question.
+-- A question asked of everything in a record: of each number, of each extension and of the names of each object, at
+-- every level. `every` asks it of the tree that a record reads as, `every-at` by places in the bytes, as the code goes;
+-- that both answer alike is `every-record` of proofs/Asks.antt. Soundness is one such question.
 use Prim.Native.Nat.{ℕ, zero, suc, _+_}
 use mathlib.Core.Bool.{Bool, true, _&&_}
 use mathlib.Core.List.{List, [], _∷_}

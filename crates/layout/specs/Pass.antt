@@ -8,8 +8,8 @@ use Rattle.layout.specs.Bytes.{Bytes}
 use Rattle.layout.specs.Answer.{Answer}
 use Rattle.layout.specs.Entry.{code-of, length-of, kind-of, entry-at, lengths}
 use Rattle.layout.specs.Tree.{Tree}
-use Rattle.layout.specs.Read.{payload-in}
-use Rattle.layout.specs.Place.{entry-ok, table-ok}
+use Rattle.layout.specs.Read.{entry-ok, payload-in}
+use Rattle.layout.specs.Place.{table-ok}
 use Rattle.layout.specs.Check.{checked}
 use Rattle.layout.specs.declared.refusal.Refusal.{Refusal}
 use Rattle.layout.specs.declared.refusal.Refusal.the-variants.{Layout}

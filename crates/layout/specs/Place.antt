@@ -1,24 +1,16 @@
 -- The reading by places in the bytes, as the code goes. proofs/Places.antt ties it to `Read`.
 use Prim.Native.Nat.{ℕ, zero, suc, _+_}
-use mathlib.Core.Bool.{Bool, true, not, _&&_, _||_}
+use mathlib.Core.Bool.{Bool, true, _&&_}
 use mathlib.Core.List.{List, [], _∷_}
-use lib.Dec.{ltb, eqb}
+use lib.Dec.{ltb}
 use lib.ListN.{take, drop}
 use Rattle.layout.specs.Bytes.{Bytes}
 use Rattle.layout.specs.Answer.{Answer, _>>=_}
-use Rattle.layout.specs.Entry.{top-of, code-of, length-of, kind-of, entry-at}
+use Rattle.layout.specs.Entry.{code-of, length-of, kind-of, entry-at}
 use Rattle.layout.specs.Encode.{Part}
 use Rattle.layout.specs.Tree.{Tree, Items}
 use Rattle.layout.specs.Order.{before}
-use Rattle.layout.specs.Read.{parts, items-in}
-
--- Rule 5 for one entry.
-unfoldable pub entry-ok : Bool → ℕ → Bool
-entry-ok name w =
-    eqb (top-of w) 0
-    && (not (eqb (code-of w) 7)
-    && ((not name || eqb (code-of w) 1)
-    && (not (eqb (code-of w) 0 || (eqb (code-of w) 3 || eqb (code-of w) 4)) || eqb (length-of w) 0)))
+use Rattle.layout.specs.Read.{entry-ok, parts, items-in}
 
 -- Rule 5 for the `k` entries from the `i`th on; those before the `names`th are names.
 unfoldable pub table-ok : Bytes → ℕ → ℕ → ℕ → Bool

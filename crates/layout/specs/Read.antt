@@ -1,13 +1,13 @@
 -- The reading of a record: document 01, "Readable and sound", rules 1 to 6 in their order. The first fault decides. A record
 -- that reads as a tree is what document 01 calls readable.
 use Prim.Native.Nat.{ℕ, zero, suc, _+_, _*_}
-use mathlib.Core.Bool.{Bool, true, false, not, cond, _||_}
+use mathlib.Core.Bool.{Bool, true, false, not, cond, _&&_, _||_}
 use mathlib.Core.List.{List, [], _∷_}
 use lib.Dec.{leb, ltb, eqb}
 use lib.ListN.{length, take, drop}
 use Rattle.layout.specs.Bytes.{Bytes, word}
 use Rattle.layout.specs.Answer.{Answer, gives, refused, _>>=_, require}
-use Rattle.layout.specs.Entry.{top-of, code-of, length-of, kind-of, sort-of, count-of}
+use Rattle.layout.specs.Entry.{top-of, code-of, length-of, kind-of, entry-good, sort-of, count-of}
 use Rattle.layout.specs.Text.{utf8}
 use Rattle.layout.specs.Number.{listed}
 use Rattle.layout.specs.Tree.{Tree, null, boolean, number, string, extension, array, object, Items, none, item, pair}
@@ -28,41 +28,20 @@ header b =
     (cond (eqb (sort-of (word b)) 1) (Scalar (count-of (word b)))
     (Refused Layout))))
 
--- Rule 5: "bit 31 set, code 7, a name whose code is not 1, or null, true or false with a length: 2".
+-- Rule 5: "bit 31 set, code 7, a name whose code is not 1, or null, true or false with a length: 2". `entry-good` is the
+-- first three. In the rule's order, one test a line, it is `entry-in-lines` of proofs/Entries.antt.
+unfoldable pub entry-ok : Bool → ℕ → Bool
+entry-ok name w =
+    entry-good name w && (not (eqb (code-of w) 0 || (eqb (code-of w) 3 || eqb (code-of w) 4)) || eqb (length-of w) 0)
+
 pub record Entry : Type 0 where
   pub kind : Kind
   pub len : ℕ
 
--- The kind of a code that has a meaning.
-abbrev pub known-kind : ℕ → Answer Kind
-known-kind c = cond (ltb c 7) (gives (kind-of c)) (refused Layout)
-
-abbrev pub is-string : Kind → Bool
-is-string Null = false
-is-string String = true
-is-string Number = false
-is-string False = false
-is-string True = false
-is-string Container = false
-is-string Extension = false
-
-abbrev pub length-ok : Kind → ℕ → Bool
-length-ok Null n = eqb n 0
-length-ok String n = true
-length-ok Number n = true
-length-ok False n = eqb n 0
-length-ok True n = eqb n 0
-length-ok Container n = true
-length-ok Extension n = true
-
 unfoldable pub entry : Bool → ℕ → Answer Entry
-unfolding top-of code-of length-of kind-of
-entry name w = do
-  _ ← require (eqb (top-of w) 0) Layout
-  k ← known-kind (code-of w)
-  _ ← require (not name || is-string k) Layout
-  _ ← require (length-ok k (length-of w)) Layout
-  gives (record { kind = k; len = length-of w })
+unfolding entry-ok entry-good top-of code-of length-of kind-of
+entry name w =
+    cond (entry-ok name w) (gives (record { kind = kind-of (code-of w); len = length-of w })) (refused Layout)
 
 -- `n` entries, of which the first `names` are names.
 abbrev pub table : ℕ → ℕ → Bytes → Answer (List Entry)

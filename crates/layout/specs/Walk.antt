@@ -1,13 +1,13 @@
 -- The walks: document 01, "Walks, `iterator.rs`". "The walk holds the places of the next entries and payloads; a step reads
 -- there in whichever slice it is lent."
 use Prim.Native.Nat.{ℕ, zero, suc, _+_, _*_, _-_}
-use mathlib.Core.Bool.{Bool, true, false, not, cond, _&&_, _||_}
+use mathlib.Core.Bool.{true, false, not, cond}
 use mathlib.Core.List.{List, [], _∷_}
 use mathlib.Core.Option.{Option, none as nothing, some}
 use lib.Dec.{eqb}
 use lib.ListN.{take, drop}
 use Rattle.layout.specs.Bytes.{Bytes, inside, word-at}
-use Rattle.layout.specs.Entry.{top-of, code-of, length-of, kind-of, lengths}
+use Rattle.layout.specs.Entry.{code-of, length-of, kind-of, entry-good, lengths}
 use Rattle.layout.specs.Answer.{Answer, gives, refused}
 use Rattle.layout.specs.Tree.{Tree}
 use Rattle.layout.specs.Encode.{Part}
@@ -28,17 +28,13 @@ use Rattle.layout.specs.declared.iterator.ObjectOpen.the-variants.{Opene
 use Rattle.layout.specs.declared.iterator.ObjectStep.{ObjectStep}
 use Rattle.layout.specs.declared.iterator.ObjectStep.the-variants.{Member, End as NoMember, Refused as RefusedMember}
 
--- What a step asks of an entry: "code 7, bit 31 set, or a name whose code is not 1 gives 2". A length of null, true or false
--- is not asked about.
-unfoldable pub entry-good : Bool → ℕ → Bool
-entry-good name w = eqb (top-of w) 0 && (not (eqb (code-of w) 7) && (not name || eqb (code-of w) 1))
-
 -- "The item's kind, place and length."
 unfoldable pub item-of : ℕ → ℕ → JsonbItem
 item-of w place = record { kind = kind-of (code-of w); place = place; length = length-of w }
 
 -- "A step over an array gives the item's kind, place and length." "An entry outside the slice gives 1; a payload outside it,
--- code 7, bit 31 set [..] gives 2"; "Past the last item a step answers the end."
+-- code 7, bit 31 set [..] gives 2"; "Past the last item a step answers the end." A length of null, true or false is not
+-- asked about.
 unfoldable pub array-step : Bytes → ArrayIterator → ArrayStep
 array-step s w =
     let e = word-at s (w .«jentry_offset») in

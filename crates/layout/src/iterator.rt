@@ -3,11 +3,9 @@
 use crate::check::Check;
 use crate::check::check_record;
 use crate::constants::HEADER_SIZE;
-use crate::constants::JENTRY_IS_OFF_SHIFT;
 use crate::constants::JENTRY_SIZE;
-use crate::constants::STRING_CODE;
-use crate::constants::UNUSED_CODE;
 use crate::item::JsonbItem;
+use crate::jentry::is_item_jentry;
 use crate::jentry::kind_of;
 use crate::jentry::payload_len;
 use crate::jentry::type_code;
@@ -21,7 +19,7 @@ use crate::util::read_u32;
 ghost use mathlib.Core.Path.{_≡_};
 ghost use Prim.Native.Nat.{_+_, _^_, _≤_, _<_};
 ghost use lib.ListN.{length};
-ghost use Rattle.layout.specs.Walk.{«entry-good» as entryGood, «item-of» as itemOf};
+ghost use Rattle.layout.specs.Walk.{«item-of» as itemOf};
 ghost use Rattle.layout.specs.Walk.{«array-step» as arrayStep, «array-walk» as arrayWalk, «array-open» as arrayOpen};
 ghost use Rattle.layout.specs.Walk.{«object-step» as objectStep, «member-step» as memberStep};
 ghost use Rattle.layout.specs.Walk.{«object-walk» as objectWalk, «object-open» as objectOpen};
@@ -72,16 +70,6 @@ pub enum ObjectStep {
     Member(ObjectMember, ObjectIterator),
     End,
     Refused(Refusal),
-}
-
-// What a step asks of an entry by itself. The check's rule 5 asks more: a step hands out null, true and false with their
-// length.
-fn is_item_jentry(is_name: bool, entry: u32) -> bool
-    ensures { λ r. ⌜ r ≡ entryGood «is_name» entry ⌝ }
-{
-    let code = type_code(entry);
-    (entry >> JENTRY_IS_OFF_SHIFT == 0)
-        & ((code != UNUSED_CODE) & (!is_name | (code == STRING_CODE)))
 }
 
 // The item of an entry whose payload stands at a place.

@@ -19,8 +19,8 @@ use crate::util::read_whole;
 ghost use mathlib.Core.Path.{_≡_};
 ghost use Prim.Native.Nat.{_+_, _*_, _%_, _^_, _≤_};
 ghost use Rattle.layout.specs.Entry.{«code-of» as codeOf, «length-of» as lengthOf, «entry-of» as entryOf};
-ghost use Rattle.layout.specs.Entry.{«entry-at» as entryAt, «kind-of» as kindOf};
-ghost use Rattle.layout.specs.Place.{«entry-ok» as entryOk};
+ghost use Rattle.layout.specs.Entry.{«entry-at» as entryAt, «kind-of» as kindOf, «entry-good» as entryGood};
+ghost use Rattle.layout.specs.Read.{«entry-ok» as entryOk};
 
 // The type code of an entry.
 pub fn type_code(encoded: u32) -> u32
@@ -70,13 +70,21 @@ pub fn read_jentry(s: &[u8], i: usize) -> u32
     read_u32(s, at)
 }
 
+// What a walk's step and the check both ask of an entry by itself. Rule 5 asks more: a step hands out null, true and false with
+// their length.
+pub(crate) fn is_item_jentry(is_name: bool, entry: u32) -> bool
+    ensures { λ r. ⌜ r ≡ entryGood «is_name» entry ⌝ }
+{
+    let code = type_code(entry);
+    (entry >> JENTRY_IS_OFF_SHIFT == 0)
+        & ((code != UNUSED_CODE) & (!is_name | (code == STRING_CODE)))
+}
+
 // Rule 5 of document 01's check, for one entry.
 pub(crate) fn is_jentry(is_name: bool, entry: u32) -> bool
     ensures { λ r. ⌜ r ≡ entryOk «is_name» entry ⌝ }
 {
     let code = type_code(entry);
     let empty = (code == NULL_CODE) | ((code == FALSE_CODE) | (code == TRUE_CODE));
-    (entry >> JENTRY_IS_OFF_SHIFT == 0)
-        & ((code != UNUSED_CODE)
-            & ((!is_name | (code == STRING_CODE)) & (!empty | (payload_len(entry) == 0))))
+    is_item_jentry(is_name, entry) & (!empty | (payload_len(entry) == 0))
 }
