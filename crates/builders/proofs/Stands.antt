@@ -5,7 +5,7 @@ use mathlib.Core.Path.{_≡_, refl, ap, ap₂, sym, _∙_}
 use mathlib.Core.List.{List, [], _∷_, _++_, append-assoc}
 use lib.ListN.{length, take, drop}
 use lib.Seq.{take-append-seam, drop-append-seam, drop-drop}
-use Rattle.layout.specs.Bytes.{Bytes, be32, word, word-at}
+use Rattle.layout.specs.Bytes.{Bytes, be32, word-at}
 use Rattle.layout.specs.Entry.{code, length-of}
 use Rattle.layout.specs.Tree.{Tree, Items, none, item, Members, empty, member, names, pair}
 use Rattle.layout.specs.Encode.{Part, entry-word, entries, payloads, name-part, name-parts, payload, item-parts, member-parts, part}
@@ -13,7 +13,7 @@ use Rattle.layout.specs.Order.{order}
 use Rattle.layout.specs.declared.order.Ordering.{Ordering}
 use Rattle.layout.specs.declared.order.Ordering.the-variants.{Less, Equal, Greater}
 use Rattle.layout.proofs.Words.{word-be32, drop-be32}
-use Rattle.layout.proofs.Fields.{length-entry}
+use Rattle.layout.proofs.Fields.{length-entry, word-at-drop}
 use Rattle.layout.proofs.Level.{Fits, AllFit, code-small}
 use Rattle.builders.specs.Order.{by, insert, insert-all, in-order}
 use Rattle.layout.specs.Parts.{name-in, value-in, members-from}
@@ -97,10 +97,10 @@ module _ (name value : MemberAt → Bytes) (entry : MemberAt → ℕ) where
 -- A table row: an entry, with those of other parts behind it; and its payload, with those of other parts behind it.
 pub entry-row : (s : Bytes) (a : ℕ) (e : Part) (ps : List Part) (x : Bytes) → Fits e → drop a s ≡ entries (e ∷ ps) ++ x
     → (word-at s a ≡ entry-word e) × (length-of (word-at s a) ≡ length (e .bytes)) × (drop (a + 4) s ≡ entries ps ++ x)
-unfolding word-at
 entry-row s a e ps x f h =
+    let small : entry-word e < 2 ^ 32 = omega (arith, code-small (e .kind), f .1) in
     let head : drop a s ≡ be32 (entry-word e) ++ (entries ps ++ x) = h ∙ append-assoc (be32 (entry-word e)) (entries ps) x in
-    let w : word (drop a s) ≡ entry-word e = rw head (word-be32 (entry-word e) (entries ps ++ x) (omega (arith, code-small (e .kind), f .1))) in (
+    let w : word-at s a ≡ entry-word e = word-at-drop s a ∙ rw head (word-be32 (entry-word e) (entries ps ++ x) small) in (
       w,
       rw w (length-entry (code (e .kind)) (length (e .bytes)) (f .1)),
       sym (drop-drop 4 a s) ∙ ap (drop 4) head ∙ drop-be32 (entry-word e) (entries ps ++ x),

@@ -6,7 +6,7 @@ use mathlib.Core.List.{List, [], _∷_, _++_}
 use mathlib.Core.Option.{some}
 use lib.ListN.{length, take, drop}
 use lib.Seq.{take-at}
-use Rattle.layout.specs.Bytes.{Bytes, Octets, be32, word-at, word}
+use Rattle.layout.specs.Bytes.{Bytes, Octets, be32, word-at}
 use Rattle.layout.specs.Entry.{entry-of, length-of, entry-at}
 use Rattle.layout.specs.Tree.{Tree, kind}
 use Rattle.layout.specs.Encode.{Part, entry-word, payload, part, record-of}
@@ -14,7 +14,7 @@ use Rattle.layout.specs.Check.{checked}
 use Rattle.layout.specs.Patch.{patch}
 use Rattle.layout.specs.declared.item.Kind.the-variants.{Container}
 use Rattle.layout.proofs.Answers.{gives-inj}
-use Rattle.layout.proofs.Words.{word-be32}
+use Rattle.layout.proofs.Fields.{word-at-be32}
 use Rattle.edits.specs.Delete.{anew}
 use Rattle.layout.specs.Parts.{next-part}
 use Rattle.edits.specs.Cut.{Stores}
@@ -59,8 +59,7 @@ module _ (s path : Bytes) (n : ℕ) (a : PartAt) (w : Way) (allowance : ℕ) (o 
   rights = sym (here .nth .dropped) ∙ ap (drop (suc (a .index))) (led .parts) ∙ drop-one (led .left) (part (led .value)) (led .right) (a .index) (led .before)
 
   head-word : word-at s 0 ≡ led .word
-  unfolding word-at
-  head-word = ap word (sym (led .bytes)) ∙ word-be32 (led .word) _ (led .small)
+  head-word = ap (λ b. word-at b 0) (sym (led .bytes)) ∙ word-at-be32 (led .word) _ (led .small)
 
   new-is : part (down .after) ≡ new-part
   new-is = rw (down .made)

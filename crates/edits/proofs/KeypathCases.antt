@@ -4,8 +4,8 @@ use Prim.Native.Nat.{ℕ, _+_}
 use mathlib.Core.Path.{_≡_, refl}
 use mathlib.Core.List.{[], _∷_, _++_}
 use lib.ListN.{length, replicate}
-use Rattle.layout.specs.Bytes.{Bytes, be32}
-use Rattle.layout.specs.Number.{be-value, signed, number-of}
+use Rattle.layout.specs.Bytes.{Bytes, be32, be-value}
+use Rattle.layout.specs.Number.{signed, number-of}
 use Rattle.layout.specs.Ended.{result, absence, refusal}
 use Rattle.layout.specs.Order.{order}
 use Rattle.layout.specs.declared.refusal.Refusal.the-variants.{Short, Layout, Path, Kind, Buffer}

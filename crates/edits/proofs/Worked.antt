@@ -7,10 +7,10 @@ use mathlib.Core.Path.{_≡_, refl}
 use mathlib.Core.Bool.{true}
 use mathlib.Core.List.{[], _∷_}
 use mathlib.Core.Logic.{⊎-elim}
-use Rattle.layout.specs.Bytes.{Bytes, be32}
+use Rattle.layout.specs.Bytes.{Bytes, be32, be-value}
 use Rattle.layout.specs.Answer.{gives}
 use Rattle.layout.specs.Tree.{Tree, null, boolean, number, object, empty, member}
-use Rattle.layout.specs.Number.{be-value, signed, number-of}
+use Rattle.layout.specs.Number.{signed, number-of}
 use Rattle.layout.specs.Encode.{encode}
 use Rattle.layout.specs.Read.{read}
 use Rattle.layout.specs.Sound.{Sound}

@@ -9,7 +9,7 @@ use lib.Dec.{T, leb, ltb, eqb, nltb→le}
 use lib.ListN.{length, take, drop, length-drop}
 use lib.Seq.{take-all, drop-drop}
 use borrow.Author.Tests.{lt-ltb, le-ltb, le-leb, lt-leb, eq-eqb, ne-eqb}
-use Rattle.layout.specs.Bytes.{Bytes, word, word-at}
+use Rattle.layout.specs.Bytes.{Bytes, word}
 use Rattle.layout.specs.Answer.{Answer, gives, refused, _>>=_, require}
 use Rattle.layout.specs.Entry.{top-of, code-of, length-of, entry-good, sort-of, count-of, entry-at, kind-of, lengths}
 use Rattle.layout.specs.Text.{utf8}
@@ -27,7 +27,7 @@ use Rattle.layout.specs.declared.util.Header.the-variants.{Array, Object
 use Rattle.layout.specs.declared.check.Check.{Check}
 use Rattle.layout.specs.declared.check.Check.the-variants.{Readable, Refused}
 use Rattle.layout.proofs.Level.{kinds, Named, string-kind, parts-named}
-use Rattle.layout.proofs.Fields.{code-lt}
+use Rattle.layout.proofs.Fields.{code-lt, word-at-drop}
 use Rattle.layout.proofs.Decoding.{read-is}
 use Rattle.layout.proofs.Places.{entry-of-word, entry-is, parts-is}
 
@@ -321,12 +321,12 @@ scalar-is : (n : ℕ) (s : Bytes) → checked (scalar-in n (drop 4 s))
     (cond (entry-ok false (entry-at s 0))
     (cond (eqb (length-of (entry-at s 0)) (length s - 8)) (checked (payload-in no-container (kind-of (code-of (entry-at s 0))) (drop 8 s))) (Refused Layout))
     (Refused Layout)) (Refused Short)) (Refused Layout)
-unfolding entry-at word-at _>>=_ require
+unfolding entry-at _>>=_ require
 scalar-is n s =
     let d : drop 4 (drop 4 s) ≡ drop 8 s = drop-drop 4 4 s in
     let l : length (drop 4 s) ≡ length s - 4 = length-drop 4 s in
     let l₂ : length (drop 8 s) ≡ length s - 8 = length-drop 8 s in
-    rw (d, l, l₂, entry-is false (word (drop 4 s)))
+    rw (d, l, l₂, word-at-drop s 4, entry-is false (word (drop 4 s)))
     (go (eqb n 0) (leb 4 (length s - 4)) (entry-ok false (word (drop 4 s))) (eqb (length-of (word (drop 4 s))) (length s - 8)) refl)
   where
     w : ℕ

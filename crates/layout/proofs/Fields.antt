@@ -4,18 +4,19 @@ use native.Mathlib.Omega.{arith}
 use native.Mathlib.Nat.{add-zero}
 use mathlib.Core.Path.{_≡_, refl, sym, ap, _∙_}
 use mathlib.Core.Bool.{Bool, true, false}
-use mathlib.Core.List.{[]}
+use mathlib.Core.List.{[], _++_}
 use lib.Dec.{leb}
 use lib.ListN.{length, take, drop, getD, length-drop, drop-of-length-le}
 use lib.Seq.{take-all, take-nil, getD-drop}
 use lib.Bits.{bitAnd, bitOr, and-mask, or-shifted}
 use borrow.Author.Tests.{leb-true, leb-false, lt-leb, le-leb, lt-ltb, le-ltb, ne-eqb}
-use Rattle.layout.specs.Bytes.{Bytes, word, inside, word-at, part-word}
+use Rattle.layout.specs.Bytes.{Bytes, be32, word, inside, word-at, part-word}
 use Rattle.layout.specs.Entry.{top-of, code-of, length-of, entry-of, sort-of, count-of, kind-of}
 use Rattle.layout.specs.Read.{header}
 use Rattle.layout.specs.declared.item.Kind.the-variants.{Null}
 use Rattle.layout.specs.declared.refusal.Refusal.the-variants.{Short, Layout}
 use Rattle.layout.specs.declared.util.Header.the-variants.{Array, Object, Scalar, Refused}
+use Rattle.layout.proofs.Words.{word-is, word-be32}
 
 -- Bytes inside a slice.
 pub inside-none : (s : Bytes) (at n : ℕ) → length s < n → false ≡ inside s at n
@@ -54,13 +55,22 @@ part-all s = take-all (length s - 0) s (omega arith)
 -- A field by its bytes.
 pub word-at-bytes : (s : Bytes) (at : ℕ) →
     ((getD s at 0 * 256 + getD s (at + 1) 0) * 256 + getD s (at + 2) 0) * 256 + getD s (at + 3) 0 ≡ word-at s at
-unfolding word-at word
-word-at-bytes s at =
-    rw (word-at, word, getD-drop at s 0 0, getD-drop at s 1 0, getD-drop at s 2 0, getD-drop at s 3 0, add-zero at)
+unfolding word-at
+word-at-bytes s at = rw (add-zero at) (omega arith)
+
+-- The field at a place is the field that the bytes from there on start with.
+pub word-at-drop : (s : Bytes) (at : ℕ) → word-at s at ≡ word (drop at s)
+word-at-drop s at =
+    sym (word-at-bytes s at)
+    ∙ rw (word-is (drop at s), getD-drop at s 0 0, getD-drop at s 1 0, getD-drop at s 2 0, getD-drop at s 3 0, add-zero at)
+
+-- The header of a record.
+pub word-at-be32 : (w : ℕ) (r : Bytes) → w < 2 ^ 32 → word-at (be32 w ++ r) 0 ≡ w
+word-at-be32 w r h = word-at-drop (be32 w ++ r) 0 ∙ word-be32 w r h
 
 pub word-at-part : (s : Bytes) (at : ℕ) → part-word (take (length s - 0) (drop 0 s)) at 4 ≡ word-at s at
-unfolding part-word
-word-at-part s at = let e : at + 0 ≡ at = omega arith in rw (part-all s, e, ← word-at-bytes s at) (omega arith)
+unfolding word-at
+word-at-part s at = rw (part-all s)
 
 -- A code that is no other kind's counts as null.
 pub kind-null : (c : ℕ) → (c ≡ 1 → ⊥) → (c ≡ 2 → ⊥) → (c ≡ 3 → ⊥) → (c ≡ 4 → ⊥) → (c ≡ 5 → ⊥) → (c ≡ 6 → ⊥) → Null ≡ kind-of c
@@ -111,12 +121,10 @@ module _ (s : Bytes) where
 
   module _ (le : 4 ≤ length s) (w k n : ℕ) (hw : w ≡ word-at s 0) (hk : k ≡ sort-of w) (hn : n ≡ count-of w) where
     sort-is : k ≡ sort-of (word s)
-    unfolding word-at
-    sort-is = rw (← hw) hk
+    sort-is = hk ∙ ap sort-of (hw ∙ word-at-drop s 0)
 
     count-is : n ≡ count-of (word s)
-    unfolding word-at
-    count-is = rw (← hw) hn
+    count-is = hn ∙ ap count-of (hw ∙ word-at-drop s 0)
 
     pub header-array : k ≡ 4 → Array n ≡ header s
     unfolding header

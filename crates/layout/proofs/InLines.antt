@@ -1,5 +1,6 @@
 -- Definitions that are now said by others, in the lines that they had, each with the law that it says the same. That of
--- rule 5 is `entry-in-lines` of Entries.antt.
+-- rule 5 is `entry-in-lines` of Entries.antt; the lines that fields of four bytes had are in `be32-is` and `word-is` of
+-- Words.antt and `word-at-drop` of Fields.antt.
 use Prim.Native.Nat.{ℕ, zero, suc, _+_, _*_}
 use mathlib.Core.Path.{_≡_, refl, sym, ap, ap₂}
 use mathlib.Core.Bool.{Bool, true, _&&_}

@@ -1,10 +1,10 @@
 -- The laws of the layout, from the leaf up.
+pub mod Words
 pub mod Fields
 pub mod Patches
 pub mod Decimals
 pub mod Patterns
 pub mod Numbers
-pub mod Words
 pub mod Answers
 pub mod Entries
 pub mod Level

@@ -15,10 +15,10 @@ use lib.ListN.{length, take, drop, getD, set}
 use lib.Seq.{take-all}
 use mir.Syntax.{w64}
 use mir.Val.{SFits, toZ, ofZ}
-use Rattle.layout.specs.Bytes.{Bytes}
+use Rattle.layout.specs.Bytes.{Bytes, be-bytes, be-value}
 use Rattle.layout.specs.Patch.{patch}
 use Rattle.layout.specs.Ended.{Ended, into}
-use Rattle.layout.specs.Number.{is-width, listed, be-value, be-bytes, signed, pattern, decimal-of, number-of, decoded, uint-width, int-width, uint-payload, int-payload, float-payload, decimal-payload}
+use Rattle.layout.specs.Number.{is-width, listed, signed, pattern, decimal-of, number-of, decoded, uint-width, int-width, uint-payload, int-payload, float-payload, decimal-payload}
 use Rattle.layout.specs.declared.ending.Ending.the-variants.{Done, Refused as RefusedEnding}
 use Rattle.layout.specs.declared.number.Number.{Number}
 use Rattle.layout.specs.declared.number.Number.the-variants.{Nan, Infinity, NegInfinity, Int64, UInt64, Float64, Decimal64, WideDecimal, Refused}

@@ -20,6 +20,7 @@ use Rattle.layout.specs.declared.ending.Ending.{Ending}
 use Rattle.layout.specs.declared.ending.Ending.the-variants.{Done, Refused}
 use Rattle.layout.specs.declared.refusal.Refusal.{Refusal}
 use Rattle.layout.specs.declared.refusal.Refusal.the-variants.{Buffer}
+use Rattle.layout.proofs.Words.{be32-is}
 
 pub length-patch : (o : List ℕ) (at : ℕ) (bs : List ℕ) → length (patch o at bs) ≡ length o
 unfolding patch
@@ -41,8 +42,8 @@ patch-snoc o at a x = patch-append o at a (x ∷ [])
 -- Four stores are the patch by a field.
 pub patch-four : (o o₁ o₂ o₃ o₄ : Bytes) (at v : ℕ) → o₁ ≡ set o at (v / 2 ^ 24 % 256) → o₂ ≡ set o₁ (at + 1) (v / 2 ^ 16 % 256)
     → o₃ ≡ set o₂ (at + 2) (v / 2 ^ 8 % 256) → o₄ ≡ set o₃ (at + 3) (v % 256) → o₄ ≡ patch o at (be32 v)
-unfolding patch be32
-patch-four o o₁ o₂ o₃ o₄ at v e₁ e₂ e₃ e₄ = cc (add-one at, add-two at, add-three at)
+unfolding patch
+patch-four o o₁ o₂ o₃ o₄ at v e₁ e₂ e₃ e₄ = rw (be32-is v) (cc (add-one at, add-two at, add-three at))
 
 -- A buffer with no room stays as it is.
 pub patch-empty : (at : ℕ) (bs : List ℕ) → patch [] at bs ≡ []

@@ -11,16 +11,16 @@ use borrow.Author.Tests.{ltb-true, lt-ltb, le-ltb, ne-eqb}
 use lib.Arith.{mod-mul, digits-mod}
 use lib.Dec.{T, ltb, eqb→eq, lit<}
 use lib.IntN.{ℤ, pos, negsuc, natAbs, _-ℤ_}
-use lib.ListN.{length, take, getD, set, length-append, List·getD-eq-default}
+use lib.ListN.{length, take, drop, getD, set, length-append, length-drop, List·getD-eq-default}
 use lib.Pow.{pow-add}
-use lib.Seq.{take-suc, take-all}
+use lib.Seq.{take-suc, take-all, getD-drop}
 use lib.Signed.{mag, ltZ, nonNeg}
 use mir.Syntax.{w64}
 use mir.Val.{Fits, SFits, toZ, ofZ}
 use mir.ValLaws.{toZ-ofZ, toZ-pos}
-use Rattle.layout.specs.Bytes.{Bytes, part-word}
+use Rattle.layout.specs.Bytes.{Bytes, be-bytes, be-value, part-word}
 use Rattle.layout.specs.Patch.{patch}
-use Rattle.layout.specs.Number.{is-width, be-value, be-bytes, signed, pattern, uint-width, int-width}
+use Rattle.layout.specs.Number.{is-width, signed, pattern, uint-width, int-width}
 
 -- A byte is eight bits.
 pub pow-bytes : (k : ℕ) → 2 ^ (8 * k) ≡ 256 ^ k
@@ -100,6 +100,14 @@ part-word-more s at (suc n) v x w z hv hx hw =
     let b : v < 256 ^ n = rw e at (hv .1) in
     let k : w ≡ getD s (at + n) 0 = hw .0 ∙ rw e at hx in
     (rw (q, k), rw (← add-one n) (read-bound n v w b (hw .1)))
+
+-- Where they are there, it is the number that they write.
+pub part-value : (s : Bytes) (at n : ℕ) → at + n ≤ length s → part-word s at n ≡ be-value (take n (drop at s))
+unfolding part-word be-value
+part-value s at zero h = refl
+part-value s at (suc n) h =
+    let l : n < length (drop at s) = omega (arith, length-drop at s) in
+    rw (take-suc (drop at s) n 0 l, be-value-snoc, getD-drop at s n 0, part-value s at n (omega arith))
 
 pub read-ends : (s : Bytes) (i v : ℕ) → v ≡ be-value (take i s) → v < 256 ^ i → i ≤ length s → length s ≤ i
     → (v ≡ be-value s) × (v < 256 ^ length s)

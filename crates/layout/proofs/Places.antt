@@ -9,7 +9,7 @@ use lib.Dec.{T, leb, ltb, eqb, leb→le, le→leb, ltb→lt, lt→ltb}
 use lib.ListN.{length, take, drop, length-drop}
 use lib.Seq.{drop-drop, take-at}
 use borrow.Author.Tests.{lt-ltb, le-ltb, ltb-false, eqb-true}
-use Rattle.layout.specs.Bytes.{Bytes, word-at}
+use Rattle.layout.specs.Bytes.{Bytes}
 use Rattle.layout.specs.Answer.{refused, gives, _>>=_, require}
 use Rattle.layout.specs.Entry.{code-of, length-of, entry-at, kind-of, lengths}
 use Rattle.layout.specs.Encode.{Part, entries, payloads, record-of}
@@ -18,6 +18,7 @@ use Rattle.layout.specs.Place.{table-ok, parts-at}
 use Rattle.layout.specs.declared.refusal.Refusal.the-variants.{Short, Layout}
 use Rattle.layout.proofs.Answers.{gives-inj, refused-gives}
 use Rattle.layout.proofs.Words.{drop-be32}
+use Rattle.layout.proofs.Fields.{word-at-drop}
 use Rattle.layout.proofs.Level.{AllFit, kinds, Named, parts-complete}
 use Rattle.layout.proofs.Readables.{record-of-length}
 
@@ -50,13 +51,13 @@ next-entry i s = let a : 4 + 4 * i + 4 ≡ 4 + 4 * (i + 1) = omega arith in drop
 
 value-step : (k i : ℕ) (s : Bytes) → table (suc k) zero (drop (4 + 4 * i) s)
     ≡ (entry false (entry-at s i) >>= λ e. table k zero (drop (4 + 4 * (i + 1)) s) >>= λ es. gives (e ∷ es))
-unfolding entry-at word-at
-value-step k i s = rw (next-entry i s)
+unfolding entry-at
+value-step k i s = rw (next-entry i s, word-at-drop s (4 + 4 * i))
 
 name-step : (k m i : ℕ) (s : Bytes) → table (suc k) (suc m) (drop (4 + 4 * i) s)
     ≡ (entry true (entry-at s i) >>= λ e. table k m (drop (4 + 4 * (i + 1)) s) >>= λ es. gives (e ∷ es))
-unfolding entry-at word-at
-name-step k m i s = rw (next-entry i s)
+unfolding entry-at
+name-step k m i s = rw (next-entry i s, word-at-drop s (4 + 4 * i))
 
 table-is : (k m i names : ℕ) (s : Bytes) → m ≡ names - i →
     table k m (drop (4 + 4 * i) s) ≡ cond (table-ok s names i k) (gives (entries-at s i k)) (refused Layout)

@@ -6,32 +6,39 @@ use mathlib.Core.List.{[], _∷_, _++_}
 use lib.ListN.{length, take, drop, getD}
 use Rattle.layout.specs.Bytes.{Bytes, be32, word, Octets}
 
+-- The four bytes of a field, and the field of four bytes, written out.
+pub be32-is : (w : ℕ) → be32 w ≡ w / 2 ^ 24 % 256 ∷ w / 2 ^ 16 % 256 ∷ w / 2 ^ 8 % 256 ∷ w % 256 ∷ []
+unfolding be32
+be32-is w = let whole : w / 1 ≡ w = omega arith in rw whole
+
+pub word-is : (b : Bytes) → word b ≡ ((getD b 0 0 * 256 + getD b 1 0) * 256 + getD b 2 0) * 256 + getD b 3 0
+unfolding word
+word-is b = omega arith
+
 pub word-be32 : (w : ℕ) (r : Bytes) → w < 2 ^ 32 → word (be32 w ++ r) ≡ w
-unfolding word be32
 word-be32 w r h =
     let s₃ : w / 2 ^ 24 % 256 ≡ w / 2 ^ 24 = omega arith in
     let s₂ : w / 2 ^ 24 * 256 + w / 2 ^ 16 % 256 ≡ w / 2 ^ 16 = omega arith in
     let s₁ : w / 2 ^ 16 * 256 + w / 2 ^ 8 % 256 ≡ w / 2 ^ 8 = omega arith in
     let s₀ : w / 2 ^ 8 * 256 + w % 256 ≡ w = omega arith in
-    rw (be32, word, s₃, s₂, s₁, s₀)
+    rw (be32-is w, word-is, s₃, s₂, s₁, s₀)
 
 four : (a b c d : ℕ) → a < 256 → b < 256 → c < 256 → d < 256 →
     be32 (((a * 256 + b) * 256 + c) * 256 + d) ≡ a ∷ b ∷ c ∷ d ∷ []
-unfolding be32
 four a b c d ha hb hc hd =
     let e₀ : (((a * 256 + b) * 256 + c) * 256 + d) / 2 ^ 24 % 256 ≡ a = omega arith in
     let e₁ : (((a * 256 + b) * 256 + c) * 256 + d) / 2 ^ 16 % 256 ≡ b = omega arith in
     let e₂ : (((a * 256 + b) * 256 + c) * 256 + d) / 2 ^ 8 % 256 ≡ c = omega arith in
     let e₃ : (((a * 256 + b) * 256 + c) * 256 + d) % 256 ≡ d = omega arith in
-    cc
+    rw (be32-is (((a * 256 + b) * 256 + c) * 256 + d), e₀, e₁, e₂, e₃)
 
 pub be32-word : (b : Bytes) → Octets b → 4 ≤ length b → be32 (word b) ++ drop 4 b ≡ b
-unfolding word be32
 be32-word [] o h = let z : ⊥ = omega arith in absurd z
 be32-word (x ∷ []) o h = let z : ⊥ = omega arith in absurd z
 be32-word (x ∷ y ∷ []) o h = let z : ⊥ = omega arith in absurd z
 be32-word (x ∷ y ∷ z ∷ []) o h = let z : ⊥ = omega arith in absurd z
-be32-word (x ∷ y ∷ z ∷ w ∷ r) (hx, (hy, (hz, (hw, o)))) h = ap (λ l. l ++ r) (four x y z w hx hy hz hw)
+be32-word (x ∷ y ∷ z ∷ w ∷ r) (hx, (hy, (hz, (hw, o)))) h =
+    rw (word-is (x ∷ y ∷ z ∷ w ∷ r)) (ap (λ l. l ++ r) (four x y z w hx hy hz hw))
 
 pub drop-be32 : (w : ℕ) (r : Bytes) → drop 4 (be32 w ++ r) ≡ r
 unfolding be32

@@ -1,5 +1,5 @@
 -- Number payloads: document 01, "Number payloads".
-use Prim.Native.Nat.{ℕ, zero, suc, _+_, _-_, _*_, _/_, _%_, _^_}
+use Prim.Native.Nat.{ℕ, zero, suc, _-_, _/_, _^_}
 use mathlib.Core.Bool.{Bool, true, false, cond, _&&_, _||_}
 use mathlib.Core.List.{List, [], _∷_, _++_}
 use lib.Dec.{ltb, eqb}
@@ -7,7 +7,7 @@ use lib.IntN.{ℤ, pos, negsuc}
 use lib.Signed.{mag}
 use lib.Ieee.{Float, nan, inf, fin, binary64, toBits}
 use lib.ListN.{length, take, getD}
-use Rattle.layout.specs.Bytes.{Bytes}
+use Rattle.layout.specs.Bytes.{Bytes, be-bytes, be-value}
 use Rattle.layout.specs.declared.number.Number.{Number}
 use Rattle.layout.specs.declared.number.Number.the-variants.{Nan, Infinity, NegInfinity, Int64, UInt64, Float64, Decimal64, WideDecimal, Refused}
 use Rattle.layout.specs.declared.refusal.Refusal.the-variants.{Number as NotListed}
@@ -31,17 +31,7 @@ listed (x ∷ b) =
 abbrev pub is-width : ℕ → Bool
 is-width n = one-of (1 ∷ 2 ∷ 4 ∷ 8 ∷ []) n
 
--- ---- bytes and numbers: "All multi-byte fields have their high byte first"
-
--- The number that bytes write.
-unfoldable pub be-value : Bytes → ℕ
-be-value [] = 0
-be-value (x ∷ b) = x * 256 ^ length b + be-value b
-
--- The low `n` bytes of a number.
-unfoldable pub be-bytes : ℕ → ℕ → Bytes
-be-bytes zero v = []
-be-bytes (suc n) v = v / 256 ^ n % 256 ∷ be-bytes n v
+-- ---- bytes and signed numbers
 
 -- Two's complement in `n` bytes: the upper half of the patterns stands for the negative numbers, the last of them for −1.
 unfoldable pub signed : ℕ → ℕ → ℤ

@@ -4,8 +4,7 @@ use crate::util::is_inside;
 ghost use mathlib.Core.Path.{_≡_};
 ghost use Prim.Native.Nat.{_+_, _≤_, min};
 ghost use lib.ListN.{length, set};
-ghost use Rattle.layout.specs.Bytes.{be32};
-ghost use Rattle.layout.specs.Number.{«be-bytes» as beBytes};
+ghost use Rattle.layout.specs.Bytes.{be32, «be-bytes» as beBytes};
 ghost use Rattle.layout.specs.Patch.{patch};
 
 // Stores one byte.

@@ -20,7 +20,7 @@ use Rattle.layout.specs.Place.{parts-at}
 use Rattle.layout.specs.Value.{Same, SameItems, SameMembers}
 use Rattle.layout.specs.declared.item.Kind.{Kind}
 use Rattle.layout.specs.declared.item.Kind.the-variants.{Null, String, Number, False, True, Container, Extension}
-use Rattle.layout.proofs.Words.{word-be32}
+use Rattle.layout.proofs.Fields.{word-at-be32}
 use Rattle.layout.proofs.Level.{eq-test}
 use Rattle.layout.proofs.Encoding.{array-header, object-header, scalar-header, array-fits, object-fits, ObjectFits, names-count, items-fit}
 use Rattle.layout.proofs.Readables.{record-of-length}
@@ -143,12 +143,10 @@ counts w n m b {A} p q = go (ℕ-discrete n m)
     go (no e) = never (w + n) (w + m) b (λ k. e (omega arith)) (λ a. e (q a))
 
 array-word : (ts : Items) → length (item-parts ts) < 2 ^ 29 → word-at (payload (array ts)) 0 ≡ 2 ^ 31 + length (item-parts ts)
-unfolding word-at
-array-word ts h = word-be32 (2 ^ 31 + length (item-parts ts)) _ (omega arith)
+array-word ts h = word-at-be32 (2 ^ 31 + length (item-parts ts)) _ (omega arith)
 
 object-word : (ms : Members) → length (member-parts ms) < 2 ^ 29 → word-at (payload (object ms)) 0 ≡ 2 ^ 30 + length (member-parts ms)
-unfolding word-at
-object-word ms h = word-be32 (2 ^ 30 + length (member-parts ms)) _ (omega arith)
+object-word ms h = word-at-be32 (2 ^ 30 + length (member-parts ms)) _ (omega arith)
 
 -- Members from names and values.
 abbrev pairs : List Part → List Part → List Member
@@ -349,8 +347,7 @@ leaf-record (array ts) l = absurd (eqb-false 5 5 l refl)
 leaf-record (object ms) l = absurd (eqb-false 5 5 l refl)
 
 scalar-word : (t : Tree) → word-at (scalar t) 0 ≡ 2 ^ 29
-unfolding word-at
-scalar-word t = word-be32 (2 ^ 29) _ (omega arith)
+scalar-word t = word-at-be32 (2 ^ 29) _ (omega arith)
 
 scalar-part : (t : Tree) → length (scalar t) ≤ 65536 → parts-at (scalar t) 0 8 1 ≡ part t ∷ []
 scalar-part t h =

@@ -4,7 +4,7 @@ use mathlib.Core.Path.{_≡_}
 use native.Mathlib.Omega.{arith}
 use lib.ListN.{length, take}
 use borrow.Author.Needs.{needs}
-use Rattle.layout.specs.Number.{be-value}
+use Rattle.layout.specs.Bytes.{be-value}
 use Rattle.layout.proofs.Patterns.{read-begins, read-turn, read-bound, read-room, read-ends}
 use Rattle.layout.proofs.number.read_be.Statement.{statement}
 use Rattle.layout.proofs.number.read_be.Tie as tie

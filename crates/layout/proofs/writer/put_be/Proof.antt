@@ -5,7 +5,7 @@ use native.Mathlib.Omega.{arith}
 use lib.ListN.{length, length-set}
 use borrow.Author.Needs.{needs}
 use Rattle.layout.specs.Patch.{patch}
-use Rattle.layout.specs.Number.{be-bytes}
+use Rattle.layout.specs.Bytes.{be-bytes}
 use Rattle.layout.proofs.Patches.{patch-out}
 use Rattle.layout.proofs.Patterns.{store-begins, store-turn, store-ends}
 use Rattle.layout.proofs.writer.put_be.Statement.{statement}
