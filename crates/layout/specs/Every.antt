@@ -9,8 +9,7 @@ use Rattle.layout.specs.Tree.{Tree, null, boolean, number, string, exten
 use Rattle.layout.specs.Encode.{Part}
 use Rattle.layout.specs.Read.{header}
 use Rattle.layout.specs.Order.{rising}
-use Rattle.layout.specs.Place.{parts-at}
-use Rattle.layout.specs.Parts.{start-of, texts}
+use Rattle.layout.specs.Parts.{parts-of, names-of}
 use Rattle.layout.specs.declared.item.Kind.{Kind}
 use Rattle.layout.specs.declared.item.Kind.the-variants.{Null, String, Number, False, True, Container, Extension}
 use Rattle.layout.specs.declared.util.Header.{Header}
@@ -61,10 +60,9 @@ every-parts a f (p ∷ ps) = every-part a f (p .kind) (p .bytes) && every-parts 
 -- A record by its header. A scalar record is its one part, and holds no container: rule 3, "code 5 is also 2".
 abbrev pub every-by : Ask → (Bytes → Bool) → Header → Bytes → Bool
 every-by a f (Refused r) s = true
-every-by a f (Scalar n) s = every-parts a (λ b. true) (parts-at s 0 (start-of 1) 1)
-every-by a f (Array n) s = every-parts a f (parts-at s 0 (start-of n) n)
-every-by a f (Object n) s =
-    a .names (texts (parts-at s 0 (start-of (n + n)) n)) && every-parts a f (parts-at s 0 (start-of (n + n)) (n + n))
+every-by a f (Scalar n) s = every-parts a (λ b. true) (parts-of s 1)
+every-by a f (Array n) s = every-parts a f (parts-of s n)
+every-by a f (Object n) s = a .names (names-of s n) && every-parts a f (parts-of s (n + n))
 
 -- Down to `k` levels.
 unfoldable pub every-at : Ask → ℕ → Bytes → Bool
