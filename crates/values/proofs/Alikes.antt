@@ -1,7 +1,7 @@
 -- Equal values: the code's way through the bytes of two trees comes to the layout's `Same`.
-use Rattle.layout.specs.Parts.{start-of}
-use Prim.Native.Nat.{ℕ, zero, suc, _+_, _*_, _^_, _<_, _≤_}
+use Prim.Native.Nat.{ℕ, zero, suc, _+_, _^_, _<_, _≤_}
 use native.Mathlib.Omega.{arith}
+use native.Mathlib.Nat.{zero-add}
 use native.Mathlib.Decide.{ℕ-discrete}
 use mathlib.Core.Path.{_≡_, refl, sym, ap, ap₂, _∙_}
 use mathlib.Core.Logic.{_↔_, Iff·trans}
@@ -16,6 +16,7 @@ use Rattle.layout.specs.Entry.{code, kind-of, lengths}
 use Rattle.layout.specs.Tree.{Tree, null, boolean, number, string, extension, array, object, Items, none, item, Members, empty, member, names, kind}
 use Rattle.layout.specs.Encode.{Part, entries, payloads, name-parts, payload, item-parts, member-parts, part, scalar, encode}
 use Rattle.layout.specs.Limits.{depth, depth-items, depth-members}
+use Rattle.layout.specs.Parts.{start-of}
 use Rattle.layout.specs.Place.{parts-at}
 use Rattle.layout.specs.Value.{Same, SameItems, SameMembers}
 use Rattle.layout.specs.declared.item.Kind.{Kind}
@@ -28,8 +29,9 @@ use Rattle.layout.proofs.Places.{parts-at-record, drop-parts, names-at}
 use Rattle.layout.proofs.Sounds.{both}
 use Rattle.layout.specs.Order.{same-bytes}
 use Rattle.layout.proofs.Orders.{bytes-test}
-use Rattle.values.specs.Alike.{payload-at, same-kind, same-payload, same-part, same-parts, Member, member-at, next, members-from, first, members, same-at}
-use Rattle.values.specs.declared.value.MemberAt.{MemberAt}
+use Rattle.values.specs.Alike.{same-kind, same-payload, same-part, same-parts, same-at}
+use Rattle.values.specs.Alike.{Member, member-at, next, members-from, first, members}
+use Rattle.values.specs.declared.value.PairAt.{PairAt}
 use Rattle.values.proofs.Likes.{listed, Tells, Told, Small, same-length, members-test}
 
 -- "Values of unlike sort differ": by the kind, and between containers by the header.
@@ -158,13 +160,11 @@ pairs-of : (ms : Members) → pairs (name-parts (names ms)) (member-parts ms) �
 pairs-of empty = refl
 pairs-of (member n t ms) = rw (pairs-of ms)
 
-pairs-from : (s : Bytes) (n : ℕ) (m : MemberAt) (k : ℕ) →
-    members-from s n m k ≡ pairs (parts-at s (m .index) (m .name) k) (parts-at s (n + m .index) (m .value) k)
-unfolding parts-at members-from member-at next payload-at
-pairs-from s n m zero = refl
-pairs-from s n m (suc k) =
-    let e : n + (m .index + 1) ≡ n + m .index + 1 = omega arith in
-    rw (pairs-from s n (next s n m) k, e)
+pairs-from : (s : Bytes) (m : PairAt) (k : ℕ)
+    → members-from s m k ≡ pairs (parts-at s (m .key .index) (m .key .place) k) (parts-at s (m .val .index) (m .val .place) k)
+unfolding parts-at members-from member-at next
+pairs-from s m zero = refl
+pairs-from s m (suc k) = rw (pairs-from s (next s m) k)
 
 -- The members of an object's bytes are those of the object.
 members-record : (ms : Members) → ObjectFits ms → members (payload (object ms)) (length (member-parts ms)) ≡ listed ms
@@ -176,9 +176,9 @@ members-record ms f =
     let s : Bytes = payload (object ms) in
     let p : ℕ = start-of (n + n) in
     let w = names-at (2 ^ 30 + n) n np mp (names-count ms) (f .whole) (f .fits) (f .named) in
-    let z : n + 0 ≡ 0 + n = omega arith in
-    let v : parts-at s (0 + n) (p + lengths s 0 n) n ≡ mp = sym (drop-parts s 0 p n n) ∙ ap (drop n) (w .0) ∙ drop-at np mp n (names-count ms) in
-    pairs-from s n (first s n) n ∙ rw (w .1, z, v) (pairs-of ms)
+    let behind = sym (drop-parts s 0 p n n) ∙ ap (drop n) (w .0) ∙ drop-at np mp n (names-count ms) in
+    let v : parts-at s n (p + lengths s 0 n) n ≡ mp = rw (zero-add n) at behind in
+    pairs-from s (first s n) n ∙ rw (w .1, v) (pairs-of ms)
 
 items-length : (ts us : Items) → SameItems ts us → length (item-parts ts) ≡ length (item-parts us)
 items-length none us h = rw h

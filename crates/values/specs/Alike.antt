@@ -1,25 +1,20 @@
 -- Equal values by places in the bytes, as the code goes. proofs/Alikes.antt ties it to the layout's `Same`.
-use Rattle.layout.specs.Parts.{start-of}
 use Prim.Native.Nat.{ℕ, zero, suc, _+_, _*_, _^_, _≤_}
 use mathlib.Core.Bool.{Bool, true, false, cond, _&&_}
 use mathlib.Core.List.{List, [], _∷_}
 use lib.Dec.{ltb, eqb}
-use lib.ListN.{take, drop}
 use Rattle.layout.specs.Bytes.{Bytes, word-at}
-use Rattle.layout.specs.Entry.{code, length-of, entry-at, lengths}
+use Rattle.layout.specs.Entry.{code}
 use Rattle.layout.specs.Encode.{Part}
 use Rattle.layout.specs.Order.{same-bytes}
-use Rattle.layout.specs.Place.{part-at, parts-at}
+use Rattle.layout.specs.Place.{parts-at}
+use Rattle.layout.specs.Parts.{next-part, first-part, nth-part, part-in, part-payload}
 use Rattle.layout.specs.Read.{header}
 use Rattle.layout.specs.declared.item.Kind.{Kind}
 use Rattle.layout.specs.declared.item.Kind.the-variants.{Null, String, Number, False, True, Container, Extension}
 use Rattle.layout.specs.declared.util.Header.{Header}
 use Rattle.layout.specs.declared.util.Header.the-variants.{Array, Object, Scalar, Refused}
-use Rattle.values.specs.declared.value.MemberAt.{MemberAt}
-
--- The payload at a place, as long as entry `i` says.
-unfoldable pub payload-at : Bytes → ℕ → ℕ → Bytes
-payload-at s i p = take (length-of (entry-at s i)) (drop p s)
+use Rattle.values.specs.declared.value.PairAt.{PairAt}
 
 -- Items: of one kind, with equal payloads; `f` tells whether containers have equal values.
 unfoldable pub same-kind : Kind → Kind → Bool
@@ -49,33 +44,31 @@ pub record Member : Type 0 where
   pub name : Bytes
   pub value : Part
 
--- Member `m` of the `n` of an object, by its places, and the one behind it.
-unfoldable pub member-at : Bytes → ℕ → MemberAt → Member
-member-at s n m =
-    record { name = payload-at s (m .index) (m .name); value = part-at s (n + m .index) (m .value) }
+-- The member at its places, and the places of the one behind it.
+unfoldable pub member-at : Bytes → PairAt → Member
+member-at s m = record { name = part-payload s (m .key); value = part-in s (m .val) }
 
-unfoldable pub next : Bytes → ℕ → MemberAt → MemberAt
-next s n m =
-    record {
-      index = m .index + 1;
-      name = m .name + length-of (entry-at s (m .index));
-      value = m .value + length-of (entry-at s (n + m .index));
-    }
+unfoldable pub next : Bytes → PairAt → PairAt
+next s m = record { key = next-part s (m .key); val = next-part s (m .val) }
 
--- `k` members, from `m` on; where the first one stands; and all of them.
-unfoldable pub members-from : Bytes → ℕ → MemberAt → ℕ → List Member
-members-from s n m zero = []
-members-from s n m (suc k) = member-at s n m ∷ members-from s n (next s n m) k
+-- `k` members, from `m` on; where the first of `n` stands; and all of them.
+unfoldable pub members-from : Bytes → PairAt → ℕ → List Member
+members-from s m zero = []
+members-from s m (suc k) = member-at s m ∷ members-from s (next s m) k
 
-unfoldable pub first : Bytes → ℕ → MemberAt
-first s n = record { index = 0; name = start-of (n + n); value = start-of (n + n) + lengths s 0 n }
+unfoldable pub first : Bytes → ℕ → PairAt
+first s n = record { key = first-part (n + n); val = nth-part s (n + n) n }
 
 abbrev pub members : Bytes → ℕ → List Member
-members s n = members-from s n (first s n) n
+members s n = members-from s (first s n) n
 
--- Places that sums of lengths can have reached by member `m`, so that the next sum fits the machine's word.
-abbrev pub Near : MemberAt → Type 0
-Near m = (m .name ≤ 2 ^ 58 + 2 ^ 28 * m .index) × (m .value ≤ 2 ^ 58 + 2 ^ 28 * m .index)
+-- Places that sums of lengths can have reached by member `m`, and the number of its value, so that its entries can be read and the
+-- next sums fit the machine's word.
+abbrev pub Near : PairAt → Type 0
+Near m =
+    (m .val .index ≤ 2 ^ 29 + m .key .index)
+    × (m .key .place ≤ 2 ^ 58 + 2 ^ 28 * m .key .index)
+    × (m .val .place ≤ 2 ^ 58 + 2 ^ 28 * m .key .index)
 
 -- Members are alike: equal names, and equal values.
 unfoldable pub like : (Bytes → Bytes → Bool) → Member → Member → Bool

@@ -14,33 +14,35 @@ use layout::constants::SCALAR_START;
 use layout::constants::STRING_CODE;
 use layout::constants::TRUE_CODE;
 use layout::item::Kind;
-use layout::iterator::key_length;
 use layout::jentry::kind_of;
-use layout::jentry::payload_len;
 use layout::jentry::read_jentry;
 use layout::jentry::type_code;
 use layout::order::is_same_bytes;
+use layout::parts::PartAt;
+use layout::parts::first_part;
+use layout::parts::part_behind;
+use layout::parts::part_payload;
+use layout::parts::place_after;
 use layout::util::Header;
 use layout::util::read_header;
 use layout::util::read_u32;
-use layout::util::slice;
 ghost use mathlib.Core.Path.{_≡_};
 ghost use mathlib.Core.Logic.{_↔_};
 ghost use Prim.Native.Nat.{_+_, _-_, _*_, _^_, _<_, _≤_, min};
 ghost use lib.Dec.{T};
 ghost use Rattle.layout.specs.Entry.{code, «kind-of» as kindOf};
-ghost use Rattle.layout.specs.Place.{«part-at» as partAt, «parts-at» as partsAt};
+ghost use Rattle.layout.specs.Place.{«parts-at» as partsAt};
+ghost use Rattle.layout.specs.Parts.{«part-in» as partIn};
 ghost use Rattle.values.specs.Value.{EqualValues};
-ghost use Rattle.values.specs.Alike.{«same-kind» as sameKind, «payload-at» as payloadAt};
-ghost use Rattle.values.specs.Alike.{«same-part» as samePart, «same-parts» as sameParts, Near, first, next};
+ghost use Rattle.values.specs.Alike.{«same-kind» as sameKind, «same-part» as samePart, «same-parts» as sameParts};
+ghost use Rattle.values.specs.Alike.{Near, first, next};
 ghost use Rattle.values.specs.Alike.{«member-at» as memberAt, «members-from» as membersFrom, members, like, likes};
 ghost use Rattle.values.specs.Alike.{«same-members» as sameMembers, «same-at» as sameAt};
 
-// A member of an object: its number among them, and the places of its name and value.
-pub struct MemberAt {
-    pub index: usize,
-    pub name: usize,
-    pub value: usize,
+// A member of an object: the parts of its name and of its value.
+pub struct PairAt {
+    pub key: PartAt,
+    pub val: PartAt,
 }
 
 // The type code of a kind.
@@ -65,38 +67,22 @@ fn is_same_kind(code: u32, other: u32) -> bool
     code_of(kind_of(code)) == code_of(kind_of(other))
 }
 
-// The payload at a place, as long as entry i says.
-fn payload_at(s: &[u8], i: usize, place: usize) -> &[u8]
-    requires { ⌜ i ≤ 2 ^ 30 ⌝ }
-    ensures { λ r. ⌜ now r ≡ payloadAt (now (s .entry)) i place ⌝ }
+// Whether two parts have equal values: they are of one kind, and their payloads are equal bytes or, in containers, equal values.
+// Containers are gone through down to `allowance` levels.
+fn is_same_item(a: &[u8], part: PartAt, b: &[u8], other: PartAt, allowance: u32) -> bool
+    requires { ⌜ (part .index ≤ 2 ^ 30) × (other .index ≤ 2 ^ 30) ⌝ }
+    ensures { λ r. ⌜ r ≡ samePart (sameAt allowance) (partIn (now (a .entry)) part) (partIn (now (b .entry)) other) ⌝ }
 {
-    slice(s, place, payload_len(read_jentry(s, i)) as usize)
-}
-
-// Whether two items, of entries i and j, have equal values: they are of one kind, and their payloads are equal bytes or, in
-// containers, equal values. Containers are gone through down to `allowance` levels.
-fn is_same_item(
-    a: &[u8],
-    i: usize,
-    place: usize,
-    b: &[u8],
-    j: usize,
-    other_place: usize,
-    allowance: u32,
-) -> bool
-    requires { ⌜ (i ≤ 2 ^ 30) × (j ≤ 2 ^ 30) ⌝ }
-    ensures { λ r. ⌜ r ≡ samePart (sameAt allowance) (partAt (now (a .entry)) i place) (partAt (now (b .entry)) j «other_place») ⌝ }
-{
-    let code = type_code(read_jentry(a, i));
-    if !is_same_kind(code, type_code(read_jentry(b, j))) {
+    let code = type_code(read_jentry(a, part.index));
+    if !is_same_kind(code, type_code(read_jentry(b, other.index))) {
         return false;
     }
-    let payload = payload_at(a, i, place);
-    let other = payload_at(b, j, other_place);
+    let payload = part_payload(a, part);
+    let other_payload = part_payload(b, other);
     if code == CONTAINER_CODE {
-        return is_same_nested(payload, other, allowance);
+        return is_same_nested(payload, other_payload, allowance);
     }
-    is_same_bytes(payload, other)
+    is_same_bytes(payload, other_payload)
 }
 
 // Whether two records have equal items in turn: n of them, the payload of the first at `start` in both.
@@ -104,14 +90,15 @@ fn are_same_items(a: &[u8], b: &[u8], n: usize, start: usize, allowance: u32) ->
     requires { ⌜ (n < 2 ^ 29) × (start < 2 ^ 33) ⌝ }
     ensures { λ r. ⌜ r ≡ sameParts (sameAt allowance) (partsAt (now (a .entry)) 0 start n) (partsAt (now (b .entry)) 0 start n) ⌝ }
 {
-    let mut place = start;
-    let mut other_place = start;
-    let mut i = 0;
-    while i < n {
-        if is_same_item(a, i, place, b, i, other_place, allowance) {
-            place += payload_len(read_jentry(a, i)) as usize;
-            other_place += payload_len(read_jentry(b, i)) as usize;
-            i += 1;
+    let mut part = PartAt {
+        index: 0,
+        place: start,
+    };
+    let mut other = part;
+    while part.index < n {
+        if is_same_item(a, part, b, other, allowance) {
+            part = part_behind(a, part);
+            other = part_behind(b, other);
             continue;
         }
         return false;
@@ -120,40 +107,39 @@ fn are_same_items(a: &[u8], b: &[u8], n: usize, start: usize, allowance: u32) ->
 }
 
 // The first of an object's n members.
-fn first_member(s: &[u8], n: usize) -> MemberAt
+fn first_member(s: &[u8], n: usize) -> PairAt
     requires { ⌜ n < 2 ^ 29 ⌝ }
     ensures { λ r. ⌜ r ≡ first (now (s .entry)) n ⌝ }
 {
-    let start = HEADER_SIZE + JENTRY_SIZE * (n + n);
-    MemberAt {
-        index: 0,
-        name: start,
-        value: start + key_length(s, n),
+    let key = first_part(n + n);
+    PairAt {
+        key,
+        val: PartAt {
+            index: n,
+            place: place_after(s, key, n),
+        },
     }
 }
 
-// The member behind one of n.
-fn next_member(s: &[u8], n: usize, at: MemberAt) -> MemberAt
-    requires { ⌜ (n < 2 ^ 29) × (at .index < n) × Near at ⌝ }
-    ensures { λ r. ⌜ r ≡ next (now (s .entry)) n at ⌝ }
+// The member behind one.
+fn next_member(s: &[u8], at: PairAt) -> PairAt
+    requires { ⌜ (at .key .index < 2 ^ 29) × Near at ⌝ }
+    ensures { λ r. ⌜ r ≡ next (now (s .entry)) at ⌝ }
 {
-    MemberAt {
-        index: at.index + 1,
-        name: at.name + payload_len(read_jentry(s, at.index)) as usize,
-        value: at.value + payload_len(read_jentry(s, n + at.index)) as usize,
+    PairAt {
+        key: part_behind(s, at.key),
+        val: part_behind(s, at.val),
     }
 }
 
 // Whether two members are alike: equal names, and equal values. Values are only looked at where the names are equal.
-fn is_like(a: &[u8], member: MemberAt, b: &[u8], other: MemberAt, n: usize, allowance: u32) -> bool
-    requires { ⌜ (n < 2 ^ 29) × (member .index < n) × (other .index < n) ⌝ }
-    ensures { λ r. ⌜ r ≡ like (sameAt allowance) (memberAt (now (a .entry)) n member) (memberAt (now (b .entry)) n other) ⌝ }
+fn is_like(a: &[u8], member: PairAt, b: &[u8], other: PairAt, allowance: u32) -> bool
+    requires { ⌜ (member .key .index < 2 ^ 29) × Near member × (other .key .index < 2 ^ 29) × Near other ⌝ }
+    ensures { λ r. ⌜ r ≡ like (sameAt allowance) (memberAt (now (a .entry)) member) (memberAt (now (b .entry)) other) ⌝ }
 {
-    let name = payload_at(a, member.index, member.name);
-    if is_same_bytes(name, payload_at(b, other.index, other.name)) {
-        let i = n + member.index;
-        let j = n + other.index;
-        return is_same_item(a, i, member.value, b, j, other.value, allowance);
+    let name = part_payload(a, member.key);
+    if is_same_bytes(name, part_payload(b, other.key)) {
+        return is_same_item(a, member.val, b, other.val, allowance);
     }
     false
 }
@@ -162,25 +148,25 @@ fn is_like(a: &[u8], member: MemberAt, b: &[u8], other: MemberAt, n: usize, allo
 // so that no more are looked for.
 fn count_like(
     a: &[u8],
-    member: MemberAt,
+    member: PairAt,
     b: &[u8],
-    from: MemberAt,
+    from: PairAt,
     n: usize,
     limit: usize,
     allowance: u32,
 ) -> usize
-    requires { ⌜ (n < 2 ^ 29) × (member .index < n) × (from .index ≤ n) × Near from ⌝ }
+    requires { ⌜ (n < 2 ^ 29) × (member .key .index < n) × Near member × (from .key .index ≤ n) × Near from ⌝ }
     ensures { λ r. ⌜ r
-        ≡ min limit (likes (sameAt allowance) (memberAt (now (a .entry)) n member) (membersFrom (now (b .entry)) n from (n - from .index))) ⌝ }
+        ≡ min limit (likes (sameAt allowance) (memberAt (now (a .entry)) member) (membersFrom (now (b .entry)) from (n - from .key .index))) ⌝ }
 {
     let mut at = from;
     let mut count = 0;
-    while at.index < n {
+    while at.key.index < n {
         if count == limit {
             return count;
         }
-        count += is_like(a, member, b, at, n, allowance) as usize;
-        at = next_member(b, n, at);
+        count += is_like(a, member, b, at, allowance) as usize;
+        at = next_member(b, at);
     }
     count
 }
@@ -194,8 +180,8 @@ fn are_same_members(a: &[u8], b: &[u8], n: usize, allowance: u32) -> bool
 {
     let start = first_member(b, n);
     let mut at = first_member(a, n);
-    while at.index < n {
-        let behind = next_member(a, n, at);
+    while at.key.index < n {
+        let behind = next_member(a, at);
         let left = count_like(a, at, a, behind, n, n, allowance);
         let found = count_like(a, at, b, start, n, left + 1, allowance);
         if found <= left {

@@ -1,17 +1,18 @@
 -- `values::value::is_same_nested` and what it calls in a cycle meet their contracts. The number that falls is five times the
 -- allowance, and a place in the turn. The loops keep that the answer for all is the answer for the rest, with what was counted.
-use Prim.Native.Nat.{ℕ, _+_, _*_, _-_, _<_, _≤_, min}
-use native.Mathlib.Nat.{sub-zero}
+use Prim.Native.Nat.{ℕ, _+_, _*_, _-_, _^_, _<_, _≤_}
 use native.Mathlib.Omega.{arith}
 use mathlib.Core.Path.{_≡_}
 use borrow.Author.Needs.{needs}
-use Rattle.layout.specs.Place.{parts-at}
-use Rattle.layout.proofs.Fields.{length-lt}
 use Rattle.layout.proofs.Checks.{told-array, told-object}
-use Rattle.values.specs.Alike.{same-parts, Near, member-at, members-from, members, likes, same-members, same-at}
-use Rattle.values.proofs.Turns.{item-unlike, item-nested, item-other, items-end, items-stop, items-more, first-near, next-near, like-not, like-by}
-use Rattle.values.proofs.Turns.{bit-most, count-full, count-end, count-more, members-start, members-stop, members-more, members-end}
-use Rattle.values.proofs.Turns.{same-none, same-unlike, same-refused, same-scalar, same-array, same-object}
+use Rattle.layout.proofs.Pieces.{same-part as same-places}
+use Rattle.values.specs.Alike.{Near, member-at, members-from, likes, same-at}
+use Rattle.values.proofs.Turns.{Kinds, kinds-read, item-unlike, item-nested, item-other}
+use Rattle.values.proofs.Turns.{Items-left, items-start, items-stop, items-more, items-end}
+use Rattle.values.proofs.Turns.{first-near, next-near, like-not, like-by}
+use Rattle.values.proofs.Turns.{bit-most, Counting, count-start, count-full, count-more, count-end}
+use Rattle.values.proofs.Turns.{Members-left, Members-turn, members-start, members-stop, members-more, members-end}
+use Rattle.values.proofs.Turns.{Headed, headed-by, same-none, same-unlike, same-refused, same-scalar, same-array, same-object}
 use borrow.Fn.Kinds.{In}
 use borrow.Fn.PlainCycle.{Measures, is, falls, and}
 use Rattle.values.proofs.value.are_same_items.Reads as are-same-items
@@ -32,16 +33,16 @@ use Rattle.values.proofs.value.+are_same_items+are_same_members+count_l
 use Rattle.values.proofs.value.is_same_nested.Reads as is-same-nested
 use Rattle.values.proofs.value.is_same_nested.Kinds as is-same-nested-kinds
 use Rattle.values.proofs.value.+are_same_items+are_same_members+count_like+is_like+is_same_item+is_same_nested.Lts-is_same_nested as is-same-nested-lts
-use Rattle.layout.proofs.jentry.payload_len.Reads as payload-len-reads
 use Rattle.layout.proofs.jentry.read_jentry.Reads as read-jentry-reads
 use Rattle.layout.proofs.jentry.type_code.Reads as type-code-reads
+use Rattle.layout.proofs.order.is_same_bytes.Reads as is-same-bytes-reads
+use Rattle.layout.proofs.parts.part_behind.Reads as part-behind-reads
+use Rattle.layout.proofs.parts.part_payload.Reads as part-payload-reads
 use Rattle.layout.proofs.util.read_header.Reads as read-header-reads
 use Rattle.layout.proofs.util.read_u32.Reads as read-u32-reads
 use Rattle.values.proofs.value.first_member.Reads as first-member-reads
-use Rattle.layout.proofs.order.is_same_bytes.Reads as is-same-bytes-reads
 use Rattle.values.proofs.value.is_same_kind.Reads as is-same-kind-reads
 use Rattle.values.proofs.value.next_member.Reads as next-member-reads
-use Rattle.values.proofs.value.payload_at.Reads as payload-at-reads
 use Rattle.values.proofs.value.+are_same_items+are_same_members+count_like+is_like+is_same_item+is_same_nested.{
   statement,
 }
@@ -59,10 +60,10 @@ abbrev μ-count-like : Measures 2 count-like-kinds.ps ℕ
 μ-count-like κs a = 5 * a .1 .1 .1 .1 .1 .1 .0 + 3
 
 abbrev μ-is-like : Measures 2 is-like-kinds.ps ℕ
-μ-is-like κs a = 5 * a .1 .1 .1 .1 .1 .0 + 2
+μ-is-like κs a = 5 * a .1 .1 .1 .1 .0 + 2
 
 abbrev μ-is-same-item : Measures 2 is-same-item-kinds.ps ℕ
-μ-is-same-item κs a = 5 * a .1 .1 .1 .1 .1 .1 .0 + 1
+μ-is-same-item κs a = 5 * a .1 .1 .1 .1 .0 + 1
 
 abbrev μ-is-same-nested : Measures 2 is-same-nested-kinds.ps ℕ
 μ-is-same-nested κs a = 5 * a .1 .1 .0
@@ -141,153 +142,502 @@ is-same-nested-below t =
     (falls 2 is-same-nested-kinds.ps _<_ μ-is-same-nested t)
     is-same-nested.Pre
 
-abbrev are-same-items-Inv-loop : are-same-items-lts.InvT-loop
-are-same-items-Inv-loop a b n start allowance place₀ other-place₀ i₀ place other-place i =
-    (place ≤ start + 268435456 * i)
-    × (other-place ≤ start + 268435456 * i)
-    × (same-parts (same-at allowance) (parts-at a 0 start n) (parts-at b 0 start n)
-    ≡ same-parts (same-at allowance) (parts-at a i place (n - i)) (parts-at b i other-place (n - i)))
-
-abbrev are-same-items-μ-loop : are-same-items-lts.MeasureT-loop
-are-same-items-μ-loop a b n start allowance place₀ other-place₀ i₀ place other-place i = n - i
-
--- what the functions that `are-same-items` calls ask and give
+-- What the functions of the cycle ask and give where one calls another.
 abbrev are-same-items-claims : ℕ → are-same-items-lts.Claims
-are-same-items-claims t = (is-same-item-below t, is-same-item.Post, read-jentry-reads.Asked, read-jentry-reads.Learnt, payload-len-reads.Asked, payload-len-reads.Learnt)
+are-same-items-claims t = (is-same-item-below t, is-same-item.Post, part-behind-reads.Asked, part-behind-reads.Learnt)
 
--- what the functions that `are-same-members` calls ask and give
 abbrev are-same-members-claims : ℕ → are-same-members-lts.Claims
-are-same-members-claims t = (first-member-reads.Asked, first-member-reads.Learnt, next-member-reads.Asked, next-member-reads.Learnt, count-like-below t, count-like.Post)
+are-same-members-claims t = (
+  first-member-reads.Asked,
+  first-member-reads.Learnt,
+  next-member-reads.Asked,
+  next-member-reads.Learnt,
+  count-like-below t,
+  count-like.Post,
+)
 
--- what the functions that `count-like` calls ask and give
 abbrev count-like-claims : ℕ → count-like-lts.Claims
 count-like-claims t = (is-like-below t, is-like.Post, next-member-reads.Asked, next-member-reads.Learnt)
 
--- what the functions that `is-like` calls ask and give
 abbrev is-like-claims : ℕ → is-like-lts.Claims
-is-like-claims t = (payload-at-reads.Asked, payload-at-reads.Learnt, is-same-bytes-reads.Asked, is-same-bytes-reads.Learnt, is-same-item-below t, is-same-item.Post)
+is-like-claims t = (
+  part-payload-reads.Asked,
+  part-payload-reads.Learnt,
+  is-same-bytes-reads.Asked,
+  is-same-bytes-reads.Learnt,
+  is-same-item-below t,
+  is-same-item.Post,
+)
 
--- what the functions that `is-same-item` calls ask and give
 abbrev is-same-item-claims : ℕ → is-same-item-lts.Claims
-is-same-item-claims t = (read-jentry-reads.Asked, read-jentry-reads.Learnt, type-code-reads.Asked, type-code-reads.Learnt, is-same-kind-reads.Asked, is-same-kind-reads.Learnt, payload-at-reads.Asked, payload-at-reads.Learnt, is-same-nested-below t, is-same-nested.Post, is-same-bytes-reads.Asked, is-same-bytes-reads.Learnt)
+is-same-item-claims t = (
+  read-jentry-reads.Asked,
+  read-jentry-reads.Learnt,
+  type-code-reads.Asked,
+  type-code-reads.Learnt,
+  is-same-kind-reads.Asked,
+  is-same-kind-reads.Learnt,
+  part-payload-reads.Asked,
+  part-payload-reads.Learnt,
+  is-same-nested-below t,
+  is-same-nested.Post,
+  is-same-bytes-reads.Asked,
+  is-same-bytes-reads.Learnt,
+)
 
--- what the functions that `is-same-nested` calls ask and give
 abbrev is-same-nested-claims : ℕ → is-same-nested-lts.Claims
-is-same-nested-claims t = (read-u32-reads.Asked, read-u32-reads.Learnt, read-header-reads.Asked, read-header-reads.Learnt, are-same-items-below t, are-same-items.Post, are-same-members-below t, are-same-members.Post)
+is-same-nested-claims t = (
+  read-u32-reads.Asked,
+  read-u32-reads.Learnt,
+  read-header-reads.Asked,
+  read-header-reads.Learnt,
+  are-same-items-below t,
+  are-same-items.Post,
+  are-same-members-below t,
+  are-same-members.Post,
+)
 
-are-same-items-loop-holds : (t : ℕ) → are-same-items-lts.Need-loop-holds (are-same-items-claims t) (are-same-items-at t) are-same-items.Post are-same-items-Inv-loop are-same-items-μ-loop
-are-same-items-loop-holds t c = (omega arith, omega arith, rw sub-zero)
+-- Items in turn.
+abbrev are-same-items-Inv-loop : are-same-items-lts.InvT-loop
+are-same-items-Inv-loop a b n start allowance part₀ other₀ part other = Items-left (same-at allowance) a b start n part other
 
-are-same-items-loop-again : (t : ℕ) → are-same-items-lts.Need-loop-again (are-same-items-claims t) (are-same-items-at t) are-same-items.Post are-same-items-Inv-loop are-same-items-μ-loop
-are-same-items-loop-again t c = (rw (c .before .before .payload-len .ensures) (omega (arith, length-lt (c .before .before .before .read-jentry .result))), rw (c .payload-len2 .ensures) (omega (arith, length-lt (c .before .read-jentry2 .result))), items-more _ _ _ _ (c .before .before .before .before .before .before .before .loop .i) (c .before .before .before .before .before .before .before .loop .place) (c .before .before .before .before .before .before .before .loop .other-place) _ (c .before .before .before .before .before .before .before .loop .inv .2) _ (c .before .before .before .before .before .before .loop-test .taken) (c .before .before .before .before .before .is-same-item .ensures) _ _ _ _ (c .before .before .before .read-jentry .ensures) (c .before .before .payload-len .ensures) (c .before .read-jentry2 .ensures) (c .payload-len2 .ensures) (c .before .before .before .before .if1 .taken))
+abbrev are-same-items-μ-loop : are-same-items-lts.MeasureT-loop
+are-same-items-μ-loop a b n start allowance part₀ other₀ part other = n - part .index
 
-are-same-items-returns : (t : ℕ) → are-same-items-lts.Need-returns (are-same-items-claims t) (are-same-items-at t) are-same-items.Post are-same-items-Inv-loop are-same-items-μ-loop
-are-same-items-returns t c = items-stop _ _ _ _ (c .before .before .before .loop .i) (c .before .before .before .loop .place) (c .before .before .before .loop .other-place) _ (c .before .before .before .loop .inv .2) _ (c .before .before .loop-test .taken) (c .before .is-same-item .ensures) (c .if1 .left)
+-- The start, the head of the loop, and where there is an item left.
+abbrev Items-start : ℕ → Type 0
+Items-start t =
+    are-same-items-lts.Start (are-same-items-claims t) (are-same-items-at t) are-same-items.Post are-same-items-Inv-loop are-same-items-μ-loop
 
-are-same-items-returns-2 : (t : ℕ) → are-same-items-lts.Need-returns-2 (are-same-items-claims t) (are-same-items-at t) are-same-items.Post are-same-items-Inv-loop are-same-items-μ-loop
-are-same-items-returns-2 t c = items-end _ _ _ _ (c .before .loop .i) (c .before .loop .place) (c .before .loop .other-place) _ (c .before .loop .inv .2) (c .loop-test .left)
+abbrev Items-head : ℕ → Type 0
+Items-head t =
+    are-same-items-lts.At-loop (are-same-items-claims t) (are-same-items-at t) are-same-items.Post are-same-items-Inv-loop are-same-items-μ-loop
 
+abbrev Items-turn : ℕ → Type 0
+Items-turn t =
+    are-same-items-lts.Then1 (are-same-items-claims t) (are-same-items-at t) are-same-items.Post are-same-items-Inv-loop are-same-items-μ-loop
+
+abbrev items-head : (t : ℕ) → Items-turn t → Items-head t
+items-head t c = c .before .before
+
+abbrev items-entry : (t : ℕ) → Items-head t → Items-start t
+items-entry t c = c .before .before .before
+
+-- The numbers of both items are below the count, and their places are near.
+items-near : (t : ℕ) (c : Items-turn t) → (items-head t c .loop .part .index < 2 ^ 29)
+    × (items-head t c .loop .other .index < 2 ^ 29)
+    × (items-head t c .loop .part .place < 2 ^ 60)
+    × (items-head t c .loop .other .place < 2 ^ 60)
+items-near t c = let head = items-head t c in omega (arith, c .if1 .taken, head .loop .inv, items-entry t head .pre .1)
+
+are-same-items-loop-holds : (t : ℕ)
+    → are-same-items-lts.Need-loop-holds (are-same-items-claims t) (are-same-items-at t) are-same-items.Post are-same-items-Inv-loop are-same-items-μ-loop
+are-same-items-loop-holds t c = items-start _ _ _ _ _
+
+are-same-items-is-same-item-requires : (t : ℕ)
+    → are-same-items-lts.Need-is-same-item-requires (are-same-items-claims t) (are-same-items-at t) are-same-items.Post are-same-items-Inv-loop are-same-items-μ-loop
+are-same-items-is-same-item-requires t c κs = omega (arith, items-entry t (items-head t c) .pre .0, items-near t c)
+
+are-same-items-part-behind-requires : (t : ℕ)
+    → are-same-items-lts.Need-part-behind-requires (are-same-items-claims t) (are-same-items-at t) are-same-items.Post are-same-items-Inv-loop are-same-items-μ-loop
+are-same-items-part-behind-requires t c κs = omega (arith, items-near t (c .before .before))
+
+are-same-items-part-behind-requires-2 : (t : ℕ)
+    → are-same-items-lts.Need-part-behind-requires-2 (are-same-items-claims t) (are-same-items-at t) are-same-items.Post are-same-items-Inv-loop are-same-items-μ-loop
+are-same-items-part-behind-requires-2 t c κs = omega (arith, items-near t (c .before .before .before))
+
+are-same-items-loop-less : (t : ℕ)
+    → are-same-items-lts.Need-loop-less (are-same-items-claims t) (are-same-items-at t) are-same-items.Post are-same-items-Inv-loop are-same-items-μ-loop
+are-same-items-loop-less t c =
+    let compared = c .before .before .before in
+    omega (arith, compared .before .if1 .taken, same-places (c .before .part-behind .ensures) .0)
+
+are-same-items-loop-again : (t : ℕ)
+    → are-same-items-lts.Need-loop-again (are-same-items-claims t) (are-same-items-at t) are-same-items.Post are-same-items-Inv-loop are-same-items-μ-loop
+are-same-items-loop-again t c =
+    let stepped = c .before in
+    let compared = stepped .before .before in
+    let more = compared .before in
+    items-more (items-head t more .loop .inv) _ (more .if1 .taken) (compared .is-same-item .ensures) (stepped .before .if2 .taken)
+    (stepped .part-behind .ensures) (c .part-behind2 .ensures)
+
+are-same-items-returns : (t : ℕ)
+    → are-same-items-lts.Need-returns (are-same-items-claims t) (are-same-items-at t) are-same-items.Post are-same-items-Inv-loop are-same-items-μ-loop
+are-same-items-returns t c =
+    let more = c .before .before in
+    items-stop (items-head t more .loop .inv) _ (more .if1 .taken) (c .before .is-same-item .ensures) (c .if2 .left)
+
+are-same-items-returns-2 : (t : ℕ)
+    → are-same-items-lts.Need-returns-2 (are-same-items-claims t) (are-same-items-at t) are-same-items.Post are-same-items-Inv-loop are-same-items-μ-loop
+are-same-items-returns-2 t c = items-end (c .before .before .loop .inv) (c .if1 .left)
+
+-- Members in turn.
 abbrev are-same-members-Inv-loop : are-same-members-lts.InvT-loop
-are-same-members-Inv-loop a b n allowance start at₀ at =
-    (at .index ≤ n)
-    × Near at
-    × (same-members (same-at allowance) (members a n) (members b n)
-    ≡ same-members (same-at allowance) (members-from a n at (n - at .index)) (members b n))
+are-same-members-Inv-loop a b n allowance start at₀ at = Members-left (same-at allowance) a b n at
 
 abbrev are-same-members-μ-loop : are-same-members-lts.MeasureT-loop
-are-same-members-μ-loop a b n allowance start at₀ at = n - at .index
+are-same-members-μ-loop a b n allowance start at₀ at = n - at .key .index
 
-are-same-members-loop-holds : (t : ℕ) → are-same-members-lts.Need-loop-holds (are-same-members-claims t) (are-same-members-at t) are-same-members.Post are-same-members-Inv-loop are-same-members-μ-loop
-are-same-members-loop-holds t c = let w = first-near _ _ _ (c .first-member2 .ensures) (c .before .before .before .before .pre .1) in (w .0, w .1, members-start _ _ _ _ _ (c .first-member2 .ensures))
+-- The start, the first member of the other object, the head of the loop; in a turn the next member, and both counts.
+abbrev Members-start : ℕ → Type 0
+Members-start t =
+    are-same-members-lts.Start (are-same-members-claims t) (are-same-members-at t) are-same-members.Post are-same-members-Inv-loop are-same-members-μ-loop
 
-are-same-members-count-like-requires : (t : ℕ) → are-same-members-lts.Need-count-like-requires (are-same-members-claims t) (are-same-members-at t) are-same-members.Post are-same-members-Inv-loop are-same-members-μ-loop
-are-same-members-count-like-requires t c κs = let w = next-near _ _ (c .before .before .before .loop .at) _ (c .next-member .ensures) (c .before .if1 .taken) (c .before .before .before .loop .inv .1) in (omega (arith, c .before .before .before .before .before .before .before .before .pre .0), (c .before .before .before .before .before .before .before .before .pre .1, c .before .if1 .taken, omega (arith, w .0, c .before .if1 .taken), w .1))
+abbrev Members-first : ℕ → Type 0
+Members-first t =
+    are-same-members-lts.After-first-member (are-same-members-claims t) (are-same-members-at t) are-same-members.Post are-same-members-Inv-loop are-same-members-μ-loop
 
-are-same-members-count-like-requires-2 : (t : ℕ) → are-same-members-lts.Need-count-like-requires-2 (are-same-members-claims t) (are-same-members-at t) are-same-members.Post are-same-members-Inv-loop are-same-members-μ-loop
-are-same-members-count-like-requires-2 t c κs = let w = first-near _ _ _ (c .before .before .before .before .before .before .first-member .ensures) (c .before .before .before .before .before .before .before .before .before .pre .1) in (omega (arith, c .before .before .before .before .before .before .before .before .before .pre .0), (c .before .before .before .before .before .before .before .before .before .pre .1, c .before .before .if1 .taken, w .0, w .1))
+abbrev Members-head : ℕ → Type 0
+Members-head t =
+    are-same-members-lts.At-loop (are-same-members-claims t) (are-same-members-at t) are-same-members.Post are-same-members-Inv-loop are-same-members-μ-loop
 
-are-same-members-returns : (t : ℕ) → are-same-members-lts.Need-returns (are-same-members-claims t) (are-same-members-at t) are-same-members.Post are-same-members-Inv-loop are-same-members-μ-loop
-are-same-members-returns t c = members-stop _ _ _ _ (c .before .before .before .before .before .before .loop .at) _ _ _ _ (c .before .before .before .before .before .before .loop .inv .2) (c .before .before .before .before .if1 .taken) (c .before .before .before .before .before .before .before .before .first-member .ensures) (c .before .before .before .next-member .ensures) (c .before .before .count-like .ensures) (c .before .count-like2 .ensures) (c .if2 .taken)
+abbrev Members-stepped : ℕ → Type 0
+Members-stepped t =
+    are-same-members-lts.After-next-member (are-same-members-claims t) (are-same-members-at t) are-same-members.Post are-same-members-Inv-loop are-same-members-μ-loop
 
-are-same-members-loop-less : (t : ℕ) → are-same-members-lts.Need-loop-less (are-same-members-claims t) (are-same-members-at t) are-same-members.Post are-same-members-Inv-loop are-same-members-μ-loop
-are-same-members-loop-less t c = let w = next-near _ _ (c .before .before .before .before .before .before .loop .at) _ (c .before .before .before .next-member .ensures) (c .before .before .before .before .if1 .taken) (c .before .before .before .before .before .before .loop .inv .1) in omega (arith, w .0, c .before .before .before .before .if1 .taken)
+abbrev Members-counted : ℕ → Type 0
+Members-counted t =
+    are-same-members-lts.After-count-like2 (are-same-members-claims t) (are-same-members-at t) are-same-members.Post are-same-members-Inv-loop are-same-members-μ-loop
 
-are-same-members-loop-again : (t : ℕ) → are-same-members-lts.Need-loop-again (are-same-members-claims t) (are-same-members-at t) are-same-members.Post are-same-members-Inv-loop are-same-members-μ-loop
-are-same-members-loop-again t c = let w = next-near _ _ (c .before .before .before .before .before .before .loop .at) _ (c .before .before .before .next-member .ensures) (c .before .before .before .before .if1 .taken) (c .before .before .before .before .before .before .loop .inv .1) in (omega (arith, w .0, c .before .before .before .before .if1 .taken), w .1, members-more _ _ _ _ (c .before .before .before .before .before .before .loop .at) _ _ _ _ (c .before .before .before .before .before .before .loop .inv .2) (c .before .before .before .before .if1 .taken) (c .before .before .before .before .before .before .before .before .first-member .ensures) (c .before .before .before .next-member .ensures) (c .before .before .count-like .ensures) (c .before .count-like2 .ensures) (c .if2 .left))
+abbrev members-entry : (t : ℕ) → Members-first t → Members-start t
+members-entry t c = c .before .before .before
 
-are-same-members-returns-2 : (t : ℕ) → are-same-members-lts.Need-returns-2 (are-same-members-claims t) (are-same-members-at t) are-same-members.Post are-same-members-Inv-loop are-same-members-μ-loop
-are-same-members-returns-2 t c = members-end _ _ _ _ (c .before .before .loop .at) (c .before .before .loop .inv .2) (c .if1 .left)
+abbrev members-first : (t : ℕ) → Members-head t → Members-first t
+members-first t c = c .before .before
 
+abbrev members-head : (t : ℕ) → Members-stepped t → Members-head t
+members-head t c = c .before .before .before
+
+abbrev members-args : (t : ℕ) → Members-stepped t → Members-start t
+members-args t c = members-entry t (members-first t (members-head t c))
+
+-- The first member of the other object is near, and so is the next one.
+first-is-near : (t : ℕ) (c : Members-first t) → (c .first-member .result .key .index ≤ members-entry t c .args .n) × Near (c .first-member .result)
+first-is-near t c = first-near _ _ (c .first-member .ensures) (members-entry t c .pre .1)
+
+next-is-near : (t : ℕ) (c : Members-stepped t)
+    → (c .next-member .result .key .index ≡ members-head t c .loop .at .key .index + 1) × Near (c .next-member .result)
+next-is-near t c = let head = members-head t c in next-near _ (head .loop .at) (c .next-member .ensures) (head .loop .inv .near)
+
+-- What a turn has found out.
+members-turn : (t : ℕ) (c : Members-counted t)
+    → Members-turn
+    (same-at (members-args t (c .before .before) .args .allowance))
+    (members-args t (c .before .before) .args .a .now)
+    (members-args t (c .before .before) .args .b .now)
+    (members-args t (c .before .before) .args .n)
+    (members-head t (c .before .before) .loop .at)
+    (members-first t (members-head t (c .before .before)) .first-member .result)
+    (c .before .before .next-member .result)
+    (c .before .count-like .result)
+    (c .count-like2 .result)
+members-turn t c =
+    let stepped = c .before .before in
+    let head = members-head t stepped in
+    record {
+      inv = head .loop .inv;
+      more = stepped .before .if1 .taken;
+      starts = members-first t head .first-member .ensures;
+      steps = stepped .next-member .ensures;
+      behind = c .before .count-like .ensures;
+      others = c .count-like2 .ensures;
+    }
+
+are-same-members-loop-holds : (t : ℕ)
+    → are-same-members-lts.Need-loop-holds (are-same-members-claims t) (are-same-members-at t) are-same-members.Post are-same-members-Inv-loop are-same-members-μ-loop
+are-same-members-loop-holds t c = members-start _ _ _ _ (c .first-member2 .ensures) (members-entry t (c .before) .pre .1)
+
+are-same-members-next-member-requires : (t : ℕ)
+    → are-same-members-lts.Need-next-member-requires (are-same-members-claims t) (are-same-members-at t) are-same-members.Post are-same-members-Inv-loop are-same-members-μ-loop
+are-same-members-next-member-requires t c κs =
+    let head = c .before .before in
+    omega (arith, c .if1 .taken, head .loop .inv .near, members-entry t (members-first t head) .pre .1)
+
+are-same-members-count-like-requires : (t : ℕ)
+    → are-same-members-lts.Need-count-like-requires (are-same-members-claims t) (are-same-members-at t) are-same-members.Post are-same-members-Inv-loop are-same-members-μ-loop
+are-same-members-count-like-requires t c κs =
+    omega (arith, members-args t c .pre, c .before .if1 .taken, members-head t c .loop .inv .near, next-is-near t c)
+
+are-same-members-count-like-requires-2 : (t : ℕ)
+    → are-same-members-lts.Need-count-like-requires-2 (are-same-members-claims t) (are-same-members-at t) are-same-members.Post are-same-members-Inv-loop are-same-members-μ-loop
+are-same-members-count-like-requires-2 t c κs =
+    let stepped = c .before in
+    let head = members-head t stepped in
+    let first = members-first t head in
+    omega (arith, members-entry t first .pre, stepped .before .if1 .taken, head .loop .inv .near, first-is-near t first)
+
+are-same-members-returns : (t : ℕ)
+    → are-same-members-lts.Need-returns (are-same-members-claims t) (are-same-members-at t) are-same-members.Post are-same-members-Inv-loop are-same-members-μ-loop
+are-same-members-returns t c = members-stop (members-turn t (c .before)) (c .if2 .taken)
+
+are-same-members-loop-less : (t : ℕ)
+    → are-same-members-lts.Need-loop-less (are-same-members-claims t) (are-same-members-at t) are-same-members.Post are-same-members-Inv-loop are-same-members-μ-loop
+are-same-members-loop-less t c =
+    let stepped = c .before .before .before in
+    omega (arith, stepped .before .if1 .taken, next-is-near t stepped .0)
+
+are-same-members-loop-again : (t : ℕ)
+    → are-same-members-lts.Need-loop-again (are-same-members-claims t) (are-same-members-at t) are-same-members.Post are-same-members-Inv-loop are-same-members-μ-loop
+are-same-members-loop-again t c = members-more (members-turn t (c .before)) (c .if2 .left)
+
+are-same-members-returns-2 : (t : ℕ)
+    → are-same-members-lts.Need-returns-2 (are-same-members-claims t) (are-same-members-at t) are-same-members.Post are-same-members-Inv-loop are-same-members-μ-loop
+are-same-members-returns-2 t c = members-end (c .before .before .loop .inv) (c .if1 .left)
+
+-- Counting.
 abbrev count-like-Inv-loop : count-like-lts.InvT-loop
 count-like-Inv-loop a member b n limit allowance at₀ count₀ at count =
-    (at .index ≤ n)
-    × Near at
-    × (count ≤ limit)
-    × (min limit (likes (same-at allowance) (member-at a n member) (members-from b n at₀ (n - at₀ .index)))
-    ≡ min limit (count + likes (same-at allowance) (member-at a n member) (members-from b n at (n - at .index))))
+    Counting (same-at allowance) (member-at a member) b n limit
+    (likes (same-at allowance) (member-at a member) (members-from b at₀ (n - at₀ .key .index)))
+    at count
 
 abbrev count-like-μ-loop : count-like-lts.MeasureT-loop
-count-like-μ-loop a member b n limit allowance at₀ count₀ at count = n - at .index
+count-like-μ-loop a member b n limit allowance at₀ count₀ at count = n - at .key .index
 
-count-like-returns : (t : ℕ) → count-like-lts.Need-returns (count-like-claims t) (count-like-at t) count-like.Post count-like-Inv-loop count-like-μ-loop
-count-like-returns t c = count-full _ _ _ _ _ (c .before .before .before .loop .count) _ (c .before .before .before .loop .at) (c .before .before .before .loop .inv .3) (c .if2 .taken)
+-- The start, the head of the loop, and where the count is not full yet.
+abbrev Count-start : ℕ → Type 0
+Count-start t =
+    count-like-lts.Start (count-like-claims t) (count-like-at t) count-like.Post count-like-Inv-loop count-like-μ-loop
 
-count-like-add-count : (t : ℕ) → count-like-lts.Need-add-count (count-like-claims t) (count-like-at t) count-like.Post count-like-Inv-loop count-like-μ-loop
-count-like-add-count t c = omega (arith, bit-most (c .is-like .result))
+abbrev Count-head : ℕ → Type 0
+Count-head t =
+    count-like-lts.At-loop (count-like-claims t) (count-like-at t) count-like.Post count-like-Inv-loop count-like-μ-loop
 
-count-like-loop-less : (t : ℕ) → count-like-lts.Need-loop-less (count-like-claims t) (count-like-at t) count-like.Post count-like-Inv-loop count-like-μ-loop
-count-like-loop-less t c = let w = next-near _ _ (c .before .before .before .before .before .loop .at) _ (c .next-member .ensures) (c .before .before .before .if1 .taken) (c .before .before .before .before .before .loop .inv .1) in omega (arith, w .0, c .before .before .before .if1 .taken)
+abbrev Count-going : ℕ → Type 0
+Count-going t =
+    count-like-lts.Else2 (count-like-claims t) (count-like-at t) count-like.Post count-like-Inv-loop count-like-μ-loop
 
-count-like-loop-again : (t : ℕ) → count-like-lts.Need-loop-again (count-like-claims t) (count-like-at t) count-like.Post count-like-Inv-loop count-like-μ-loop
-count-like-loop-again t c = let w = next-near _ _ (c .before .before .before .before .before .loop .at) _ (c .next-member .ensures) (c .before .before .before .if1 .taken) (c .before .before .before .before .before .loop .inv .1) in (omega (arith, w .0, c .before .before .before .if1 .taken), w .1, omega (arith, bit-most (c .before .is-like .result), c .before .before .before .before .before .loop .inv .2, c .before .before .if2 .left), count-more _ _ _ _ _ (c .before .before .before .before .before .loop .count) _ (c .before .before .before .before .before .loop .at) (c .before .before .before .before .before .loop .inv .3) (c .before .is-like .result) _ (c .before .before .before .if1 .taken) (c .before .is-like .ensures) (c .next-member .ensures))
+abbrev count-entry : (t : ℕ) → Count-head t → Count-start t
+count-entry t c = c .before .before .before
 
-count-like-returns-2 : (t : ℕ) → count-like-lts.Need-returns-2 (count-like-claims t) (count-like-at t) count-like.Post count-like-Inv-loop count-like-μ-loop
-count-like-returns-2 t c = count-end _ _ _ _ _ (c .before .before .loop .count) _ (c .before .before .loop .at) (c .before .before .loop .inv .3) (c .before .before .loop .inv .2) (c .if1 .left)
+abbrev count-head : (t : ℕ) → Count-going t → Count-head t
+count-head t c = c .before .before .before
 
-is-like-returns : (t : ℕ) → is-like-lts.Need-returns (is-like-claims t) (is-like-at t) is-like.Post
-is-like-returns t c = like-by _ _ _ _ (c .before .before .before .before .before .before .before .before .before .args .member) (c .before .before .before .before .before .before .before .before .before .args .other) _ _ _ (c .before .before .before .before .before .before .payload-at .ensures) (c .before .before .before .before .before .payload-at2 .ensures) (c .before .before .before .before .is-same-bytes .ensures) _ (c .before .before .before .if1 .taken) (c .is-same-item .ensures)
+count-like-loop-holds : (t : ℕ)
+    → count-like-lts.Need-loop-holds (count-like-claims t) (count-like-at t) count-like.Post count-like-Inv-loop count-like-μ-loop
+count-like-loop-holds t c =
+    let pre = c .before .before .pre .1 in
+    count-start _ _ _ _ _ _ (pre .3) (pre .4)
 
-is-like-returns-2 : (t : ℕ) → is-like-lts.Need-returns-2 (is-like-claims t) (is-like-at t) is-like.Post
-is-like-returns-2 t c = like-not _ _ _ _ (c .before .before .before .before .before .before .args .member) (c .before .before .before .before .before .before .args .other) _ _ _ (c .before .before .before .payload-at .ensures) (c .before .before .payload-at2 .ensures) (c .before .is-same-bytes .ensures) (c .if1 .left)
+count-like-returns : (t : ℕ)
+    → count-like-lts.Need-returns (count-like-claims t) (count-like-at t) count-like.Post count-like-Inv-loop count-like-μ-loop
+count-like-returns t c = count-full (c .before .before .before .loop .inv) (c .if2 .taken)
 
-is-same-item-returns : (t : ℕ) → is-same-item-lts.Need-returns (is-same-item-claims t) (is-same-item-at t) is-same-item.Post
-is-same-item-returns t c = item-unlike _ _ _ _ (c .before .before .before .before .before .before .before .before .args .place) _ (c .before .before .before .before .before .before .before .before .args .other-place) _ _ _ _ _ (c .before .before .before .before .before .read-jentry .ensures) (c .before .before .before .before .type-code .ensures) (c .before .before .before .read-jentry2 .ensures) (c .before .before .type-code2 .ensures) (c .before .is-same-kind .ensures) (c .if1 .taken)
+count-like-is-like-requires : (t : ℕ)
+    → count-like-lts.Need-is-like-requires (count-like-claims t) (count-like-at t) count-like.Post count-like-Inv-loop count-like-μ-loop
+count-like-is-like-requires t c κs =
+    let head = count-head t c in
+    omega (arith, count-entry t head .pre, head .loop .inv .near, c .before .if1 .taken)
 
-is-same-item-returns-2 : (t : ℕ) → is-same-item-lts.Need-returns-2 (is-same-item-claims t) (is-same-item-at t) is-same-item.Post
-is-same-item-returns-2 t c = item-nested _ _ _ _ _ _ _ _ _ _ _ _ (c .before .before .before .before .before .before .before .before .before .read-jentry .ensures) (c .before .before .before .before .before .before .before .before .type-code .ensures) (c .before .before .before .before .before .before .before .read-jentry2 .ensures) (c .before .before .before .before .before .before .type-code2 .ensures) (c .before .before .before .before .before .is-same-kind .ensures) _ _ _ (c .before .before .before .before .if1 .left) (c .before .before .before .payload-at .ensures) (c .before .before .payload-at2 .ensures) (c .before .if2 .taken) (c .is-same-nested .ensures)
+count-like-add-count : (t : ℕ)
+    → count-like-lts.Need-add-count (count-like-claims t) (count-like-at t) count-like.Post count-like-Inv-loop count-like-μ-loop
+count-like-add-count t c =
+    let head = count-head t (c .before) in
+    omega (arith, bit-most (c .is-like .result), head .loop .inv .most, c .before .if2 .left)
 
-is-same-item-returns-3 : (t : ℕ) → is-same-item-lts.Need-returns-3 (is-same-item-claims t) (is-same-item-at t) is-same-item.Post
-is-same-item-returns-3 t c = item-other _ _ _ _ _ _ _ _ _ _ _ _ (c .before .before .before .before .before .before .before .before .before .read-jentry .ensures) (c .before .before .before .before .before .before .before .before .type-code .ensures) (c .before .before .before .before .before .before .before .read-jentry2 .ensures) (c .before .before .before .before .before .before .type-code2 .ensures) (c .before .before .before .before .before .is-same-kind .ensures) _ _ _ (c .before .before .before .before .if1 .left) (c .before .before .before .payload-at .ensures) (c .before .before .payload-at2 .ensures) (c .before .if2 .left) (c .is-same-bytes .ensures)
+count-like-next-member-requires : (t : ℕ)
+    → count-like-lts.Need-next-member-requires (count-like-claims t) (count-like-at t) count-like.Post count-like-Inv-loop count-like-μ-loop
+count-like-next-member-requires t c κs =
+    let going = c .before in
+    let head = count-head t going in
+    omega (arith, count-entry t head .pre .1, head .loop .inv .near, going .before .if1 .taken)
 
-is-same-nested-returns : (t : ℕ) → is-same-nested-lts.Need-returns (is-same-nested-claims t) (is-same-nested-at t) is-same-nested.Post
+count-like-loop-less : (t : ℕ)
+    → count-like-lts.Need-loop-less (count-like-claims t) (count-like-at t) count-like.Post count-like-Inv-loop count-like-μ-loop
+count-like-loop-less t c =
+    let going = c .before .before in
+    let head = count-head t going in
+    omega (arith, going .before .if1 .taken, next-near _ (head .loop .at) (c .next-member .ensures) (head .loop .inv .near) .0)
+
+count-like-loop-again : (t : ℕ)
+    → count-like-lts.Need-loop-again (count-like-claims t) (count-like-at t) count-like.Post count-like-Inv-loop count-like-μ-loop
+count-like-loop-again t c =
+    let compared = c .before in
+    let going = compared .before in
+    count-more (count-head t going .loop .inv) (compared .is-like .result) (going .before .if1 .taken) (going .if2 .left)
+    (compared .is-like .ensures) (c .next-member .ensures)
+
+count-like-returns-2 : (t : ℕ)
+    → count-like-lts.Need-returns-2 (count-like-claims t) (count-like-at t) count-like.Post count-like-Inv-loop count-like-μ-loop
+count-like-returns-2 t c = count-end (c .before .before .loop .inv) (c .if1 .left)
+
+-- Two members: the start, and where their names were compared.
+abbrev Like-start : ℕ → Type 0
+Like-start t =
+    is-like-lts.Start (is-like-claims t) (is-like-at t) is-like.Post
+
+abbrev Like-compared : ℕ → Type 0
+Like-compared t =
+    is-like-lts.After-is-same-bytes (is-like-claims t) (is-like-at t) is-like.Post
+
+abbrev like-entry : (t : ℕ) → Like-compared t → Like-start t
+like-entry t c = let named = c .before .before in named .before .before .before
+
+is-like-returns : (t : ℕ)
+    → is-like-lts.Need-returns (is-like-claims t) (is-like-at t) is-like.Post
+is-like-returns t c =
+    let compared = c .before .before in
+    let named = compared .before in
+    let start = like-entry t compared in
+    like-by _ _ _ (start .args .member) (start .args .other) _ _ _ (named .before .part-payload .ensures) (named .part-payload2 .ensures)
+    (compared .is-same-bytes .ensures) _ (c .before .if1 .taken) (c .is-same-item .ensures)
+
+is-like-returns-2 : (t : ℕ)
+    → is-like-lts.Need-returns-2 (is-like-claims t) (is-like-at t) is-like.Post
+is-like-returns-2 t c =
+    let compared = c .before in
+    let named = compared .before in
+    let start = like-entry t compared in
+    like-not _ _ _ (start .args .member) (start .args .other) _ _ _ (named .before .part-payload .ensures) (named .part-payload2 .ensures)
+    (compared .is-same-bytes .ensures) (c .if1 .left)
+
+-- Two items: the start, the entry of the one, and the kinds of both.
+abbrev Item-start : ℕ → Type 0
+Item-start t =
+    is-same-item-lts.Start (is-same-item-claims t) (is-same-item-at t) is-same-item.Post
+
+abbrev Item-read : ℕ → Type 0
+Item-read t =
+    is-same-item-lts.After-read-jentry (is-same-item-claims t) (is-same-item-at t) is-same-item.Post
+
+abbrev Item-kinds : ℕ → Type 0
+Item-kinds t =
+    is-same-item-lts.After-is-same-kind (is-same-item-claims t) (is-same-item-at t) is-same-item.Post
+
+abbrev item-read : (t : ℕ) → Item-kinds t → Item-read t
+item-read t c = c .before .before .before .before
+
+abbrev item-entry : (t : ℕ) → Item-kinds t → Item-start t
+item-entry t c = item-read t c .before .before .before
+
+kinds-known : (t : ℕ) (c : Item-kinds t)
+    → Kinds
+    (item-entry t c .args .a .now)
+    (item-entry t c .args .b .now)
+    (item-entry t c .args .part)
+    (item-entry t c .args .other)
+    (c .before .before .before .type-code .result)
+    (c .is-same-kind .result)
+kinds-known t c =
+    let other = c .before in
+    let code = other .before .before in
+    kinds-read _ _ _ _ _ _ _ _ _ (code .before .read-jentry .ensures) (code .type-code .ensures) (other .before .read-jentry2 .ensures)
+    (other .type-code2 .ensures) (c .is-same-kind .ensures)
+
+is-same-item-returns : (t : ℕ)
+    → is-same-item-lts.Need-returns (is-same-item-claims t) (is-same-item-at t) is-same-item.Post
+is-same-item-returns t c = item-unlike (kinds-known t (c .before)) _ (c .if1 .taken)
+
+is-same-item-returns-2 : (t : ℕ)
+    → is-same-item-lts.Need-returns-2 (is-same-item-claims t) (is-same-item-at t) is-same-item.Post
+is-same-item-returns-2 t c =
+    let payloads = c .before .before in
+    let alike = payloads .before .before in
+    item-nested (kinds-known t (alike .before)) _ _ _ _ (alike .if1 .left) (payloads .before .part-payload .ensures)
+    (payloads .part-payload2 .ensures) (c .before .if2 .taken) (c .is-same-nested .ensures)
+
+is-same-item-returns-3 : (t : ℕ)
+    → is-same-item-lts.Need-returns-3 (is-same-item-claims t) (is-same-item-at t) is-same-item.Post
+is-same-item-returns-3 t c =
+    let payloads = c .before .before in
+    let alike = payloads .before .before in
+    item-other (kinds-known t (alike .before)) _ _ _ _ (alike .if1 .left) (payloads .before .part-payload .ensures)
+    (payloads .part-payload2 .ensures) (c .before .if2 .left) (c .is-same-bytes .ensures)
+
+-- Two records: the start, their first words, the header that was read, and the counts of an array and of an object.
+abbrev Nested-start : ℕ → Type 0
+Nested-start t =
+    is-same-nested-lts.Start (is-same-nested-claims t) (is-same-nested-at t) is-same-nested.Post
+
+abbrev Nested-words : ℕ → Type 0
+Nested-words t =
+    is-same-nested-lts.After-read-u322 (is-same-nested-claims t) (is-same-nested-at t) is-same-nested.Post
+
+abbrev Nested-headed : ℕ → Type 0
+Nested-headed t =
+    is-same-nested-lts.After-read-header (is-same-nested-claims t) (is-same-nested-at t) is-same-nested.Post
+
+abbrev Nested-array : ℕ → Type 0
+Nested-array t =
+    is-same-nested-lts.After-n (is-same-nested-claims t) (is-same-nested-at t) is-same-nested.Post
+
+abbrev Nested-object : ℕ → Type 0
+Nested-object t =
+    is-same-nested-lts.After-n2 (is-same-nested-claims t) (is-same-nested-at t) is-same-nested.Post
+
+abbrev nested-words : (t : ℕ) → Nested-headed t → Nested-words t
+nested-words t c = c .before .before
+
+abbrev nested-entry : (t : ℕ) → Nested-words t → Nested-start t
+nested-entry t c = let levels = c .before .before in levels .before .before .before
+
+headed : (t : ℕ) (c : Nested-headed t)
+    → Headed
+    (nested-entry t (nested-words t c) .args .allowance)
+    (nested-entry t (nested-words t c) .args .a .now)
+    (nested-entry t (nested-words t c) .args .b .now)
+    (c .read-header .result)
+headed t c =
+    let words = nested-words t c in
+    let one = words .before in
+    headed-by _ _ _ _ _ _ (one .before .if1 .left) (one .read-u32 .ensures) (words .read-u322 .ensures) (c .before .if2 .left)
+    (c .read-header .ensures)
+
+-- How many parts a container can have.
+array-count : (t : ℕ) (c : Nested-array t) → c .n .given .0 .0 < 2 ^ 29
+array-count t c = told-array _ _ (c .before .before .read-header .ensures) _ (c .n .given .1) .1
+
+object-count : (t : ℕ) (c : Nested-object t) → c .n2 .given .0 .0 < 2 ^ 29
+object-count t c = told-object _ _ (c .before .before .read-header .ensures) _ (c .n2 .given .1) .1
+
+is-same-nested-returns : (t : ℕ)
+    → is-same-nested-lts.Need-returns (is-same-nested-claims t) (is-same-nested-at t) is-same-nested.Post
 is-same-nested-returns t c = same-none _ _ _ (c .if1 .taken)
 
-is-same-nested-returns-2 : (t : ℕ) → is-same-nested-lts.Need-returns-2 (is-same-nested-claims t) (is-same-nested-at t) is-same-nested.Post
-is-same-nested-returns-2 t c = same-unlike _ _ _ _ _ (c .before .before .before .if1 .left) (c .before .before .read-u32 .ensures) (c .before .read-u322 .ensures) (c .if2 .taken)
+is-same-nested-returns-2 : (t : ℕ)
+    → is-same-nested-lts.Need-returns-2 (is-same-nested-claims t) (is-same-nested-at t) is-same-nested.Post
+is-same-nested-returns-2 t c =
+    let words = c .before in
+    let one = words .before in
+    same-unlike _ _ _ _ _ (one .before .if1 .left) (one .read-u32 .ensures) (words .read-u322 .ensures) (c .if2 .taken)
 
-is-same-nested-mul-are-same-items : (t : ℕ) → is-same-nested-lts.Need-mul-are-same-items (is-same-nested-claims t) (is-same-nested-at t) is-same-nested.Post
-is-same-nested-mul-are-same-items t c = let h = told-array _ _ (c .before .before .before .read-header .ensures) _ (c .before .n .given .1) in omega arith
+is-same-nested-mul-are-same-items : (t : ℕ)
+    → is-same-nested-lts.Need-mul-are-same-items (is-same-nested-claims t) (is-same-nested-at t) is-same-nested.Post
+is-same-nested-mul-are-same-items t c = omega (arith, array-count t (c .before))
 
-is-same-nested-add-are-same-items : (t : ℕ) → is-same-nested-lts.Need-add-are-same-items (is-same-nested-claims t) (is-same-nested-at t) is-same-nested.Post
-is-same-nested-add-are-same-items t c = let h = told-array _ _ (c .before .before .before .read-header .ensures) _ (c .before .n .given .1) in omega arith
+is-same-nested-add-are-same-items : (t : ℕ)
+    → is-same-nested-lts.Need-add-are-same-items (is-same-nested-claims t) (is-same-nested-at t) is-same-nested.Post
+is-same-nested-add-are-same-items t c = omega (arith, array-count t (c .before))
 
-is-same-nested-are-same-items-requires-2 : (t : ℕ) → is-same-nested-lts.Need-are-same-items-requires-2 (is-same-nested-claims t) (is-same-nested-at t) is-same-nested.Post
-is-same-nested-are-same-items-requires-2 t c κs = let h = told-array _ _ (c .before .before .before .read-header .ensures) _ (c .before .n .given .1) in omega arith
+is-same-nested-are-same-items-requires-2 : (t : ℕ)
+    → is-same-nested-lts.Need-are-same-items-requires-2 (is-same-nested-claims t) (is-same-nested-at t) is-same-nested.Post
+is-same-nested-are-same-items-requires-2 t c κs = let counted = c .before in let n = array-count t counted in omega arith
 
-is-same-nested-are-same-members-requires : (t : ℕ) → is-same-nested-lts.Need-are-same-members-requires (is-same-nested-claims t) (is-same-nested-at t) is-same-nested.Post
-is-same-nested-are-same-members-requires t c κs = let h = told-object _ _ (c .before .before .before .read-header .ensures) _ (c .before .n2 .given .1) in omega arith
+is-same-nested-are-same-members-requires : (t : ℕ)
+    → is-same-nested-lts.Need-are-same-members-requires (is-same-nested-claims t) (is-same-nested-at t) is-same-nested.Post
+is-same-nested-are-same-members-requires t c κs = let counted = c .before in let n = object-count t counted in omega arith
 
-is-same-nested-returns-3 : (t : ℕ) → is-same-nested-lts.Need-returns-3 (is-same-nested-claims t) (is-same-nested-at t) is-same-nested.Post
-is-same-nested-returns-3 t c = same-refused _ _ _ _ _ (c .before .before .before .before .before .before .if1 .left) (c .before .before .before .before .before .read-u32 .ensures) (c .before .before .before .before .read-u322 .ensures) _ (c .before .before .before .if2 .left) (c .before .before .read-header .ensures) _ (c .enum-told .given .1)
+is-same-nested-returns-3 : (t : ℕ)
+    → is-same-nested-lts.Need-returns-3 (is-same-nested-claims t) (is-same-nested-at t) is-same-nested.Post
+is-same-nested-returns-3 t c = same-refused (headed t (c .before .before)) _ (c .enum-told .given .1)
 
-is-same-nested-returns-4 : (t : ℕ) → is-same-nested-lts.Need-returns-4 (is-same-nested-claims t) (is-same-nested-at t) is-same-nested.Post
-is-same-nested-returns-4 t c = same-scalar _ _ _ _ _ (c .before .before .before .before .before .before .before .if1 .left) (c .before .before .before .before .before .before .read-u32 .ensures) (c .before .before .before .before .before .read-u322 .ensures) _ (c .before .before .before .before .if2 .left) (c .before .before .before .read-header .ensures) _ _ (c .before .enum-told2 .given .1) (c .are-same-items .ensures)
+is-same-nested-returns-4 : (t : ℕ)
+    → is-same-nested-lts.Need-returns-4 (is-same-nested-claims t) (is-same-nested-at t) is-same-nested.Post
+is-same-nested-returns-4 t c =
+    let told = c .before in
+    same-scalar (headed t (told .before .before)) _ _ (told .enum-told2 .given .1) (c .are-same-items .ensures)
 
-is-same-nested-returns-5 : (t : ℕ) → is-same-nested-lts.Need-returns-5 (is-same-nested-claims t) (is-same-nested-at t) is-same-nested.Post
-is-same-nested-returns-5 t c = same-array _ _ _ _ _ (c .before .before .before .before .before .before .before .before .if1 .left) (c .before .before .before .before .before .before .before .read-u32 .ensures) (c .before .before .before .before .before .before .read-u322 .ensures) _ (c .before .before .before .before .before .if2 .left) (c .before .before .before .before .read-header .ensures) _ _ (c .before .before .n .given .1) (c .are-same-items2 .ensures)
+is-same-nested-returns-5 : (t : ℕ)
+    → is-same-nested-lts.Need-returns-5 (is-same-nested-claims t) (is-same-nested-at t) is-same-nested.Post
+is-same-nested-returns-5 t c =
+    let told = c .before .before in
+    same-array (headed t (told .before .before)) _ _ (told .n .given .1) (c .are-same-items2 .ensures)
 
-is-same-nested-returns-6 : (t : ℕ) → is-same-nested-lts.Need-returns-6 (is-same-nested-claims t) (is-same-nested-at t) is-same-nested.Post
-is-same-nested-returns-6 t c = same-object _ _ _ _ _ (c .before .before .before .before .before .before .before .before .if1 .left) (c .before .before .before .before .before .before .before .read-u32 .ensures) (c .before .before .before .before .before .before .read-u322 .ensures) _ (c .before .before .before .before .before .if2 .left) (c .before .before .before .before .read-header .ensures) _ _ (c .before .before .n2 .given .1) (c .are-same-members .ensures)
+is-same-nested-returns-6 : (t : ℕ)
+    → is-same-nested-lts.Need-returns-6 (is-same-nested-claims t) (is-same-nested-at t) is-same-nested.Post
+is-same-nested-returns-6 t c =
+    let told = c .before .before in
+    same-object (headed t (told .before .before)) _ _ (told .n2 .given .1) (c .are-same-members .ensures)
 
 pub +are-same-items+are-same-members+count-like+is-like+is-same-item+is-same-nested-spec :
     {M : Type 1} → statement M
@@ -305,17 +655,10 @@ pub +are-same-items+are-same-members+count-like+is-like+is-same-item+is-same-nes
     are-same-items-Inv-loop
     are-same-items-μ-loop
     (are-same-items-loop-holds t)
-    (λ c κs. search needs)
-    (λ c κs. search needs)
-    (λ c κs. search needs)
-    (λ c. search needs)
-    (λ c. search needs)
-    (λ c κs. search needs)
-    (λ c κs. search needs)
-    (λ c. search needs)
-    (λ c. search needs)
-    (λ c. search needs)
-    (λ c. search needs)
+    (are-same-items-is-same-item-requires t)
+    (are-same-items-part-behind-requires t)
+    (are-same-items-part-behind-requires-2 t)
+    (are-same-items-loop-less t)
     (are-same-items-loop-again t)
     (are-same-items-returns t)
     (are-same-items-returns-2 t))
@@ -327,7 +670,7 @@ pub +are-same-items+are-same-members+count-like+is-like+is-same-item+is-same-nes
     (λ c κs. search needs)
     (λ c κs. search needs)
     (are-same-members-loop-holds t)
-    (λ c κs. search needs)
+    (are-same-members-next-member-requires t)
     (are-same-members-count-like-requires t)
     (λ c. search needs)
     (are-same-members-count-like-requires-2 t)
@@ -340,12 +683,12 @@ pub +are-same-items+are-same-members+count-like+is-like+is-same-item+is-same-nes
     count-like.Post
     count-like-Inv-loop
     count-like-μ-loop
-    (λ c. search needs)
+    (count-like-loop-holds t)
     (count-like-returns t)
-    (λ c κs. search needs)
+    (count-like-is-like-requires t)
     (λ c. search needs)
     (count-like-add-count t)
-    (λ c κs. search needs)
+    (count-like-next-member-requires t)
     (count-like-loop-less t)
     (count-like-loop-again t)
     (count-like-returns-2 t))
@@ -355,8 +698,6 @@ pub +are-same-items+are-same-members+count-like+is-like+is-same-item+is-same-nes
     (λ c κs. search needs)
     (λ c κs. search needs)
     (λ c κs. search needs)
-    (λ c. search needs)
-    (λ c. search needs)
     (λ c κs. search needs)
     (is-like-returns t)
     (is-like-returns-2 t))
