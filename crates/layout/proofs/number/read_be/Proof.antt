@@ -25,12 +25,16 @@ cast-value : tie.Need-cast-value Inv-loop μ-loop
 cast-value c = omega (arith, c .shared-slice-known .given (c .before .before .loop .i))
 
 add-value : tie.Need-add-value Inv-loop μ-loop
-add-value c = omega (arith, c .shared-slice-known .given (c .before .before .loop .i), read-room 7 _ _ _ (c .before .before .loop .inv .2) (c .before .loop-test .taken) (c .before .before .before .pre))
+add-value c =
+    let head = c .before .before in
+    let room = read-room 7 _ _ _ (head .loop .inv .2) (c .before .loop-test .taken) (head .before .pre) in
+    omega (arith, c .shared-slice-known .given (head .loop .i), room)
 
 loop-again : tie.Need-loop-again Inv-loop μ-loop
 loop-again c =
     let l = c .before .before .loop in
-    (omega arith, read-turn _ _ _ (c .before .loop-test .taken) (l .inv .1), read-bound _ _ _ (l .inv .2) (omega (arith, c .shared-slice-known .given (l .i))))
+    let byte = c .shared-slice-known .given (l .i) in
+    (omega arith, read-turn _ _ _ (c .before .loop-test .taken) (l .inv .1), read-bound _ _ _ (l .inv .2) (omega (arith, byte)))
 
 returns : tie.Need-returns Inv-loop μ-loop
 returns c =

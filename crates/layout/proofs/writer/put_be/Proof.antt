@@ -27,9 +27,11 @@ loop-holds c = (omega arith, store-begins _ _ _ _, refl)
 
 loop-again : tie.Need-loop-again Inv-loop μ-loop
 loop-again c =
-    let l = c .before .before .before .before .before .loop in
-    let e = c .before .before .put .ensures in
-    (omega arith, store-turn _ _ _ _ _ _ _ (c .before .before .before .before .loop-test .taken) (l .inv .1) e, ap length e ∙ simp length-set (l .inv .2))
+    let stored = c .before .before in
+    let turn = stored .before .before in
+    let l = turn .before .loop in
+    let e = stored .put .ensures in
+    (omega arith, store-turn _ _ _ _ _ _ _ (turn .loop-test .taken) (l .inv .1) e, ap length e ∙ simp length-set (l .inv .2))
 
 same-length : tie.Need-same-length Inv-loop μ-loop
 same-length c = c .before .loop .inv .2
@@ -49,7 +51,7 @@ put-be-spec =
     (λ c. search needs)
     (λ c. search needs)
     (λ c. search needs)
-    (λ c. omega (arith, c .before .before .before .before .before .pre))
+    (λ c. let turn = c .before .before .before in omega (arith, turn .before .before .pre))
     (λ c. search needs)
     (λ c κs. search needs)
     (λ c. search needs)
