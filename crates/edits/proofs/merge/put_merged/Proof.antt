@@ -137,29 +137,39 @@ returns c =
     let turn = c .before .before in
     merging-end _ _ _ _ _ _ _ _ _ _ _ (head turn .loop .inv .2) _ (turn .turn-of .ensures) (c .enum-told .given .1)
 
--- A turn came by one of three ways; `w` is what happened on it.
+-- A turn came by one of three ways; `w` is what happened on it. The values are written out: to have them found takes longer.
+abbrev here : tie.At-match-came Inv-loop μ-loop → Head
+here c = head (c .before)
+
+abbrev begun : tie.At-match-came Inv-loop μ-loop → tie.Start Inv-loop μ-loop
+begun c = start-of (here c)
+
 loop-again : tie.Need-loop-again Inv-loop μ-loop
 loop-again c =
-    let turn = c .before in
-    let h = head turn in
     ⊎-elim
     (λ w. (
       omega arith,
-      h .loop .inv .1,
-      goes-left _ _ _ _ _ _ _ _ _ _ _ (h .loop .inv .2) _ (turn .turn-of .ensures) _ _ _ _ _ _ _ (w .9) (w .12) _ _ _
+      here c .loop .inv .1,
+      goes-left (begun c .args .left .now) (begun c .args .m) (begun c .args .right .now) (begun c .args .n) (begun c .args .out .now) (begun c .args .to)
+          (here c .loop .out) (here c .loop .l) (here c .loop .r) (here c .loop .at) (here c .loop .i) (here c .loop .inv .2)
+          _ (c .before .turn-of .ensures) _ _ _ _ _ _ _ (w .9) (w .12) _ _ _
           (w .1 .given .1) (w .3 .ensures) (w .5 .ensures) (w .8 .ensures) (w .10) (w .11),
     ))
     (⊎-elim
     (λ w. (
       omega arith,
-      h .loop .inv .1,
-      goes-right _ _ _ _ _ _ _ _ _ _ _ (h .loop .inv .2) _ (turn .turn-of .ensures) _ _ _ _ _ _ _ (w .9) (w .12) _ _ _
+      here c .loop .inv .1,
+      goes-right (begun c .args .left .now) (begun c .args .m) (begun c .args .right .now) (begun c .args .n) (begun c .args .out .now) (begun c .args .to)
+          (here c .loop .out) (here c .loop .l) (here c .loop .r) (here c .loop .at) (here c .loop .i) (here c .loop .inv .2)
+          _ (c .before .turn-of .ensures) _ _ _ _ _ _ _ (w .9) (w .12) _ _ _
           (w .1 .given .1) (w .3 .ensures) (w .5 .ensures) (w .8 .ensures) (w .10) (w .11),
     ))
     (λ w. (
       omega arith,
-      h .loop .inv .1,
-      goes-both _ _ _ _ _ _ _ _ _ _ _ (h .loop .inv .2) _ (turn .turn-of .ensures) _ _ _ _ _ _ _ (w .10) (w .13) _ _ _ _ _
+      here c .loop .inv .1,
+      goes-both (begun c .args .left .now) (begun c .args .m) (begun c .args .right .now) (begun c .args .n) (begun c .args .out .now) (begun c .args .to)
+          (here c .loop .out) (here c .loop .l) (here c .loop .r) (here c .loop .at) (here c .loop .i) (here c .loop .inv .2)
+          _ (c .before .turn-of .ensures) _ _ _ _ _ _ _ (w .10) (w .13) _ _ _ _ _
           (w .1 .given .1) (w .3 .ensures) (w .5 .ensures) (w .8 .ensures) (w .9 .ensures) (w .11) (w .12),
     )))
     (c .match .came)
