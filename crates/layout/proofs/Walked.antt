@@ -15,7 +15,8 @@ use Rattle.layout.specs.Tree.{Tree, array, object, Items, Members, pair}
 use Rattle.layout.specs.Encode.{Part}
 use Rattle.layout.specs.Read.{header, entry-ok, number-in, payload-in, items-in, names-in, scalar-in, nested, root-in, read}
 use Rattle.layout.specs.Place.{table-ok, parts-at}
-use Rattle.layout.specs.Walk.{item-of, array-step, member-step, object-step, array-walk, object-walk, opening, array-opened, array-open, object-opened, object-open, walked, object-walked, paired}
+use Rattle.layout.specs.Walk.{item-of, array-step, member-step, object-step, array-walk, object-walk, opening}
+use Rattle.layout.specs.Walk.{array-opened, array-open, object-opened, object-open, walked, object-walked, paired}
 use Rattle.layout.specs.declared.item.Kind.{Kind}
 use Rattle.layout.specs.declared.item.Kind.the-variants.{Null, String, Number, False, True, Container, Extension}
 use Rattle.layout.specs.declared.refusal.Refusal.{Refusal}
