@@ -114,9 +114,9 @@ strings-named (item (extension b) ts) h = cc
 strings-named (item (array us) ts) h = cc
 strings-named (item (object ms) ts) h = cc
 
-pub count-parts : (ts : Items) → count ts ≡ length (item-parts ts)
-count-parts none = refl
-count-parts (item t ts) = ap suc (count-parts ts)
+pub count-item-parts : (ts : Items) → count ts ≡ length (item-parts ts)
+count-item-parts none = refl
+count-item-parts (item t ts) = ap suc (count-item-parts ts)
 
 pub length-texts : (ps : List Part) → length (texts ps) ≡ length ps
 length-texts [] = refl
@@ -196,7 +196,7 @@ module _ (ks vs : Bytes) (n : ℕ) (ts us : Items) (kk : Known ks (array ts)) (k
         → build (array ts) (array us) ≡ cond d (gives (object (in-order ms))) (refused Repeated)
     unfolding build _>>=_ require
     built d e =
-        let c : count ts ≡ count us = count-parts ts ∙ sym en ∙ eu ∙ sym (count-parts us) in
+        let c : count ts ≡ count us = count-item-parts ts ∙ sym en ∙ eu ∙ sym (count-item-parts us) in
         rw (texts-by ts, strings, eq-eqb (count ts) (count us) c, e) (by-test d)
       where
         by-test : (d : Bool)
@@ -476,7 +476,7 @@ module _ {ks vs : Bytes} where
     pub build-unequal : {o : Bytes} (room : ℕ) → (n ≡ m → ⊥) → Answers ks vs o room (Refused Kind)
     build-unequal room q =
         kind both room (rw (keys .1, vals .1) (unequal (keys .0) (vals .0)
-        (λ e. q (keys .2 ∙ sym (count-parts (keys .0)) ∙ e ∙ count-parts (vals .0) ∙ sym (vals .2)))))
+        (λ e. q (keys .2 ∙ sym (count-item-parts (keys .0)) ∙ e ∙ count-item-parts (vals .0) ∙ sym (vals .2)))))
 
     module _ (e : n ≡ m) {g : Bool} (hg : g ≡ strings-at ks 0 n) where
       pub build-no-strings : {o : Bytes} (room : ℕ) → g ≡ false → Answers ks vs o room (Refused Kind)

@@ -28,7 +28,7 @@ use Rattle.layout.specs.Pipeline.{within, written, found, on-record}
 use Rattle.layout.proofs.Pipelines.{written-result, found-written}
 use Rattle.builders.specs.Build.{items-of, text-of, texts-of, count, join, append, build, on-two}
 use Rattle.builders.proofs.InOrders.{in-order-rising, in-order-valid, in-order-sound, in-order-same}
-use Rattle.builders.proofs.Builds.{count-parts}
+use Rattle.builders.proofs.Builds.{count-item-parts}
 
 -- An edit that gives a valid tree of valid trees.
 abbrev pub Keeps : (Tree → Tree → Answer Tree) → Type 0
@@ -205,8 +205,8 @@ pub build-value : (t u v : Tree) → (e : build t u ≡ gives v)
     → Same (object (pair (build-is t u v e .texts) (build-is t u v e .values))) v
 build-value t u v e =
     let b = build-is t u v e in
-    let d : distinct (names (pair (b .texts) (b .values))) ≡ true = rw (names-of (b .items) (b .values) (b .texts) (b .strings) (b .as-many)) (b .apart) in
+    let d : distinct (names (pair (b .texts) (b .values))) ≡ true = rw (names-paired (b .items) (b .values) (b .texts) (b .strings) (b .as-many)) (b .apart) in
     (in-order (pair (b .texts) (b .values)), b .is, in-order-same (pair (b .texts) (b .values)) d)
   where
-    names-of : (ts us : Items) (ns : List Bytes) → texts-of ts ≡ gives ns → count ts ≡ count us → names (pair ns us) ≡ ns
-    names-of ts us ns s c = names-pair ns us (count-texts ts ns s ∙ c ∙ count-parts us)
+    names-paired : (ts us : Items) (ns : List Bytes) → texts-of ts ≡ gives ns → count ts ≡ count us → names (pair ns us) ≡ ns
+    names-paired ts us ns s c = names-pair ns us (count-texts ts ns s ∙ c ∙ count-item-parts us)

@@ -1,5 +1,5 @@
 -- An array of names beside an array of values, as object build is handed them: document 01, "a name that is no string, or unequal
--- counts". `strings-is` and its neighbours of proofs/Naming.antt tie the test to `texts-of`.
+-- counts". `strings-parts` of proofs/Builds.antt says what the test asks of the parts of the array.
 use Prim.Native.Nat.{ℕ, zero, suc, _+_}
 use mathlib.Core.Path.{_≡_}
 use mathlib.Core.Bool.{Bool, true, _&&_}

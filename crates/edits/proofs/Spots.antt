@@ -23,7 +23,7 @@ use Rattle.layout.proofs.Nestings.{header-encode}
 use Rattle.builders.specs.Order.{find}
 use Rattle.builders.specs.Build.{count}
 use Rattle.layout.specs.Parts.{texts}
-use Rattle.builders.proofs.Builds.{count-parts}
+use Rattle.builders.proofs.Builds.{count-item-parts}
 use Rattle.edits.specs.Keypath.{Step}
 use Rattle.edits.specs.Find.{step-place, step-name, item-at, step-into}
 use Rattle.layout.specs.Parts.{nth-part}
@@ -71,7 +71,7 @@ module _ (ts : Items) (s : Bytes) (p : Step) (e : payload (array ts) ≡ s) (l :
   array-none : spot (header s) s p ≡ Nothing → step-into p (array ts) ≡ nothing
   array-none q =
       let c : step-place p (length (item-parts ts)) ≡ nothing = spot-at-none s _ _ (sym array-spot-is ∙ q) in
-      rw (count-parts ts, c)
+      rw (count-item-parts ts, c)
 
 pub array-spot : (ts : Items) (s : Bytes) (p : Step) (a : PartAt) → payload (array ts) ≡ s → length s ≤ 65536
     → spot (header s) s p ≡ At a
@@ -79,7 +79,7 @@ pub array-spot : (ts : Items) (s : Bytes) (p : Step) (a : PartAt) → payload (a
     × (a ≡ nth-part s (length (item-parts ts)) k)
 array-spot ts s p a e l q =
     let w = key-part s (length (item-parts ts)) _ a (sym q ∙ array-spot-is ts s p e l) in
-    let c : step-place p (count ts) ≡ some (w .0) = rw (count-parts ts) (w .1) in
+    let c : step-place p (count ts) ≡ some (w .0) = rw (count-item-parts ts) (w .1) in
     let v = item-there ts (w .0) (step-below p (count ts) (w .0) c) in
     (w .0, v .0, c, v .1, w .2)
 

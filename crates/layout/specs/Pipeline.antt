@@ -31,6 +31,7 @@ abbrev pub written : ℕ → Answer Tree → Outcome
 written room (gives t) = into room (encode t)
 written room (refused r) = refusal r
 
+-- The record, what stands beside it, and then the edit of the two.
 unfoldable pub on-record : {P : Type 0} → (Bytes → Answer P) → (Tree → P → Answer (Option Tree)) → Bytes → Bytes → ℕ → Outcome
 unfolding read within into _>>=_ require
 on-record beside edit target other room = found room (read target >>= λ t. beside other >>= λ p. edit t p)
