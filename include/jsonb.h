@@ -2,8 +2,8 @@
  * JSONB records for the flight computer: the check and the edits.
  *
  * The functions are those of the static library that tools/library makes, target/staticlib/libjsonb.a, for x86-64 Linux.
- * Each is proved to end, and to answer what Keypath.antt, Concat.antt and Strip.antt of crates/edits/specs and
- * crates/builders/specs/Build.antt define (the check: crates/layout/specs/Read.antt) as a number by crates/edits/specs/C.antt, on
+ * Each is proved to end, and to answer what Path.antt, Concat.antt and Strip.antt of crates/edits/specs and
+ * crates/builders/specs/Build.antt define (the check: crates/layout/specs/Read.antt) as a number by crates/jsonb/specs/C.antt, on
  * every record, path and buffer. They keep nothing between calls, take no memory but the stack, and may be called from several
  * threads at once. 64 KiB of stack serve every call: measured at 64 levels, the deepest that a record can be, delete takes 61,900
  * bytes at the most, strip 33,100 and each of the others 20,000 (tests/c/stack.c).
