@@ -16,12 +16,12 @@ use Rattle.layout.specs.declared.item.Kind.the-variants.{Container}
 use Rattle.layout.proofs.Answers.{gives-inj}
 use Rattle.layout.proofs.Fields.{word-at-be32}
 use Rattle.edits.specs.Delete.{anew}
-use Rattle.layout.specs.Parts.{next-part}
+use Rattle.layout.specs.Parts.{next-part, first-part, parts-end}
 use Rattle.edits.specs.Cut.{Stores}
 use Rattle.edits.specs.Way.{Cuts, Onward, step-at, steps-from, way-behind}
 use Rattle.edits.specs.Manner.{InRuns}
 use Rattle.edits.specs.Remains.{remains-of}
-use Rattle.edits.specs.Runs.{run-entries, run-payloads, run-behind}
+use Rattle.edits.specs.Runs.{Copied}
 use Rattle.layout.specs.declared.parts.PartAt.{PartAt}
 use Rattle.layout.specs.declared.parts.Cursor.{Cursor}
 use Rattle.edits.specs.declared.delete.Way.{Way}
@@ -34,16 +34,28 @@ drop-one : (l : List Part) (q : Part) (r : List Part) (k : ℕ) → length l ≡
 drop-one [] q r k e = rw (← e)
 drop-one (x ∷ l) q r k e = rw (← e) (drop-one l q r (length l) refl)
 
-module _ (s path : Bytes) (n : ℕ) (a : PartAt) (w : Way) (allowance : ℕ) (o : Octets s) (c : Cuts s path w allowance) (h : Onward s path w a)
-    (r : InRuns s n) where
+-- What is known of the container at the entry; and once the way behind the part is found, which the nested call goes.
+pub record PartEntry (s path : Bytes) (n : ℕ) (a : PartAt) (w : Way) (allowance : ℕ) : Type 0 where
+  pub octets : Octets s
+  pub cuts : Cuts s path w allowance
+  pub onward : Onward s path w a
+  pub in-runs : InRuns s n
+
+pub record PartNext (s path : Bytes) (a : PartAt) (w : Way) (next : PartAt) (w′ : Way) : Type 0 where
+  pub next-is : next ≡ next-part s a
+  pub way-is : w′ ≡ way-behind path w
+
+module _ {s path : Bytes} {n : ℕ} {a : PartAt} {w : Way} {allowance : ℕ} (entry : PartEntry s path n a w allowance) where
   pub down : Below s path w a allowance
-  down = below s path w a allowance o c h
+  down = below s path w a allowance (entry .octets) (entry .cuts) (entry .onward)
 
   led : Led s n a (step-at path (w .step))
-  led = runs-led s n a (step-at path (w .step)) o (ap checked (down .contained .reads)) (c .short) r (h .leads)
+  led =
+      runs-led s n a (step-at path (w .step)) (entry .octets) (ap checked (down .contained .reads)) (entry .cuts .short)
+      (entry .in-runs) (entry .onward .leads)
 
   pub here : Part-at s n a
-  here = at-part s n a (parted s n o (led .table)) (led .inside)
+  here = at-part s n a (parted s n (entry .octets) (led .table)) (led .inside)
 
   -- The part that is put in its stead.
   abbrev pub new-part : Part
@@ -71,38 +83,38 @@ module _ (s path : Bytes) (n : ℕ) (a : PartAt) (w : Way) (allowance : ℕ) (o 
       ∙ led .changed (down .after)
       ∙ rw (head-word, lefts, rights, new-is)
 
-  -- The bytes that the nested call is given.
-  pub child-bytes : (next : PartAt) → next ≡ next-part s a → take (next .place - a .place) (drop (a .place) s) ≡ payload (down .value)
-  child-bytes next e =
-      let z : next .place - a .place ≡ length-of (entry-at s (a .index)) = rw e (omega arith) in
-      rw z (down .child)
+  -- The bytes that the nested call is given, and what it stores.
+  module _ {next : PartAt} {w′ : Way} (behind : PartNext s path a w next w′) where
+    abbrev child : Bytes
+    child = take (next .place - a .place) (drop (a .place) s)
 
-  pub child-cuts : (next : PartAt) (w′ : Way) → next ≡ next-part s a → w′ ≡ way-behind path w
-      → Cuts (take (next .place - a .place) (drop (a .place) s)) path w′ (allowance - 1)
-  child-cuts next w′ e ew = rw (child-bytes next e, ew) (down .cuts)
+    child-bytes : child ≡ payload (down .value)
+    child-bytes =
+        let z : next .place - a .place ≡ length-of (entry-at s (a .index)) = rw (behind .next-is) (omega arith) in
+        rw z (down .child)
 
-  module _ (next : PartAt) (w′ : Way) (en : next ≡ next-part s a) (ew : w′ ≡ way-behind path w) where
-    pub child-remains : remains-of (take (next .place - a .place) (drop (a .place) s)) (steps-from path w′) ≡ payload (down .after)
-    child-remains = rw (child-bytes next en, ew) (down .inner)
+    pub child-cuts : Cuts child path w′ (allowance - 1)
+    child-cuts = rw (child-bytes, behind .way-is) (down .cuts)
 
-    pub child-short : (len : ℕ) (b b′ : Bytes) (p : ℕ) → Stores len b b′ p (remains-of (take (next .place - a .place) (drop (a .place) s)) (steps-from path w′))
-        → a .place + len ≤ length s
-    child-short len b b′ p l = omega (arith, l .length-is, ap length child-remains, down .shorter, down .child-within)
+    child-remains : remains-of child (steps-from path w′) ≡ payload (down .after)
+    child-remains = rw (child-bytes, behind .way-is) (down .inner)
 
-    module _ (b b₁ b₂ b₃ b₄ b₅ : Bytes) (at v len e : ℕ) (start at₁ rest end : Cursor) where
-      pub part-anew-stored : v ≡ word-at s 0 → b₁ ≡ patch b at (be32 v) → start .jentry ≡ at + 4 → start .place ≡ at + (4 + 4 * n)
-          → (at₁ ≡ run-behind (record { index = 0; place = 4 + 4 * n }) a start)
-          × (b₂ ≡ patch (patch b₁ (start .jentry) (run-entries s (record { index = 0; place = 4 + 4 * n }) a)) (start .place) (run-payloads s (record { index = 0; place = 4 + 4 * n }) a))
-          → Stores len b₂ b₃ (at₁ .place) (remains-of (take (next .place - a .place) (drop (a .place) s)) (steps-from path w′))
+    module _ {len p : ℕ} {b₂ b₃ : Bytes} (stores : Stores len b₂ b₃ p (remains-of child (steps-from path w′))) where
+      pub child-short : a .place + len ≤ length s
+      child-short = omega (arith, stores .length-is, ap length child-remains, down .shorter, down .child-within)
+
+    module _ (b b₁ b₂ b₃ b₄ b₅ : Bytes) (at v len e : ℕ) (start at₁ rest end : Cursor) (first last : PartAt) where
+      pub part-anew-stored : first ≡ first-part n → last ≡ parts-end s n
+          → v ≡ word-at s 0 → b₁ ≡ patch b at (be32 v) → start .jentry ≡ at + 4 → start .place ≡ at + first .place
+          → Copied s first a start at₁ b₁ b₂
+          → Stores len b₂ b₃ (at₁ .place) (remains-of child (steps-from path w′))
           → e ≡ entry-of (5 % 2 ^ 3) (len % 2 ^ 28) → b₄ ≡ patch b₃ (at₁ .jentry) (be32 e)
           → rest .jentry ≡ at₁ .jentry + 4 → rest .place ≡ at₁ .place + len
-          → (end ≡ run-behind next (record { index = n; place = length s }) rest)
-          × (b₅ ≡ patch (patch b₄ (rest .jentry) (run-entries s next (record { index = n; place = length s }))) (rest .place) (run-payloads s next (record { index = n; place = length s })))
+          → Copied s next last rest end b₄ b₅
           → Stores (end .place - at) b b₅ at (remains-of s (steps-from path w))
-      part-anew-stored ev e₁ sj sp h₁ l ee e₄ rj rp h₂ =
+      part-anew-stored hf hl ev e₁ sj sp h₁ l ee e₄ rj rp h₂ =
           let ln : len ≡ length (payload (down .after)) = l .length-is ∙ ap length child-remains in
-          let small = child-short len b₂ b₃ (at₁ .place) l in
-          let ez : e ≡ entry-word new-part = ee ∙ omega (arith, ln, small, c .short) in
+          let ez : e ≡ entry-word new-part = ee ∙ omega (arith, ln, child-short l, entry .cuts .short) in
           stores-as _ b b₅ at _ _ (remains-anew ∙ ap (λ (x : ℕ). record-of x (here .nth .left ++ (new-part ∷ here .nth .right))) (sym ev))
-          (anew-stored s n a here b b₁ b₂ b₃ b₄ b₅ at v len e start at₁ rest end next new-part e₁ sj sp h₁
-          (stores-as len b₂ b₃ (at₁ .place) _ _ (sym child-remains) l) ez e₄ rj rp en h₂)
+          (anew-stored s n a here b b₁ b₂ b₃ b₄ b₅ at v len e start at₁ rest end next new-part e₁ sj (rw hf at sp) (rw hf at h₁)
+          (stores-as len b₂ b₃ (at₁ .place) _ _ (sym child-remains) l) ez e₄ rj rp (behind .next-is) (rw hl at h₂))

@@ -169,26 +169,24 @@ cuts-shorter s path w allowance o c =
     ))
 
 -- The next step, as the code reads it, and where it leads.
-module _ (s path : Bytes) (w : Way) (e l : ℕ) (piece : Bytes) (he : e ≡ entry-at path (w .step .index)) (hl : l ≡ length-of e)
-    (hp : piece ≡ take l (drop (w .step .place) path)) (r : Spot)
-    (hr : r ≡ spot (header s) s (step (code-key (code-of e) piece) piece)) where
-  leads-is : r ≡ spot (header s) s (step-at path (w .step))
-  leads-is =
-      let q = part-key-at path (w .step .index) (w .step .place) e l piece he hl hp in
-      let b : part-at path (w .step .index) (w .step .place) .bytes ≡ piece = sym (hp ∙ rw (hl, he)) in
-      hr ∙ ap (spot (header s) s) (sym (ap₂ step q b))
+pub leads-is : (s path : Bytes) (w : Way) (e l : ℕ) (piece : Bytes) (r : Spot) → e ≡ entry-at path (w .step .index) → l ≡ length-of e
+    → piece ≡ take l (drop (w .step .place) path) → r ≡ spot (header s) s (step (code-key (code-of e) piece) piece)
+    → r ≡ spot (header s) s (step-at path (w .step))
+leads-is s path w e l piece r he hl hp hr =
+    let q = part-key-at path (w .step .index) (w .step .place) e l piece he hl hp in
+    let b : part-at path (w .step .index) (w .step .place) .bytes ≡ piece = sym (hp ∙ rw (hl, he)) in
+    hr ∙ ap (spot (header s) s) (sym (ap₂ step q b))
 
-  pub leads-on : (a : PartAt) → r ≡ At a → spot (header s) s (step-at path (w .step)) ≡ At a
-  leads-on a q = sym leads-is ∙ q
-
-  pub leads-nowhere : {C : Type 0} (allowance : ℕ) → Octets s → Cuts s path w allowance → r ≡ Nothing → C
-  unfolding finding
-  leads-nowhere allowance o c q =
-      let k = contains allowance s o (c .short) (c .readable) in
-      let k₆ : Contains 64 s (k .0) = contains-more allowance 64 s (k .0) o (c .allowed) (k .1) in
-      let none = spot-none (k .0) s (step-at path (w .step)) (k₆ .bytes) (k₆ .container) (k₆ .short) (sym leads-is ∙ q) in
-      let found : look-up (step-at path (w .step) ∷ steps-from path (way-behind path w)) (k .0) ≡ some (c .finds .0) = rw (steps-cons path w (c .more), k₆ .reads) at (c .finds .1) in
-      nothing-some (rw none at found)
+pub leads-nowhere : {C : Type 0} {s path : Bytes} {w : Way} {allowance : ℕ} → Octets s → Cuts s path w allowance
+    → spot (header s) s (step-at path (w .step)) ≡ Nothing → C
+unfolding finding
+leads-nowhere {C} {s} {path} {w} {allowance} o c q =
+    let k = contains allowance s o (c .short) (c .readable) in
+    let k₆ : Contains 64 s (k .0) = contains-more allowance 64 s (k .0) o (c .allowed) (k .1) in
+    let none = spot-none (k .0) s (step-at path (w .step)) (k₆ .bytes) (k₆ .container) (k₆ .short) q in
+    let found : look-up (step-at path (w .step) ∷ steps-from path (way-behind path w)) (k .0) ≡ some (c .finds .0) =
+    rw (steps-cons path w (c .more), k₆ .reads) at (c .finds .1) in
+    nothing-some (rw none at found)
 
 -- The last step.
 pub last-step : (path : Bytes) (w : Way) → w .step .index + 1 ≡ w .count → steps-from path w ≡ step-at path (w .step) ∷ []
@@ -196,7 +194,7 @@ unfolding parts-at
 last-step path w h = let z : w .count - w .step .index ≡ suc 0 = omega arith in rw z
 
 -- Readable with as many levels as a record has.
-pub whole-levels : (s path : Bytes) (w : Way) (allowance : ℕ) → Octets s → Cuts s path w allowance → checked (nested 64 s) ≡ Readable
-whole-levels s path w allowance o c =
+pub whole-levels : {s path : Bytes} {w : Way} {allowance : ℕ} → Octets s → Cuts s path w allowance → checked (nested 64 s) ≡ Readable
+whole-levels {s} {path} {w} {allowance} o c =
     let k = contains allowance s o (c .short) (c .readable) in
     ap checked (contains-more allowance 64 s (k .0) o (c .allowed) (k .1) .reads)

@@ -187,14 +187,27 @@ name-found s n val p v =
         → take (length-of (entry-at s i)) (drop (4 + 4 * total + lengths s 0 i) s) ≡ b
     name-by s w total i l b r e hi ht f = rw (hi, ht, ← e) (row-bytes w l (name-part b) r f)
 
--- The same object in the code's terms.
-module _ (s path : Bytes) (n : ℕ) (val : PartAt) (w : Way) (allowance : ℕ) (o : Octets s) (c : Cuts s path w allowance) (h : Onward s path w val)
-    (hd : header s ≡ Object n) where
+-- The same object in the code's terms: what is known of it at the entry, and once its members are measured.
+pub record SortedEntry (s path : Bytes) (n : ℕ) (val : PartAt) (w : Way) (allowance : ℕ) : Type 0 where
+  pub octets : Octets s
+  pub cuts : Cuts s path w allowance
+  pub onward : Onward s path w val
+  pub is-object : header s ≡ Object n
+
+pub record Measured (s path : Bytes) (n : ℕ) (val : PartAt) (w : Way) (from : Places) (z : Sizes) (next : Way) (name : Bytes) : Type 0 where
+  pub from-is : from ≡ members-of s n
+  pub sizes-are : z ≡ sizes-of s (in-turn s from n All)
+  pub next-is : next ≡ way-behind path w
+  pub name-is : name ≡ name-of s n (val .index - n)
+
+module _ {s path : Bytes} {n : ℕ} {val : PartAt} {w : Way} {allowance : ℕ} (entry : SortedEntry s path n val w allowance) where
   down : Below s path w val allowance
-  down = below s path w val allowance o c h
+  down = below s path w val allowance (entry .octets) (entry .cuts) (entry .onward)
 
   pub at-value : Value-at s n val (step-at path (w .step))
-  at-value = value-at s n val (step-at path (w .step)) o (ap checked (down .contained .reads)) (c .short) hd (h .leads)
+  at-value =
+      value-at s n val (step-at path (w .step)) (entry .octets) (ap checked (down .contained .reads)) (entry .cuts .short)
+      (entry .is-object) (entry .onward .leads)
 
   pub allows : 1 ≤ allowance
   allows = down .allowed
@@ -211,8 +224,7 @@ module _ (s path : Bytes) (n : ℕ) (val : PartAt) (w : Way) (allowance : ℕ) (
   same-value : down .value ≡ at-value .value
   same-value = some-inj (sym (down .found) ∙ ap (step-into (step-at path (w .step))) same-tree ∙ at-value .found)
 
-  module _ (from : Places) (z : Sizes) (next : Way) (name : Bytes) (ef : from ≡ members-of s n) (ez : z ≡ sizes-of s (in-turn s from n All))
-      (en : next ≡ way-behind path w) (ek : name ≡ name-of s n (val .index - n)) where
+  module _ {from : Places} {z : Sizes} {next : Way} {name : Bytes} (measured : Measured s path n val w from z next name) where
     abbrev steps : List Step
     steps = steps-from path next
 
@@ -223,18 +235,18 @@ module _ (s path : Bytes) (n : ℕ) (val : PartAt) (w : Way) (allowance : ℕ) (
     all = sorted (name-in s) searched
 
     named : name ≡ key
-    named = ek ∙ name-found s n val (step-at path (w .step)) at-value
+    named = measured .name-is ∙ name-found s n val (step-at path (w .step)) at-value
 
     own : Stand (name-in s) (value-in s) own-entry all (in-order ms)
     own =
         stand-sorted (name-in s) (value-in s) own-entry searched ms
-        (rw (kept-all 0 (members-at s s from n), ef) (at-value .stand))
+        (rw (kept-all 0 (members-at s s from n), measured .from-is) (at-value .stand))
 
     finds : find name (in-order ms) ≡ some (down .value)
     finds = rw named (find-in-order key ms ∙ at-value .found ∙ ap some (sym same-value))
 
     inner : remains-of (payload (down .value)) steps ≡ payload (down .after)
-    inner = rw en (down .inner)
+    inner = rw (measured .next-is) (down .inner)
 
     standing : Stand (name-in s) (anew-value s name steps) (anew-entry s name steps) all (change-member (some (down .after)) name (in-order ms))
     standing = stand-anew s name steps (down .value) (down .after) inner (down .made) all (in-order ms) (in-order-rising ms) finds own
@@ -247,10 +259,10 @@ module _ (s path : Bytes) (n : ℕ) (val : PartAt) (w : Way) (allowance : ℕ) (
         ∙ ap (λ (k : Bytes). payload (object (change-member (some (down .after)) k (in-order ms)))) (sym named)
 
     counted : z .count ≡ length all
-    counted = ap (λ (x : Sizes). x .count) ez
+    counted = ap (λ (x : Sizes). x .count) (measured .sizes-are)
 
     keyed : z .keys ≡ length (column (name-in s) all)
-    keyed = ap (λ (x : Sizes). x .keys) ez
+    keyed = ap (λ (x : Sizes). x .keys) (measured .sizes-are)
 
     summed : 4 + 8 * z .count + z .keys + length (column (anew-value s name steps) all) ≡ length (remains-of s (steps-from path w))
     summed =
@@ -264,14 +276,14 @@ module _ (s path : Bytes) (n : ℕ) (val : PartAt) (w : Way) (allowance : ℕ) (
         )
 
     pub anew-room : 4 + 8 * z .count + z .keys + length (column (anew-value s name steps) all) ≤ 65536
-    anew-room = omega (arith, summed, down .remains-shorter, c .short)
+    anew-room = omega (arith, summed, down .remains-shorter, entry .cuts .short)
 
     -- The member whose value is written anew: what the nested call asks.
     pub anew-cuts : (i : ℕ) (m : MemberAt) → nth all i ≡ FoundAt m → same-bytes name (name-in s m) ≡ true → Cuts (value-in s m) path next (allowance - 1)
     anew-cuts i m e g =
         let v : value-in s m ≡ payload (down .value) =
         stand-found s name steps (down .value) (down .after) inner (down .made) all (in-order ms) (in-order-rising ms) finds own i m e g in
-        rw (v, en) (down .cuts)
+        rw (v, measured .next-is) (down .cuts)
 
     pub value-anew-short : (i : ℕ) (m : MemberAt) → nth all i ≡ FoundAt m → length (anew-value s name steps m) < 2 ^ 28
     value-anew-short i m e = omega (arith, anew-room, column-part (anew-value s name steps) all i m e)

@@ -31,6 +31,7 @@ use layout::parts::part_payload;
 use layout::parts::parts_end;
 use layout::parts::payload_at;
 use layout::parts::place_after;
+use layout::parts::places_past;
 use layout::refusal::Refusal;
 use layout::sound::is_rising;
 use layout::util::Header;
@@ -229,14 +230,8 @@ fn put_part_anew(
         × (at ≤ 65536 * (64 - allowance)) ⌝ }
     ensures { λ r. ⌜ Stores r (now (out .entry)) (now (out .exit)) at (remainsOf (now (s .entry)) (stepsFrom (now (path .entry)) way)) ⌝ }
 {
-    let first = PartAt {
-        index: 0,
-        place: HEADER_SIZE + JENTRY_SIZE * total,
-    };
-    let last = PartAt {
-        index: total,
-        place: s.len(),
-    };
+    let first = first_part(total);
+    let last = parts_end(s, total);
     let next = part_behind(s, part);
     let start = Cursor {
         jentry: at + HEADER_SIZE,
@@ -298,12 +293,7 @@ fn put_member_anew(
             allowance,
         );
         put_u32(out, at.val_jentry, encoded(CONTAINER_CODE, len as u32));
-        return Places {
-            key_jentry: at.key_jentry + JENTRY_SIZE,
-            val_jentry: at.val_jentry + JENTRY_SIZE,
-            key: at.key + key.len(),
-            val: at.val + len,
-        };
+        return places_past(at, key.len(), len);
     }
     put_member(s, s, member, out, at)
 }
