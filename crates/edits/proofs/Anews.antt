@@ -1,5 +1,5 @@
 -- A container with one of its parts written anew, as the code stores it.
-use Prim.Native.Nat.{ℕ, suc, _+_, _*_, _-_, _%_, _^_, _≤_}
+use Prim.Native.Nat.{ℕ, suc, _+_, _-_, _%_, _^_, _≤_}
 use native.Mathlib.Omega.{arith}
 use mathlib.Core.Path.{_≡_, refl, ap, sym, _∙_}
 use mathlib.Core.List.{List, [], _∷_, _++_}
@@ -34,28 +34,28 @@ drop-one : (l : List Part) (q : Part) (r : List Part) (k : ℕ) → length l ≡
 drop-one [] q r k e = rw (← e)
 drop-one (x ∷ l) q r k e = rw (← e) (drop-one l q r (length l) refl)
 
--- What is known of the container at the entry; and once the way behind the part is found, which the nested call goes.
-pub record PartEntry (s path : Bytes) (n : ℕ) (a : PartAt) (w : Way) (allowance : ℕ) : Type 0 where
+-- A container to be written anew in runs; and the part and the way behind the part that is written anew.
+pub record RunsAnew (s path : Bytes) (n : ℕ) (a : PartAt) (w : Way) (allowance : ℕ) : Type 0 where
   pub octets : Octets s
   pub cuts : Cuts s path w allowance
   pub onward : Onward s path w a
   pub in-runs : InRuns s n
 
-pub record PartNext (s path : Bytes) (a : PartAt) (w : Way) (next : PartAt) (w′ : Way) : Type 0 where
+pub record Behind (s path : Bytes) (a : PartAt) (w : Way) (next : PartAt) (w′ : Way) : Type 0 where
   pub next-is : next ≡ next-part s a
   pub way-is : w′ ≡ way-behind path w
 
-module _ {s path : Bytes} {n : ℕ} {a : PartAt} {w : Way} {allowance : ℕ} (entry : PartEntry s path n a w allowance) where
+module _ {s path : Bytes} {n : ℕ} {a : PartAt} {w : Way} {allowance : ℕ} (anews : RunsAnew s path n a w allowance) where
   pub down : Below s path w a allowance
-  down = below s path w a allowance (entry .octets) (entry .cuts) (entry .onward)
+  down = below s path w a allowance (anews .octets) (anews .cuts) (anews .onward)
 
   led : Led s n a (step-at path (w .step))
   led =
-      runs-led s n a (step-at path (w .step)) (entry .octets) (ap checked (down .contained .reads)) (entry .cuts .short)
-      (entry .in-runs) (entry .onward .leads)
+      runs-led s n a (step-at path (w .step)) (anews .octets) (ap checked (down .contained .reads)) (anews .cuts .short)
+      (anews .in-runs) (anews .onward .leads)
 
   pub here : Part-at s n a
-  here = at-part s n a (parted s n (entry .octets) (led .table)) (led .inside)
+  here = at-part s n a (parted s n (anews .octets) (led .table)) (led .inside)
 
   -- The part that is put in its stead.
   abbrev pub new-part : Part
@@ -84,7 +84,7 @@ module _ {s path : Bytes} {n : ℕ} {a : PartAt} {w : Way} {allowance : ℕ} (en
       ∙ rw (head-word, lefts, rights, new-is)
 
   -- The bytes that the nested call is given, and what it stores.
-  module _ {next : PartAt} {w′ : Way} (behind : PartNext s path a w next w′) where
+  module _ {next : PartAt} {w′ : Way} (behind : Behind s path a w next w′) where
     abbrev child : Bytes
     child = take (next .place - a .place) (drop (a .place) s)
 
@@ -103,7 +103,7 @@ module _ {s path : Bytes} {n : ℕ} {a : PartAt} {w : Way} {allowance : ℕ} (en
       pub child-short : a .place + len ≤ length s
       child-short = omega (arith, stores .length-is, ap length child-remains, down .shorter, down .child-within)
 
-    module _ (b b₁ b₂ b₃ b₄ b₅ : Bytes) (at v len e : ℕ) (start at₁ rest end : Cursor) (first last : PartAt) where
+    module _ {b b₁ b₂ b₃ b₄ b₅ : Bytes} {at v len e : ℕ} {at₁ end : Cursor} {first last : PartAt} (start rest : Cursor) where
       pub part-anew-stored : first ≡ first-part n → last ≡ parts-end s n
           → v ≡ word-at s 0 → b₁ ≡ patch b at (be32 v) → start .jentry ≡ at + 4 → start .place ≡ at + first .place
           → Copied s first a start at₁ b₁ b₂
@@ -114,7 +114,7 @@ module _ {s path : Bytes} {n : ℕ} {a : PartAt} {w : Way} {allowance : ℕ} (en
           → Stores (end .place - at) b b₅ at (remains-of s (steps-from path w))
       part-anew-stored hf hl ev e₁ sj sp h₁ l ee e₄ rj rp h₂ =
           let ln : len ≡ length (payload (down .after)) = l .length-is ∙ ap length child-remains in
-          let ez : e ≡ entry-word new-part = ee ∙ omega (arith, ln, child-short l, entry .cuts .short) in
-          stores-as _ b b₅ at _ _ (remains-anew ∙ ap (λ (x : ℕ). record-of x (here .nth .left ++ (new-part ∷ here .nth .right))) (sym ev))
+          let ez : e ≡ entry-word new-part = ee ∙ omega (arith, ln, child-short l, anews .cuts .short) in
+          stores-as (remains-anew ∙ ap (λ (x : ℕ). record-of x (here .nth .left ++ (new-part ∷ here .nth .right))) (sym ev))
           (anew-stored s n a here b b₁ b₂ b₃ b₄ b₅ at v len e start at₁ rest end next new-part e₁ sj (rw hf at sp) (rw hf at h₁)
-          (stores-as len b₂ b₃ (at₁ .place) _ _ (sym child-remains) l) ez e₄ rj rp (behind .next-is) (rw hl at h₂))
+          (stores-as (sym child-remains) l) ez e₄ rj rp (behind .next-is) (rw hl at h₂))

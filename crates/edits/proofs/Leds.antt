@@ -91,8 +91,8 @@ no-manner s (Scalar m) e a p q = let z : _≡_ {A = ℕ} 0 1 = cc in let w : ⊥
 no-manner s (Refused r) e a p q = let z : _≡_ {A = ℕ} 0 1 = cc in let w : ⊥ = omega arith in absurd w
 
 -- The same bytes, written in another way.
-pub stores-as : (r : ℕ) (before after : Bytes) (at : ℕ) (b c : Bytes) → c ≡ b → Stores r before after at b → Stores r before after at c
-stores-as r before after at b c e h = rw e h
+pub stores-as : {r : ℕ} {before after : Bytes} {at : ℕ} {b c : Bytes} → c ≡ b → Stores r before after at b → Stores r before after at c
+stores-as e h = rw e h
 
 pub stores-length : {r : ℕ} {before after : Bytes} {at : ℕ} {b : Bytes} → Stores r before after at b → length after ≡ length before
 stores-length h = ap length (h .stored) ∙ length-patch _ _ _

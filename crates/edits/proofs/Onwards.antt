@@ -30,7 +30,7 @@ use Rattle.edits.specs.Remains.{remains-of}
 use Rattle.edits.specs.Way.{step-at, steps-from, way-behind, Cuts, Onward}
 use Rattle.layout.specs.declared.parts.PartAt.{PartAt}
 use Rattle.edits.specs.declared.find.Spot.{Spot}
-use Rattle.edits.specs.declared.find.Spot.the-variants.{Nothing, At}
+use Rattle.edits.specs.declared.find.Spot.the-variants.{Nothing}
 use Rattle.edits.specs.declared.delete.Way.{Way}
 use Rattle.edits.proofs.Deletes.{then-some, some-inj, nothing-some}
 use Rattle.edits.proofs.Kept.{delete-kept, step-inside}

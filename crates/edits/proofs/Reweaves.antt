@@ -62,13 +62,13 @@ module _ {s path name : Bytes} {m : MemberAt} {w : Way} {at : Places} {allowance
     abbrev remains : Bytes
     remains = remains-of (value-in s m) (steps-from path w)
 
-    pub named-stored : (o₀ o₁ o₄ : Bytes) (e : ℕ) (next : Places)
+    pub named-stored : (o₀ : Bytes) {o₁ o₄ : Bytes} {e : ℕ} {next : Places}
         → o₁ ≡ patch o₀ (at .«key_jentry») (be32 (m .key .jentry)) → o₂ ≡ patch o₁ (at .key) key
         → e ≡ entry-of (5 % 2 ^ 3) (len % 2 ^ 28) → o₄ ≡ patch o₃ (at .«val_jentry») (be32 e)
         → next ≡ past at (length key) len
         → (next ≡ behind (name-in s m) (anew-value s name steps m) at)
         × (o₄ ≡ stored (name-in s) (anew-value s name steps) (anew-entry s name steps) o₀ (at .«key_jentry») (at .«val_jentry») (at .key) (at .val) m)
-    named-stored o₀ o₁ o₄ e next e₁ e₂ ee e₄ en =
+    named-stored o₀ {o₁} {o₄} {e} e₁ e₂ ee e₄ en =
         let ln : len ≡ length remains = stores .length-is ∙ ap (λ (v : Bytes). length (remains-of v steps)) (named .value-is) in
         let ez : e ≡ entry-of 5 (length remains) = ee ∙ omega (arith, ln, value-short) in
         let st : o₃ ≡ patch o₂ (at .val) remains = stores .stored ∙ ap (λ (v : Bytes). patch o₂ (at .val) (remains-of v steps)) (named .value-is) in
@@ -82,13 +82,13 @@ module _ {s path name : Bytes} {m : MemberAt} {w : Way} {at : Places} {allowance
         )
 
 -- Where it has another.
-pub other-stored : (s name : Bytes) (m : MemberAt) (at : Places) (p : List Step) (at′ : Places) (o₀ o₁ : Bytes)
+pub other-stored : (s name : Bytes) (m : MemberAt) (at : Places) (p : List Step) (o₀ : Bytes) {o₁ : Bytes} {at′ : Places}
     → same-bytes name (name-in s m) ≡ false
     → (at′ ≡ behind (name-in s m) (value-in s m) at)
     × (o₁ ≡ stored (name-in s) (value-in s) own-entry o₀ (at .«key_jentry») (at .«val_jentry») (at .key) (at .val) m)
     → (at′ ≡ behind (name-in s m) (anew-value s name p m) at)
     × (o₁ ≡ stored (name-in s) (anew-value s name p) (anew-entry s name p) o₀ (at .«key_jentry») (at .«val_jentry») (at .key) (at .val) m)
-other-stored s name m at p at′ o₀ o₁ n h = rw n h
+other-stored s name m at p o₀ n h = rw n h
 
 -- Four stores leave the buffer's length.
 pub stored-length : (o o₁ x y z v : Bytes) (a b c d : ℕ) → o₁ ≡ patch (patch (patch (patch o a x) b y) c z) d v → length o₁ ≡ length o

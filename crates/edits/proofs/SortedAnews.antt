@@ -187,8 +187,8 @@ name-found s n val p v =
         → take (length-of (entry-at s i)) (drop (4 + 4 * total + lengths s 0 i) s) ≡ b
     name-by s w total i l b r e hi ht f = rw (hi, ht, ← e) (row-bytes w l (name-part b) r f)
 
--- The same object in the code's terms: what is known of it at the entry, and once its members are measured.
-pub record SortedEntry (s path : Bytes) (n : ℕ) (val : PartAt) (w : Way) (allowance : ℕ) : Type 0 where
+-- The same object in the code's terms: to be written anew in byte order of the names, and its members measured.
+pub record SortedAnew (s path : Bytes) (n : ℕ) (val : PartAt) (w : Way) (allowance : ℕ) : Type 0 where
   pub octets : Octets s
   pub cuts : Cuts s path w allowance
   pub onward : Onward s path w val
@@ -200,14 +200,14 @@ pub record Measured (s path : Bytes) (n : ℕ) (val : PartAt) (w : Way) (from : 
   pub next-is : next ≡ way-behind path w
   pub name-is : name ≡ name-of s n (val .index - n)
 
-module _ {s path : Bytes} {n : ℕ} {val : PartAt} {w : Way} {allowance : ℕ} (entry : SortedEntry s path n val w allowance) where
+module _ {s path : Bytes} {n : ℕ} {val : PartAt} {w : Way} {allowance : ℕ} (anews : SortedAnew s path n val w allowance) where
   down : Below s path w val allowance
-  down = below s path w val allowance (entry .octets) (entry .cuts) (entry .onward)
+  down = below s path w val allowance (anews .octets) (anews .cuts) (anews .onward)
 
   pub at-value : Value-at s n val (step-at path (w .step))
   at-value =
-      value-at s n val (step-at path (w .step)) (entry .octets) (ap checked (down .contained .reads)) (entry .cuts .short)
-      (entry .is-object) (entry .onward .leads)
+      value-at s n val (step-at path (w .step)) (anews .octets) (ap checked (down .contained .reads)) (anews .cuts .short)
+      (anews .is-object) (anews .onward .leads)
 
   pub allows : 1 ≤ allowance
   allows = down .allowed
@@ -276,27 +276,27 @@ module _ {s path : Bytes} {n : ℕ} {val : PartAt} {w : Way} {allowance : ℕ} (
         )
 
     pub anew-room : 4 + 8 * z .count + z .keys + length (column (anew-value s name steps) all) ≤ 65536
-    anew-room = omega (arith, summed, down .remains-shorter, entry .cuts .short)
+    anew-room = omega (arith, summed, down .remains-shorter, anews .cuts .short)
 
     -- The member whose value is written anew: what the nested call asks.
-    pub anew-cuts : (i : ℕ) (m : MemberAt) → nth all i ≡ FoundAt m → same-bytes name (name-in s m) ≡ true → Cuts (value-in s m) path next (allowance - 1)
-    anew-cuts i m e g =
+    pub anew-cuts : (i : ℕ) {m : MemberAt} → nth all i ≡ FoundAt m → same-bytes name (name-in s m) ≡ true → Cuts (value-in s m) path next (allowance - 1)
+    anew-cuts i {m} e g =
         let v : value-in s m ≡ payload (down .value) =
         stand-found s name steps (down .value) (down .after) inner (down .made) all (in-order ms) (in-order-rising ms) finds own i m e g in
         rw (v, measured .next-is) (down .cuts)
 
-    pub value-anew-short : (i : ℕ) (m : MemberAt) → nth all i ≡ FoundAt m → length (anew-value s name steps m) < 2 ^ 28
-    value-anew-short i m e = omega (arith, anew-room, column-part (anew-value s name steps) all i m e)
+    pub value-anew-short : (i : ℕ) {m : MemberAt} → nth all i ≡ FoundAt m → length (anew-value s name steps m) < 2 ^ 28
+    value-anew-short i {m} e = omega (arith, anew-room, column-part (anew-value s name steps) all i m e)
 
-    pub anew-count : (i : ℕ) (m : MemberAt) → nth all i ≡ FoundAt m → i < z .count
-    anew-count i m e = omega (arith, counted, nth-inside all i m e)
+    pub anew-count : (i : ℕ) {m : MemberAt} → nth all i ≡ FoundAt m → i < z .count
+    anew-count i {m} e = omega (arith, counted, nth-inside all i m e)
 
-    pub anew-remains : (to : Places) (at v end : ℕ) (b b₁ b₂ : Bytes) → to ≡ places-for z at → v ≡ bitOr (2 ^ 30) (z .count)
+    pub anew-remains : {to : Places} {at v end : ℕ} {b b₁ b₂ : Bytes} → to ≡ places-for z at → v ≡ bitOr (2 ^ 30) (z .count)
         → b₁ ≡ patch b at (be32 v)
         → b₂ ≡ woven (name-in s) (anew-value s name steps) (anew-entry s name steps) b₁ (to .«key_jentry») (to .«val_jentry») (to .key) (to .val) all
         → end ≡ to .val + length (column (anew-value s name steps) all)
         → Stores (end - at) b b₂ at (remains-of s (steps-from path w))
-    anew-remains to at v end b b₁ b₂ et ev e₁ e₂ ee =
+    anew-remains {to} {at} {v} {end} {b} {b₁} {b₂} et ev e₁ e₂ ee =
         let q : v ≡ 2 ^ 30 + z .count = ev ∙ object-word (z .count) (omega (arith, anew-room)) in
         let tv : to .val ≡ at + 4 + 4 * z .count + 4 * z .count + z .keys = ap (λ (x : Places). x .val) et in
         rw remains-is (record {

@@ -25,9 +25,9 @@ use Rattle.edits.proofs.Runs.{behind-run}
 use Rattle.edits.proofs.Sorteds.{same-places}
 use Rattle.edits.proofs.Onwards.{leads-is, leads-nowhere, last-step, whole-levels}
 use Rattle.edits.proofs.Leds.{manner-array, manner-object, manner-search, no-manner, stores-as, stores-length}
-use Rattle.edits.proofs.Anews.{PartEntry, PartNext, here, down, child-cuts, child-short, part-anew-stored}
+use Rattle.edits.proofs.Anews.{RunsAnew, Behind, here, down, child-cuts, child-short, part-anew-stored}
 use Rattle.edits.proofs.Reweaves.{is-named, Named, value-cuts, value-short, named-stored, other-stored, stored-length}
-use Rattle.edits.proofs.SortedAnews.{SortedEntry, Measured, at-value, allows, anew-room, anew-count, anew-cuts}
+use Rattle.edits.proofs.SortedAnews.{SortedAnew, Measured, at-value, allows, anew-room, anew-count, anew-cuts}
 use Rattle.edits.proofs.SortedAnews.{value-anew-short, anew-remains}
 use borrow.Author.Needs.{needs}
 use borrow.Fn.Kinds.{In, Out}
@@ -347,7 +347,7 @@ put-deleted-returns-2 t c =
     let last = stored .before .before in
     let part = to-part t (last .before) in
     let start = spot-start t (to-spot t part) in
-    stores-as _ _ _ _ _ _
+    stores-as
     (ap (remains-of (start .args .s .now)) (last-step (start .args .path .now) (start .args .way) (last .if1 .taken)))
     (stored .put-without .ensures _ (part-is t part))
 
@@ -514,7 +514,7 @@ put-member-anew-returns t c =
     let stored = to-value-stored t entry in
     let value = to-value t stored in
     let copied = to-copy t value in
-    named-stored (named t value) (stored .put-deleted .ensures) _ _ _ _ _
+    named-stored (named t value) (stored .put-deleted .ensures) _
     (to-name-word t copied .put-u32 .ensures)
     (copied .copy .ensures)
     (entry .encoded .ensures)
@@ -534,7 +534,7 @@ put-member-anew-returns-2 t c =
     let else = stored .before .before in
     let name = else .before .before in
     let start = name-start t name in
-    other-stored (start .args .s .now) (start .args .name .now) (start .args .member) (start .args .at) _ _ _ _
+    other-stored (start .args .s .now) (start .args .name .now) (start .args .member) (start .args .at) _ _
     (is-named (start .args .s .now) (start .args .name .now) (start .args .member) (name .payload-at .ensures) (else .before .is-same-bytes .ensures)
     (else .if1 .left))
     (stored .put-member .ensures)
@@ -595,10 +595,10 @@ abbrev rest-stored : (t : ℕ) → Part put-part-anew-lts.After-struct-known2 t 
 rest-stored t c = encoded-stored t (rest-word t c .before)
 
 -- What is known at the entry, of the way behind, and of what the nested call stored.
-part-entry : (t : ℕ) (c : Part-entry t)
-    → PartEntry (c .before .args .s .now) (c .before .args .path .now) (c .before .args .total) (c .before .args .part) (c .before .args .way)
+runs-anew : (t : ℕ) (c : Part-entry t)
+    → RunsAnew (c .before .args .s .now) (c .before .args .path .now) (c .before .args .total) (c .before .args .part) (c .before .args .way)
     (c .before .args .allowance)
-part-entry t c =
+runs-anew t c =
     record {
       octets = octets-of (c .before .args .s .now) (λ i. omega (arith, c .shared-slice-known .given i));
       cuts = c .before .pre .1 .0;
@@ -607,18 +607,18 @@ part-entry t c =
     }
 
 known : (t : ℕ) (c : Part-entry t) → Part-at (c .before .args .s .now) (c .before .args .total) (c .before .args .part)
-known t c = here (part-entry t c)
+known t c = here (runs-anew t c)
 
-part-next : (t : ℕ) (c : Part-way t)
-    → PartNext (way-start t c .args .s .now) (way-start t c .args .path .now) (way-start t c .args .part) (way-start t c .args .way)
+behind-part : (t : ℕ) (c : Part-way t)
+    → Behind (way-start t c .args .s .now) (way-start t c .args .path .now) (way-start t c .args .part) (way-start t c .args .way)
     (way-next t c .part-behind .result) (c .way-behind .result)
-part-next t c = record { next-is = way-next t c .part-behind .ensures; way-is = c .way-behind .ensures }
+behind-part t c = record { next-is = way-next t c .part-behind .ensures; way-is = c .way-behind .ensures }
 
 stored-short : (t : ℕ) (c : Part-stored t)
     → way-start t (stored-way t c) .args .part .place + c .put-deleted .result ≤ length (way-start t (stored-way t c) .args .s .now)
 stored-short t c =
     let way = stored-way t c in
-    child-short (part-entry t (run-entry t (way-run t way))) (part-next t way) (c .put-deleted .ensures)
+    child-short (runs-anew t (run-entry t (way-run t way))) (behind-part t way) (c .put-deleted .ensures)
 
 put-part-anew-first-part-requires : (t : ℕ) → Part put-part-anew-lts.Need-first-part-requires t
 put-part-anew-first-part-requires t c κs = omega (arith, known t (c .before .before))
@@ -675,17 +675,17 @@ put-part-anew-way-behind-requires t c κs = omega (arith, run-entry t (c .before
 put-part-anew-sub-put-deleted-2 : (t : ℕ) → Part put-part-anew-lts.Need-sub-put-deleted-2 t
 put-part-anew-sub-put-deleted-2 t c =
     let entry = run-entry t (way-run t (c .before)) in
-    omega (arith, down (part-entry t entry) .allowed)
+    omega (arith, down (runs-anew t entry) .allowed)
 
 put-part-anew-put-deleted-requires : (t : ℕ) → Part put-part-anew-lts.Need-put-deleted-requires t
 put-part-anew-put-deleted-requires t c κs =
     let way = c .before in
     let run = way-run t way in
     let entry = run-entry t run in
-    let allowed = down (part-entry t entry) .allowed in (
+    let allowed = down (runs-anew t entry) .allowed in (
       omega (arith, allowed, entry .before .pre .0),
       (
-        child-cuts (part-entry t entry) (part-next t way),
+        child-cuts (runs-anew t entry) (behind-part t way),
         omega (arith, allowed, known t entry, entry .before .pre .1, part-run t run),
       ),
     )
@@ -741,7 +741,7 @@ put-part-anew-returns t c =
     let run = way-run t way in
     let word = run-word t run in
     let next = way-next t way in
-    part-anew-stored (part-entry t (run-entry t run)) (part-next t way) _ _ _ _ _ _ _ _ _ _ _ _ _ _ _ _
+    part-anew-stored (runs-anew t (run-entry t run)) (behind-part t way) _ _
     (next .before .before .first-part .ensures)
     (next .before .parts-end .ensures)
     (word .before .read-u32 .ensures)
@@ -800,10 +800,10 @@ abbrev member-loop : (t : ℕ) → Sorted-member t → Sorted-loop t
 member-loop t c = c .before .before .before .before
 
 -- What is known at the entry, and once the members are measured.
-entered : (t : ℕ) (c : Sorted-entry t)
-    → SortedEntry (c .before .args .s .now) (c .before .args .path .now) (c .before .args .n) (c .before .args .val) (c .before .args .way)
+sorted-anew : (t : ℕ) (c : Sorted-entry t)
+    → SortedAnew (c .before .args .s .now) (c .before .args .path .now) (c .before .args .n) (c .before .args .val) (c .before .args .way)
     (c .before .args .allowance)
-entered t c =
+sorted-anew t c =
     record {
       octets = octets-of (c .before .args .s .now) (λ i. omega (arith, c .shared-slice-known .given i));
       cuts = c .before .pre .1 .0;
@@ -824,13 +824,13 @@ measured t c =
     }
 
 put-sorted-anew-members-of-requires : (t : ℕ) → Sorted put-sorted-anew-lts.Need-members-of-requires t
-put-sorted-anew-members-of-requires t c κs = omega (arith, at-value (entered t (c .before .before)))
+put-sorted-anew-members-of-requires t c κs = omega (arith, at-value (sorted-anew t (c .before .before)))
 
 put-sorted-anew-sub-name-of : (t : ℕ) → Sorted put-sorted-anew-lts.Need-sub-name-of t
-put-sorted-anew-sub-name-of t c = omega (arith, at-value (entered t (members-entry t (c .before))))
+put-sorted-anew-sub-name-of t c = omega (arith, at-value (sorted-anew t (members-entry t (c .before))))
 
 put-sorted-anew-name-of-requires : (t : ℕ) → Sorted put-sorted-anew-lts.Need-name-of-requires t
-put-sorted-anew-name-of-requires t c κs = omega (arith, at-value (entered t (members-entry t (c .before))))
+put-sorted-anew-name-of-requires t c κs = omega (arith, at-value (sorted-anew t (members-entry t (c .before))))
 
 put-sorted-anew-way-behind-requires : (t : ℕ) → Sorted put-sorted-anew-lts.Need-way-behind-requires t
 put-sorted-anew-way-behind-requires t c κs = omega (arith, members-entry t (c .before .before) .before .pre .1 .0)
@@ -838,17 +838,17 @@ put-sorted-anew-way-behind-requires t c κs = omega (arith, members-entry t (c .
 put-sorted-anew-measure-members-requires : (t : ℕ) → Sorted put-sorted-anew-lts.Need-measure-members-requires t
 put-sorted-anew-measure-members-requires t c κs =
     let members = c .before .before .before in
-    omega (arith, at-value (entered t (members-entry t members)), same-places (members .members-of .ensures))
+    omega (arith, at-value (sorted-anew t (members-entry t members)), same-places (members .members-of .ensures))
 
 put-sorted-anew-places-for-requires : (t : ℕ) → Sorted put-sorted-anew-lts.Need-places-for-requires t
 put-sorted-anew-places-for-requires t c κs =
     let entry = measured-entry t c in
-    omega (arith, anew-room (entered t entry) (measured t c), entry .before .pre .1 .3, entry .before .pre .1 .0 .allowed)
+    omega (arith, anew-room (sorted-anew t entry) (measured t c), entry .before .pre .1 .3, entry .before .pre .1 .0 .allowed)
 
 put-sorted-anew-cast-put-u32 : (t : ℕ) → Sorted put-sorted-anew-lts.Need-cast-put-u32 t
 put-sorted-anew-cast-put-u32 t c =
     let sizes = c .before .before .before in
-    omega (arith, anew-room (entered t (measured-entry t sizes)) (measured t sizes))
+    omega (arith, anew-room (sorted-anew t (measured-entry t sizes)) (measured t sizes))
 
 put-sorted-anew-loop-holds : (t : ℕ) → Sorted put-sorted-anew-lts.Need-loop-holds t
 put-sorted-anew-loop-holds t c = begins _ _ _ _ _ _ _
@@ -856,7 +856,7 @@ put-sorted-anew-loop-holds t c = begins _ _ _ _ _ _ _
 put-sorted-anew-next-member-requires : (t : ℕ) → Sorted put-sorted-anew-lts.Need-next-member-requires t
 put-sorted-anew-next-member-requires t c κs =
     let sizes = loop-measured t (c .before) in
-    omega (arith, at-value (entered t (measured-entry t sizes)), same-places (to-members t sizes .members-of .ensures))
+    omega (arith, at-value (sorted-anew t (measured-entry t sizes)), same-places (to-members t sizes .members-of .ensures))
 
 put-sorted-anew-sub-result : (t : ℕ) → Sorted put-sorted-anew-lts.Need-sub-result t
 put-sorted-anew-sub-result t c =
@@ -872,7 +872,7 @@ put-sorted-anew-returns t c =
     let places = loop-places t loop in
     let sizes = places .before in
     let entry = measured-entry t sizes in
-    anew-remains (entered t entry) (measured t sizes) _ _ _ _ _ _ _
+    anew-remains (sorted-anew t entry) (measured t sizes)
     (places .places-for .ensures)
     refl
     (loop-word t loop .put-u32 .ensures)
@@ -884,7 +884,7 @@ put-sorted-anew-same-length : (t : ℕ) → Sorted put-sorted-anew-lts.Need-same
 put-sorted-anew-same-length t c = stores-length (put-sorted-anew-returns t c)
 
 put-sorted-anew-sub-put-member-anew : (t : ℕ) → Sorted put-sorted-anew-lts.Need-sub-put-member-anew t
-put-sorted-anew-sub-put-member-anew t c = omega (arith, allows (entered t (loop-entry t (member-loop t (c .before .before)))))
+put-sorted-anew-sub-put-member-anew t c = omega (arith, allows (sorted-anew t (loop-entry t (member-loop t (c .before .before)))))
 
 put-sorted-anew-put-member-anew-requires : (t : ℕ) → Sorted put-sorted-anew-lts.Need-put-member-anew-requires t
 put-sorted-anew-put-member-anew-requires t c κs =
@@ -892,23 +892,23 @@ put-sorted-anew-put-member-anew-requires t c κs =
     let found = member .before .before in
     let loop = member-loop t member in
     let entry = loop-entry t loop in
-    let known = entered t entry in
+    let known = sorted-anew t entry in
     let sizes = measured t (loop-measured t loop) in
     let inv = loop .loop .inv in
     let nth = sought-nth (name-in (entry .before .args .s .now)) _ _ _ (inv .sought) _ (found .next-member .ensures) _ (member .member .given .1) in
-    let to = same-places (loop-places t loop .places-for .ensures) in
-    let count = anew-count known sizes _ _ nth in
+    let pre = entry .before .pre .1 in
+    let places = same-places (loop-places t loop .places-for .ensures) in
+    let count = anew-count known sizes _ nth in
     let room = anew-room known sizes in
-    let allowed = allows known in
-    let pre = entry .before .pre .1 in (
+    let allowed = allows known in (
       omega (arith, allowed, entry .before .pre .0),
       (
-        omega (arith, inv, to, count, room, pre .3, pre .0 .allowed),
-        omega (arith, inv, to, count, room, pre .3, pre .0 .allowed),
-        omega (arith, inv, to, count, room, pre .3, pre .0 .allowed),
-        omega (arith, inv, to, count),
-        omega (arith, inv, to, count),
-        λ q. (anew-cuts known sizes _ _ nth q, omega (arith, inv, to, room, allowed, pre .3, pre .0 .allowed)),
+        omega (arith, inv, places, count, room, pre .3, pre .0 .allowed),
+        omega (arith, inv, places, count, room, pre .3, pre .0 .allowed),
+        omega (arith, inv, places, count, room, pre .3, pre .0 .allowed),
+        omega (arith, inv, places, count),
+        omega (arith, inv, places, count),
+        λ q. (anew-cuts known sizes _ nth q, omega (arith, inv, places, room, allowed, pre .3, pre .0 .allowed)),
       ),
     )
 
@@ -917,7 +917,7 @@ put-sorted-anew-add-i t c =
     let stored = c .before .before .before in
     let member = stored .before .before .before in
     let turn = member .before .before .before in
-    omega (arith, turn .loop-test .taken, at-value (entered t (loop-entry t (turn .before))))
+    omega (arith, turn .loop-test .taken, at-value (sorted-anew t (loop-entry t (turn .before))))
 
 put-sorted-anew-loop-again : (t : ℕ) → Sorted put-sorted-anew-lts.Need-loop-again t
 put-sorted-anew-loop-again t c =
@@ -932,7 +932,7 @@ put-sorted-anew-loop-again t c =
     (stored .put-member-anew .ensures)
     (c .payload-at .ensures)
     (bytes-short (entry .before .args .s .now) (member .member .given .0 .0 .key))
-    (value-anew-short (entered t entry) (measured t (loop-measured t loop)) _ _ nth)
+    (value-anew-short (sorted-anew t entry) (measured t (loop-measured t loop)) _ nth)
 
 put-sorted-anew-sub-result-2 : (t : ℕ) → Sorted put-sorted-anew-lts.Need-sub-result-2 t
 put-sorted-anew-sub-result-2 t c =
@@ -946,7 +946,7 @@ put-sorted-anew-returns-2 t c =
     let places = loop-places t loop in
     let sizes = places .before in
     let entry = measured-entry t sizes in
-    anew-remains (entered t entry) (measured t sizes) _ _ _ _ _ _ _
+    anew-remains (sorted-anew t entry) (measured t sizes)
     (places .places-for .ensures)
     refl
     (loop-word t loop .put-u32 .ensures)

@@ -70,7 +70,7 @@ returns c = λ p q.
     let m = manner₁ told in
     let a = start m .args in
     let pre = start m .pre in
-    stores-as _ _ _ _ _ _ (array-led (a .s .now) _ (a .part) p (octets m) (pre .0) (pre .1) (an-array told) q .1)
+    stores-as (array-led (a .s .now) _ (a .part) p (octets m) (pre .0) (pre .1) (an-array told) q .1)
     (put .put-array-without .ensures)
 
 returns-2 : tie.Need-returns-2
@@ -81,7 +81,7 @@ returns-2 c = λ p q.
     let a = start m .args in
     let pre = start m .pre in
     let is = a-rising-object told in
-    stores-as _ _ _ _ _ _ (rising-led (a .s .now) _ (a .part) p (octets m) (pre .0) (pre .1) (is .0) (is .1) q .2)
+    stores-as (rising-led (a .s .now) _ (a .part) p (octets m) (pre .0) (pre .1) (is .0) (is .1) q .2)
     (put .put-object-without .ensures)
 
 returns-3 : tie.Need-returns-3
