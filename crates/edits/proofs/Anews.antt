@@ -45,17 +45,17 @@ pub record Behind (s path : Bytes) (a : PartAt) (w : Way) (next : PartAt) (w′ 
   pub next-is : next ≡ next-part s a
   pub way-is : w′ ≡ way-behind path w
 
-module _ {s path : Bytes} {n : ℕ} {a : PartAt} {w : Way} {allowance : ℕ} (anews : RunsAnew s path n a w allowance) where
+module _ {s path : Bytes} {n : ℕ} {a : PartAt} {w : Way} {allowance : ℕ} (given : RunsAnew s path n a w allowance) where
   pub down : Below s path w a allowance
-  down = below s path w a allowance (anews .octets) (anews .cuts) (anews .onward)
+  down = below s path w a allowance (given .octets) (given .cuts) (given .onward)
 
   led : Led s n a (step-at path (w .step))
   led =
-      runs-led s n a (step-at path (w .step)) (anews .octets) (ap checked (down .contained .reads)) (anews .cuts .short)
-      (anews .in-runs) (anews .onward .leads)
+      runs-led s n a (step-at path (w .step)) (given .octets) (ap checked (down .contained .reads)) (given .cuts .short)
+      (given .in-runs) (given .onward .leads)
 
   pub here : Part-at s n a
-  here = at-part s n a (parted s n (anews .octets) (led .table)) (led .inside)
+  here = at-part s n a (parted s n (given .octets) (led .table)) (led .inside)
 
   -- The part that is put in its stead.
   abbrev pub new-part : Part
@@ -114,7 +114,7 @@ module _ {s path : Bytes} {n : ℕ} {a : PartAt} {w : Way} {allowance : ℕ} (an
           → Stores (end .place - at) b b₅ at (remains-of s (steps-from path w))
       part-anew-stored hf hl ev e₁ sj sp h₁ l ee e₄ rj rp h₂ =
           let ln : len ≡ length (payload (down .after)) = l .length-is ∙ ap length child-remains in
-          let ez : e ≡ entry-word new-part = ee ∙ omega (arith, ln, child-short l, anews .cuts .short) in
+          let ez : e ≡ entry-word new-part = ee ∙ omega (arith, ln, child-short l, given .cuts .short) in
           stores-as (remains-anew ∙ ap (λ (x : ℕ). record-of x (here .nth .left ++ (new-part ∷ here .nth .right))) (sym ev))
           (anew-stored s n a here b b₁ b₂ b₃ b₄ b₅ at v len e start at₁ rest end next new-part e₁ sj (rw hf at sp) (rw hf at h₁)
           (stores-as (sym child-remains) l) ez e₄ rj rp (behind .next-is) (rw hl at h₂))

@@ -168,17 +168,20 @@ cuts-shorter s path w allowance o c =
       ap length (k₆ .bytes),
     ))
 
--- The next step, as the code reads it, and where it leads.
+-- Where the next step leads; the same as the code reads the step.
+abbrev pub next-spot : Bytes → Bytes → Way → Spot
+next-spot s path w = spot (header s) s (step-at path (w .step))
+
 pub leads-is : (s path : Bytes) (w : Way) (e l : ℕ) (piece : Bytes) (r : Spot) → e ≡ entry-at path (w .step .index) → l ≡ length-of e
     → piece ≡ take l (drop (w .step .place) path) → r ≡ spot (header s) s (step (code-key (code-of e) piece) piece)
-    → r ≡ spot (header s) s (step-at path (w .step))
+    → r ≡ next-spot s path w
 leads-is s path w e l piece r he hl hp hr =
     let q = part-key-at path (w .step .index) (w .step .place) e l piece he hl hp in
     let b : part-at path (w .step .index) (w .step .place) .bytes ≡ piece = sym (hp ∙ rw (hl, he)) in
     hr ∙ ap (spot (header s) s) (sym (ap₂ step q b))
 
 pub leads-nowhere : {C : Type 0} {s path : Bytes} {w : Way} {allowance : ℕ} → Octets s → Cuts s path w allowance
-    → spot (header s) s (step-at path (w .step)) ≡ Nothing → C
+    → next-spot s path w ≡ Nothing → C
 unfolding finding
 leads-nowhere {C} {s} {path} {w} {allowance} o c q =
     let k = contains allowance s o (c .short) (c .readable) in

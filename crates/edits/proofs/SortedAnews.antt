@@ -200,14 +200,14 @@ pub record Measured (s path : Bytes) (n : ℕ) (val : PartAt) (w : Way) (from : 
   pub next-is : next ≡ way-behind path w
   pub name-is : name ≡ name-of s n (val .index - n)
 
-module _ {s path : Bytes} {n : ℕ} {val : PartAt} {w : Way} {allowance : ℕ} (anews : SortedAnew s path n val w allowance) where
+module _ {s path : Bytes} {n : ℕ} {val : PartAt} {w : Way} {allowance : ℕ} (given : SortedAnew s path n val w allowance) where
   down : Below s path w val allowance
-  down = below s path w val allowance (anews .octets) (anews .cuts) (anews .onward)
+  down = below s path w val allowance (given .octets) (given .cuts) (given .onward)
 
   pub at-value : Value-at s n val (step-at path (w .step))
   at-value =
-      value-at s n val (step-at path (w .step)) (anews .octets) (ap checked (down .contained .reads)) (anews .cuts .short)
-      (anews .is-object) (anews .onward .leads)
+      value-at s n val (step-at path (w .step)) (given .octets) (ap checked (down .contained .reads)) (given .cuts .short)
+      (given .is-object) (given .onward .leads)
 
   pub allows : 1 ≤ allowance
   allows = down .allowed
@@ -276,7 +276,7 @@ module _ {s path : Bytes} {n : ℕ} {val : PartAt} {w : Way} {allowance : ℕ} (
         )
 
     pub anew-room : 4 + 8 * z .count + z .keys + length (column (anew-value s name steps) all) ≤ 65536
-    anew-room = omega (arith, summed, down .remains-shorter, anews .cuts .short)
+    anew-room = omega (arith, summed, down .remains-shorter, given .cuts .short)
 
     -- The member whose value is written anew: what the nested call asks.
     pub anew-cuts : (i : ℕ) {m : MemberAt} → nth all i ≡ FoundAt m → same-bytes name (name-in s m) ≡ true → Cuts (value-in s m) path next (allowance - 1)
