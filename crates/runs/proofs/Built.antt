@@ -16,7 +16,7 @@ use Rattle.layout.proofs.Answers.{from-bind, from-require, gives-inj, refused-g
 use Rattle.layout.proofs.Decoding.{names-pair}
 use Rattle.builders.specs.Order.{in-order, distinct}
 use Rattle.builders.specs.Build.{texts-of, count, build}
-use Rattle.builders.proofs.Builds.{count-parts}
+use Rattle.builders.proofs.Builds.{count-item-parts}
 use Rattle.builders.proofs.Results.{is-true, count-texts}
 use Rattle.runs.specs.Plain.{repeats, array-items, string-text, in-turn, plain-build}
 use Rattle.runs.proofs.Named.{repeats-is}
@@ -98,7 +98,7 @@ unfolding build _>>=_ require
 build-turn ts us =
     rw (← pairs-in-turn ts us)
     (go (texts-of ts) (eqb (count ts) (count us))
-    (λ ns e c. names-pair ns us (count-texts ts ns e ∙ eqb→eq (count ts) (count us) c ∙ count-parts us)))
+    (λ ns e c. names-pair ns us (count-texts ts ns e ∙ eqb→eq (count ts) (count us) c ∙ count-item-parts us)))
   where
     go : (a : Answer (List Bytes)) (c : Bool) → ((ns : List Bytes) → a ≡ gives ns → T c → names (pair ns us) ≡ ns)
         → (a >>= λ ns. require c Kind >>= λ _. require (distinct ns) Repeated >>= λ _. gives (object (in-order (pair ns us)))) ≡ (pairs a c us >>= built)
