@@ -1,6 +1,6 @@
 -- A container in which a step leads to a part: what is left of it where the part goes, and where it is written anew.
 use Rattle.layout.specs.Parts.{rises}
-use Prim.Native.Nat.{ℕ, suc, _+_, _*_, _-_, _^_, _≤_, _<_}
+use Prim.Native.Nat.{ℕ, suc, _+_, _-_, _^_, _≤_, _<_}
 use native.Mathlib.Omega.{arith}
 use native.Mathlib.Numerals.{add-one}
 use mathlib.Core.Path.{_≡_, refl, ap, ap₂, sym, _∙_}
@@ -15,7 +15,6 @@ use Rattle.layout.specs.Tree.{Tree, array, object, Items, Members, names}
 use Rattle.layout.specs.Encode.{Part, payload, part, record-of, item-parts, name-part, name-parts, member-parts}
 use Rattle.layout.specs.Read.{header, nested}
 use Rattle.layout.specs.Check.{checked}
-use Rattle.layout.specs.Place.{parts-at, rising-parts}
 use Rattle.layout.specs.Sound.{Rising}
 use Rattle.layout.specs.declared.check.Check.the-variants.{Readable}
 use Rattle.layout.specs.declared.util.Header.{Header}

@@ -14,7 +14,7 @@ use Rattle.layout.specs.Entry.{length-of, entry-at, lengths}
 use Rattle.layout.specs.Tree.{Tree, object, Members, empty, member, names, kind}
 use Rattle.layout.specs.Encode.{Part, name-part, name-parts, member-parts, payload, record-of}
 use Rattle.layout.specs.Order.{order, is-equal, same-bytes}
-use Rattle.layout.specs.Sound.{Rising, _≺_}
+use Rattle.layout.specs.Sound.{Rising}
 use Rattle.layout.specs.Read.{header}
 use Rattle.layout.specs.Check.{checked}
 use Rattle.layout.specs.Patch.{patch}
