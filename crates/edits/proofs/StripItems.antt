@@ -20,13 +20,14 @@ use Rattle.layout.proofs.Level.{AllFit}
 use Rattle.layout.proofs.Patches.{length-patch}
 use Rattle.layout.proofs.Decoding.{payloads-append}
 use Rattle.layout.proofs.Encoding.{array-fits}
+use Rattle.layout.proofs.Pieces.{same-part}
 use Rattle.layout.proofs.Readables.{record-of-length, size-payload}
 use Rattle.builders.specs.Build.{join}
 use Rattle.layout.specs.Parts.{bytes-at}
 use Rattle.layout.specs.declared.parts.ItemAt.{ItemAt}
 use Rattle.builders.proofs.Joins.{join-parts}
 use Rattle.builders.proofs.Knowns.{an-array}
-use Rattle.layout.specs.Parts.{next-part}
+use Rattle.layout.specs.Parts.{first-part, next-part}
 use Rattle.edits.specs.Strip.{stripped, stripped-items, unrepeated, unrepeated-items}
 use Rattle.edits.specs.Stripping.{stripped-of, unrepeated-of, Strippable, strip-item, strip-entry, unrepeated-item, Strips}
 use Rattle.layout.specs.declared.parts.PartAt.{PartAt}
@@ -110,6 +111,10 @@ one-stored o out out₁ e k xs q j p v b eo ej ep ev eb e₁ h =
         ap (λ (x : Bytes). patch (patch l c x) d (q .bytes)) (sym (append-nil (be32 (entry-word q))))
         ∙ ap (λ (x : Bytes). patch (patch l c (entries (q ∷ []))) d x) (sym (append-nil (q .bytes)))
 
+-- The payload of an item, by its entry.
+bytes-by : (s b : Bytes) (x : ItemAt) (e : ℕ) → x .jentry ≡ e → take (length-of e) (drop (x .place) s) ≡ b → bytes-at s x ≡ b
+bytes-by s b x e he h = rw he h
+
 -- The array, by its bytes.
 pub record Array-at (s : Bytes) (n a : ℕ) : Type 0 where
   pub items : Items
@@ -124,8 +129,8 @@ pub record Array-at (s : Bytes) (n a : ℕ) : Type 0 where
   pub stripped-is : stripped-of s ≡ payload (array (stripped-items items))
   pub unrepeated-is : unrepeated-of s ≡ unrepeated-items items
 
-pub array-at : (s : Bytes) (n a : ℕ) → Octets s → Strippable s a → header s ≡ Array n → Array-at s n a
-array-at s n a o st h =
+pub array-at : {s : Bytes} {n a : ℕ} → Octets s → Strippable s a → header s ≡ Array n → Array-at s n a
+array-at {s} {n} {a} o st h =
     let b = stripped-tree s a o st in
     let w = an-array (b .tree) n (sym (b .contained .head) ∙ h) in
     let k : Contains a s (array (w .0)) = rw (w .1) at (b .inside) in
@@ -156,213 +161,218 @@ pub record Storing (s : Bytes) (n a at : ℕ) (w : Array-at s n a) (o out : Byte
   pub stored : out ≡ laid o (at + 4) (at + (4 + 4 * n)) (item-parts (stripped-items done))
   pub as-long : length out ≡ length o
 
-module _ (s : Bytes) (n a at : ℕ) (w : Array-at s n a) (o : Bytes) where
-  pub storing-starts : Storing s n a at w o o (record { jentry = at + 4; place = at + (4 + 4 * n) }) (record { index = 0; place = 4 + 4 * n })
-  unfolding patch
-  storing-starts =
-      record {
-        done = none;
-        rest = w .items;
-        split = refl;
-        index = refl;
-        place = omega arith;
-        jentry = omega arith;
-        spot = omega arith;
-        fine = refl;
-        stored = refl;
-        as-long = refl;
-      }
+pub storing-starts : {s : Bytes} {n a : ℕ} (w : Array-at s n a) (at : ℕ) (o : Bytes) {p : PartAt} → p ≡ first-part n
+    → Storing s n a at w o o (record { jentry = at + 4; place = at + p .place }) p
+unfolding patch
+storing-starts w at o e =
+    let first = same-part e in
+    record {
+      done = none;
+      rest = w .items;
+      split = refl;
+      index = first .0;
+      place = omega (arith, first .1);
+      jentry = omega arith;
+      spot = omega (arith, first .1);
+      fine = refl;
+      stored = refl;
+      as-long = refl;
+    }
 
-  module _ (out : Bytes) (here : Cursor) (p : PartAt) (now : Storing s n a at w o out here p) where
-    -- How much was stored.
-    pub storing-room : (p .index ≤ n) × (here .place ≤ at + 65536) × (here .jentry ≡ at + 4 + 4 * p .index) × (at + 4 + 4 * n ≤ here .place)
-        × (p .place ≤ 65536) × (n < 2 ^ 20)
-    storing-room =
-        let all : length (payloads (item-parts (w .items))) ≡ length (payloads (item-parts (now .done))) + length (payloads (item-parts (now .rest))) =
-        ap (λ (ts : Items). length (payloads (item-parts ts))) (sym (now .split))
-        ∙ ap (λ (l : List Part). length (payloads l)) (join-parts (now .done) (now .rest))
-        ∙ ap length (payloads-append (item-parts (now .done)) (item-parts (now .rest)))
-        ∙ length-append (payloads (item-parts (now .done))) (payloads (item-parts (now .rest))) in
-        let few : n ≡ length (item-parts (now .done)) + length (item-parts (now .rest)) =
-        w .count
-        ∙ ap (λ (ts : Items). length (item-parts ts)) (sym (now .split))
-        ∙ ap length (join-parts (now .done) (now .rest))
-        ∙ length-append (item-parts (now .done)) (item-parts (now .rest)) in
-        let c = count-stripped (now .done) in
-        let l = shorter-items (now .done) in (
-          omega (arith, now .index, few),
-          omega (arith, now .spot, w .table, w .short),
-          omega (arith, now .jentry, now .index),
-          omega (arith, now .spot),
-          omega (arith, now .place, w .table, w .short),
-          omega (arith, w .table, w .short),
-        )
+-- The item at the part where the loop is.
+pub record Item-next (s : Bytes) (n : ℕ) (p : PartAt) (x : ItemAt) : Type 0 where
+  pub more : p .index < n
+  pub entry : x .jentry ≡ entry-at s (p .index)
+  pub place : x .place ≡ p .place
 
-    -- All are stored.
-    all-stored : (v : ℕ) (o₀ : Bytes) → o ≡ patch o₀ at (be32 v) → now .done ≡ w .items → length (item-parts (stripped-items (now .done))) ≡ n
-        → stripped-of s ≡ payload (array (stripped-items (now .done))) → v ≡ 2 ^ 31 + length (item-parts (stripped-items (now .done)))
-        → Strips (Len (here .place - at)) (unrepeated-of s) (stripped-of s) out (patch o₀ at (stripped-of s))
-    all-stored v o₀ eo all c is word = (
-      w .unrepeated-is ∙ ap unrepeated-items (sym all) ∙ now .fine,
-      rw is (omega (
-        arith,
-        now .spot,
-        c,
-        record-of-length (2 ^ 31 + length (item-parts (stripped-items (now .done)))) (item-parts (stripped-items (now .done))),
-      )),
-      now .stored
-          ∙ rw (eo, is, word)
-          (laid-record o₀ at (2 ^ 31 + length (item-parts (stripped-items (now .done)))) (at + 4) (at + (4 + 4 * n))
-          (item-parts (stripped-items (now .done))) refl (omega (arith, c))),
-    )
+module _ {s : Bytes} {n a at : ℕ} {w : Array-at s n a} {o out : Bytes} {here : Cursor} {p : PartAt} (now : Storing s n a at w o out here p) where
+  -- How much was stored.
+  pub storing-room : (p .index ≤ n) × (here .place ≤ at + 65536) × (here .jentry ≡ at + 4 + 4 * p .index) × (at + 4 + 4 * n ≤ here .place)
+      × (p .place ≤ 65536) × (n < 2 ^ 20)
+  storing-room =
+      let all : length (payloads (item-parts (w .items))) ≡ length (payloads (item-parts (now .done))) + length (payloads (item-parts (now .rest))) =
+      ap (λ (ts : Items). length (payloads (item-parts ts))) (sym (now .split))
+      ∙ ap (λ (l : List Part). length (payloads l)) (join-parts (now .done) (now .rest))
+      ∙ ap length (payloads-append (item-parts (now .done)) (item-parts (now .rest)))
+      ∙ length-append (payloads (item-parts (now .done))) (payloads (item-parts (now .rest))) in
+      let few : n ≡ length (item-parts (now .done)) + length (item-parts (now .rest)) =
+      w .count
+      ∙ ap (λ (ts : Items). length (item-parts ts)) (sym (now .split))
+      ∙ ap length (join-parts (now .done) (now .rest))
+      ∙ length-append (item-parts (now .done)) (item-parts (now .rest)) in
+      let c = count-stripped (now .done) in
+      let l = shorter-items (now .done) in (
+        omega (arith, now .index, few),
+        omega (arith, now .spot, w .table, w .short),
+        omega (arith, now .jentry, now .index),
+        omega (arith, now .spot),
+        omega (arith, now .place, w .table, w .short),
+        omega (arith, w .table, w .short),
+      )
 
-    pub storing-ends : (v : ℕ) (o₀ : Bytes) → n ≤ p .index → v ≡ bitOr (2 ^ 31) n → o ≡ patch o₀ at (be32 v)
-        → Strips (Len (here .place - at)) (unrepeated-of s) (stripped-of s) out (patch o₀ at (stripped-of s))
-    storing-ends v o₀ h ev eo = go (now .rest) refl
+  -- All are stored.
+  all-stored : (v : ℕ) (o₀ : Bytes) → o ≡ patch o₀ at (be32 v) → now .done ≡ w .items → length (item-parts (stripped-items (now .done))) ≡ n
+      → stripped-of s ≡ payload (array (stripped-items (now .done))) → v ≡ 2 ^ 31 + length (item-parts (stripped-items (now .done)))
+      → Strips (Len (here .place - at)) (unrepeated-of s) (stripped-of s) out (patch o₀ at (stripped-of s))
+  all-stored v o₀ eo all c is word = (
+    w .unrepeated-is ∙ ap unrepeated-items (sym all) ∙ now .fine,
+    rw is (omega (
+      arith,
+      now .spot,
+      c,
+      record-of-length (2 ^ 31 + length (item-parts (stripped-items (now .done)))) (item-parts (stripped-items (now .done))),
+    )),
+    now .stored
+        ∙ rw (eo, is, word)
+        (laid-record o₀ at (2 ^ 31 + length (item-parts (stripped-items (now .done)))) (at + 4) (at + (4 + 4 * n))
+        (item-parts (stripped-items (now .done))) refl (omega (arith, c))),
+  )
+
+  pub storing-ends : {v : ℕ} (o₀ : Bytes) → n ≤ p .index → v ≡ bitOr (2 ^ 31) n → o ≡ patch o₀ at (be32 v)
+      → Strips (Len (here .place - at)) (unrepeated-of s) (stripped-of s) out (patch o₀ at (stripped-of s))
+  storing-ends {v} o₀ h ev eo = go (now .rest) refl
+    where
+      go : (r : Items) → now .rest ≡ r → Strips (Len (here .place - at)) (unrepeated-of s) (stripped-of s) out (patch o₀ at (stripped-of s))
+      go (item t r) q =
+          let few : n ≡ length (item-parts (now .done)) + length (item-parts (item t r)) =
+          w .count
+          ∙ ap (λ (ts : Items). length (item-parts ts)) (sym (now .split) ∙ ap (join (now .done)) q)
+          ∙ ap length (join-parts (now .done) (item t r))
+          ∙ length-append (item-parts (now .done)) (item-parts (item t r)) in
+          let z : ⊥ = omega (arith, few, now .index) in
+          absurd z
+      go none q =
+          let all : now .done ≡ w .items = sym (join-none (now .done)) ∙ ap (join (now .done)) (sym q) ∙ now .split in
+          let c : length (item-parts (stripped-items (now .done))) ≡ n = count-stripped (now .done) ∙ ap (λ (ts : Items). length (item-parts ts)) all ∙ sym (w .count) in
+          all-stored v o₀ eo all c (w .stripped-is ∙ ap (λ (ts : Items). payload (array (stripped-items ts))) (sym all))
+          (ev ∙ array-word n (omega (arith, w .table, w .short)) ∙ ap (λ (k : ℕ). 2 ^ 31 + k) (sym c))
+
+  -- The next item.
+  module _ {x : ItemAt} (next : Item-next s n p x) where
+    pub next-item : (t : Tree) × (r : Items) × (now .rest ≡ item t r)
+    next-item = go (now .rest) refl
       where
-        go : (r : Items) → now .rest ≡ r → Strips (Len (here .place - at)) (unrepeated-of s) (stripped-of s) out (patch o₀ at (stripped-of s))
-        go (item t r) q =
-            let few : n ≡ length (item-parts (now .done)) + length (item-parts (item t r)) =
+        go : (r : Items) → now .rest ≡ r → (t : Tree) × (us : Items) × (now .rest ≡ item t us)
+        go (item t r) q = (t, r, q)
+        go none q =
+            let few : n ≡ length (item-parts (now .done)) + length (item-parts none) =
             w .count
             ∙ ap (λ (ts : Items). length (item-parts ts)) (sym (now .split) ∙ ap (join (now .done)) q)
-            ∙ ap length (join-parts (now .done) (item t r))
-            ∙ length-append (item-parts (now .done)) (item-parts (item t r)) in
-            let z : ⊥ = omega (arith, few, now .index) in
+            ∙ ap length (join-parts (now .done) none)
+            ∙ length-append (item-parts (now .done)) (item-parts none) in
+            let z : ⊥ = omega (arith, few, now .index, next .more) in
             absurd z
-        go none q =
-            let all : now .done ≡ w .items = sym (join-none (now .done)) ∙ ap (join (now .done)) (sym q) ∙ now .split in
-            let c : length (item-parts (stripped-items (now .done))) ≡ n = count-stripped (now .done) ∙ ap (λ (ts : Items). length (item-parts ts)) all ∙ sym (w .count) in
-            all-stored v o₀ eo all c (w .stripped-is ∙ ap (λ (ts : Items). payload (array (stripped-items ts))) (sym all))
-            (ev ∙ array-word n (omega (arith, w .table, w .short)) ∙ ap (λ (k : ℕ). 2 ^ 31 + k) (sym c))
 
-    -- The next item.
-    module _ (more : p .index < n) where
-      pub next-item : (t : Tree) × (r : Items) × (now .rest ≡ item t r)
-      next-item = go (now .rest) refl
-        where
-          go : (r : Items) → now .rest ≡ r → (t : Tree) × (us : Items) × (now .rest ≡ item t us)
-          go (item t r) q = (t, r, q)
-          go none q =
-              let few : n ≡ length (item-parts (now .done)) + length (item-parts none) =
-              w .count
-              ∙ ap (λ (ts : Items). length (item-parts ts)) (sym (now .split) ∙ ap (join (now .done)) q)
-              ∙ ap length (join-parts (now .done) none)
-              ∙ length-append (item-parts (now .done)) (item-parts none) in
-              let z : ⊥ = omega (arith, few, now .index) in
-              absurd z
+    whole : join (now .done) (item (next-item .0) (next-item .1)) ≡ w .items
+    whole = ap (join (now .done)) (sym (next-item .2)) ∙ now .split
 
-      whole : join (now .done) (item (next-item .0) (next-item .1)) ≡ w .items
-      whole = ap (join (now .done)) (sym (next-item .2)) ∙ now .split
+    parts : item-parts (w .items) ≡ item-parts (now .done) ++ (part (next-item .0) ∷ item-parts (next-item .1))
+    parts = ap item-parts (sym whole) ∙ join-parts (now .done) (item (next-item .0) (next-item .1))
 
-      parts : item-parts (w .items) ≡ item-parts (now .done) ++ (part (next-item .0) ∷ item-parts (next-item .1))
-      parts = ap item-parts (sym whole) ∙ join-parts (now .done) (item (next-item .0) (next-item .1))
+    pub item-at : Tree-at s x (next-item .0) (a - 1)
+    item-at =
+        let f = array-fits (w .items) (omega (arith, ap length (w .bytes), w .short)) in
+        let e : record-of (2 ^ 31 + length (item-parts (w .items))) (item-parts (now .done) ++ (part (next-item .0) ∷ item-parts (next-item .1))) ≡ s =
+        ap (record-of (2 ^ 31 + length (item-parts (w .items)))) (sym parts) ∙ w .bytes in
+        let r = row-by s _ (p .index) (x .place) (item-parts (now .done)) (part (next-item .0)) (item-parts (next-item .1)) e (now .index)
+        (omega (arith, next .place, now .place, w .count, ap length parts)) (rw parts at (f .fits)) in
+        let inside = item-inside (now .done) (next-item .0) (next-item .1) in
+        let b : bytes-at s x ≡ payload (next-item .0) = bytes-by s (payload (next-item .0)) x (entry-at s (p .index)) (next .entry) (r .1) in
+        let len : length (payload (next-item .0)) ≤ length s =
+        omega (
+          arith,
+          ap length parts-payloads,
+          w .table,
+          length-append (payloads (item-parts (now .done))) (payload (next-item .0) ++ payloads (item-parts (next-item .1))),
+          length-append (payload (next-item .0)) (payloads (item-parts (next-item .1))),
+        ) in
+        record {
+          entry = next .entry ∙ r .0;
+          bytes = b;
+          short = omega (arith, len, w .short);
+          octets = rw (← b) (octets-take (length-of (x .jentry)) (drop (x .place) s) (octets-drop (x .place) s (w .octets)));
+          valid = inside .0 (rw whole (w .valid));
+          deep = omega (arith, inside .1, ap depth-items whole, w .deep);
+          allowed = omega (arith, w .allowed);
+        }
+      where
+        row-by : (s : Bytes) (v i k : ℕ) (xs : List Part) (q : Part) (ys : List Part) → record-of v (xs ++ (q ∷ ys)) ≡ s → i ≡ length xs
+            → k ≡ 4 + 4 * length (xs ++ (q ∷ ys)) + length (payloads xs) → AllFit (xs ++ (q ∷ ys))
+            → (entry-at s i ≡ entry-word q) × (take (length-of (entry-at s i)) (drop k s) ≡ q .bytes)
+        row-by s v i k xs q ys e hi hk f =
+            let l = row-lengths v xs (q ∷ ys) f in
+            (rw (hi, ← e) (row-entry v xs q ys f .0), rw (hi, hk, ← e, ← l) (row-bytes v xs q ys f))
 
-      module _ (x : ItemAt) (he : x .jentry ≡ entry-at s (p .index)) (hp : x .place ≡ p .place) where
-        pub item-at : Tree-at s x (next-item .0) (a - 1)
-        item-at =
-            let f = array-fits (w .items) (omega (arith, ap length (w .bytes), w .short)) in
-            let e : record-of (2 ^ 31 + length (item-parts (w .items))) (item-parts (now .done) ++ (part (next-item .0) ∷ item-parts (next-item .1))) ≡ s =
-            ap (record-of (2 ^ 31 + length (item-parts (w .items)))) (sym parts) ∙ w .bytes in
-            let r = row-by s _ (p .index) (x .place) (item-parts (now .done)) (part (next-item .0)) (item-parts (next-item .1)) e (now .index)
-            (omega (arith, hp, now .place, w .count, ap length parts)) (rw parts at (f .fits)) in
-            let inside = item-inside (now .done) (next-item .0) (next-item .1) in
-            let b : bytes-at s x ≡ payload (next-item .0) = rw he (r .1) in
-            let len : length (payload (next-item .0)) ≤ length s =
-            omega (
-              arith,
-              ap length parts-payloads,
-              w .table,
-              length-append (payloads (item-parts (now .done))) (payload (next-item .0) ++ payloads (item-parts (next-item .1))),
-              length-append (payload (next-item .0)) (payloads (item-parts (next-item .1))),
-            ) in
+        parts-payloads : payloads (item-parts (w .items)) ≡ payloads (item-parts (now .done)) ++ (payload (next-item .0) ++ payloads (item-parts (next-item .1)))
+        parts-payloads = ap payloads parts ∙ payloads-append (item-parts (now .done)) (part (next-item .0) ∷ item-parts (next-item .1))
+
+    pub item-asks : code-of (x .jentry) ≡ 5 → Strippable (bytes-at s x) (a - 1)
+    item-asks = strippable-at s x (next-item .0) (a - 1) item-at
+
+    module _ (r : Stripped) (out₁ : Bytes)
+        (st : Strips r (unrepeated-item s x) (strip-item s x) out₁ (patch (patch out (here .jentry) (be32 (strip-entry s x))) (here .place) (strip-item s x))) where
+      pub storing-repeats : r ≡ Repeated → unrepeated-of s ≡ false
+      storing-repeats q =
+          let z : unrepeated-item s x ≡ false = rw q at st in
+          let f : unrepeated (next-item .0) ≡ false = sym (stripped-at s x (next-item .0) (a - 1) item-at .2) ∙ z in
+          w .unrepeated-is ∙ ap unrepeated-items (sym whole) ∙ repeats-in (now .done) (next-item .0) (next-item .1) f
+
+      module _ {len : ℕ} (q : r ≡ Len len) where
+        told : (unrepeated-item s x ≡ true) × (len ≡ length (strip-item s x))
+            × (out₁ ≡ patch (patch out (here .jentry) (be32 (strip-entry s x))) (here .place) (strip-item s x))
+        told = rw q at st
+
+        abbrev t : Tree
+        t = next-item .0
+
+        sa : (strip-item s x ≡ payload (stripped t)) × (strip-entry s x ≡ entry-word (part (stripped t))) × (unrepeated-item s x ≡ unrepeated t)
+        sa = stripped-at s x t (a - 1) item-at
+
+        more-parts : item-parts (stripped-items (one-more (now .done) t)) ≡ item-parts (stripped-items (now .done)) ++ (part (stripped t) ∷ [])
+        more-parts = ap item-parts (strip-one (now .done) t) ∙ parts-one (stripped-items (now .done)) (stripped t)
+
+        more-payloads : length (payloads (item-parts (stripped-items (one-more (now .done) t))))
+            ≡ length (payloads (item-parts (stripped-items (now .done)))) + length (payload (stripped t))
+        more-payloads =
+            ap (λ (l : List Part). length (payloads l)) more-parts
+            ∙ ap length (payloads-append (item-parts (stripped-items (now .done))) (part (stripped t) ∷ []))
+            ∙ length-append (payloads (item-parts (stripped-items (now .done)))) (payload (stripped t) ++ [])
+            ∙ ap (λ (l : Bytes). length (payloads (item-parts (stripped-items (now .done)))) + length l) (append-nil (payload (stripped t)))
+
+        done-payloads : length (payloads (item-parts (one-more (now .done) t))) ≡ length (payloads (item-parts (now .done))) + length (payload t)
+        done-payloads =
+            ap (λ (l : List Part). length (payloads l)) (parts-one (now .done) t)
+            ∙ ap length (payloads-append (item-parts (now .done)) (part t ∷ []))
+            ∙ length-append (payloads (item-parts (now .done))) (payload t ++ [])
+            ∙ ap (λ (l : Bytes). length (payloads (item-parts (now .done))) + length l) (append-nil (payload t))
+
+        entry-len : length-of (entry-at s (p .index)) ≡ length (payload t)
+        entry-len = ap length-of (sym (next .entry) ∙ item-at .entry) ∙ length-entry (code (kind t)) (length (payload t)) (omega (arith, item-at .short))
+
+        pub storing-len : len ≤ 65536
+        storing-len =
+            omega (arith, told .1, ap length (sa .0), strip-shrinks t .payload, size-payload t, size-payload (stripped t), item-at .short)
+
+        pub storing-on : {p′ : PartAt} → p′ ≡ next-part s p
+            → Storing s n a at w o out₁ (record { jentry = here .jentry + 4; place = here .place + len }) p′
+        storing-on {p′} ep =
+            let ln : len ≡ length (payload (stripped t)) = told .1 ∙ ap length (sa .0) in
+            let behind = same-part ep in
+            let k = ap length more-parts ∙ length-append (item-parts (stripped-items (now .done))) (part (stripped t) ∷ []) in
+            let rm = storing-room in
             record {
-              entry = he ∙ r .0;
-              bytes = b;
-              short = omega (arith, len, w .short);
-              octets = rw (← b) (octets-take (length-of (x .jentry)) (drop (x .place) s) (octets-drop (x .place) s (w .octets)));
-              valid = inside .0 (rw whole (w .valid));
-              deep = omega (arith, inside .1, ap depth-items whole, w .deep);
-              allowed = omega (arith, w .allowed);
+              done = one-more (now .done) t;
+              rest = next-item .1;
+              split = join-one (now .done) t (next-item .1) ∙ whole;
+              index = omega (arith, behind .0, now .index, ap length (parts-one (now .done) t), length-append (item-parts (now .done)) (part t ∷ []));
+              place = omega (arith, behind .1, now .place, entry-len, done-payloads);
+              jentry = omega (arith, now .jentry, k);
+              spot = omega (arith, now .spot, ln, more-payloads);
+              fine = fine-one (now .done) t (now .fine) (sym (sa .2) ∙ told .0);
+              stored =
+                  one-stored o out out₁ (at + 4) (at + (4 + 4 * n)) (item-parts (stripped-items (now .done))) (part (stripped t))
+                  (here .jentry) (here .place) (strip-entry s x) (strip-item s x)
+                  (now .stored) (now .jentry) (now .spot) (sa .1) (sa .0) (told .2) (omega (arith, rm .0, next .more, now .index, count-stripped (now .done)))
+                  ∙ ap (laid o (at + 4) (at + (4 + 4 * n))) (sym more-parts);
+              as-long = ap length (told .2) ∙ length-patch _ _ _ ∙ length-patch _ _ _ ∙ now .as-long;
             }
-          where
-            row-by : (s : Bytes) (v i k : ℕ) (xs : List Part) (q : Part) (ys : List Part) → record-of v (xs ++ (q ∷ ys)) ≡ s → i ≡ length xs
-                → k ≡ 4 + 4 * length (xs ++ (q ∷ ys)) + length (payloads xs) → AllFit (xs ++ (q ∷ ys))
-                → (entry-at s i ≡ entry-word q) × (take (length-of (entry-at s i)) (drop k s) ≡ q .bytes)
-            row-by s v i k xs q ys e hi hk f =
-                let l = row-lengths v xs (q ∷ ys) f in
-                (rw (hi, ← e) (row-entry v xs q ys f .0), rw (hi, hk, ← e, ← l) (row-bytes v xs q ys f))
-
-            parts-payloads : payloads (item-parts (w .items)) ≡ payloads (item-parts (now .done)) ++ (payload (next-item .0) ++ payloads (item-parts (next-item .1)))
-            parts-payloads = ap payloads parts ∙ payloads-append (item-parts (now .done)) (part (next-item .0) ∷ item-parts (next-item .1))
-
-        pub item-asks : code-of (x .jentry) ≡ 5 → Strippable (bytes-at s x) (a - 1)
-        item-asks = strippable-at s x (next-item .0) (a - 1) item-at
-
-        module _ (r : Stripped) (out₁ : Bytes)
-            (st : Strips r (unrepeated-item s x) (strip-item s x) out₁ (patch (patch out (here .jentry) (be32 (strip-entry s x))) (here .place) (strip-item s x))) where
-          pub storing-repeats : r ≡ Repeated → unrepeated-of s ≡ false
-          storing-repeats q =
-              let z : unrepeated-item s x ≡ false = rw q at st in
-              let f : unrepeated (next-item .0) ≡ false = sym (stripped-at s x (next-item .0) (a - 1) item-at .2) ∙ z in
-              w .unrepeated-is ∙ ap unrepeated-items (sym whole) ∙ repeats-in (now .done) (next-item .0) (next-item .1) f
-
-          module _ (len : ℕ) (q : r ≡ Len len) where
-            told : (unrepeated-item s x ≡ true) × (len ≡ length (strip-item s x))
-                × (out₁ ≡ patch (patch out (here .jentry) (be32 (strip-entry s x))) (here .place) (strip-item s x))
-            told = rw q at st
-
-            abbrev t : Tree
-            t = next-item .0
-
-            sa : (strip-item s x ≡ payload (stripped t)) × (strip-entry s x ≡ entry-word (part (stripped t))) × (unrepeated-item s x ≡ unrepeated t)
-            sa = stripped-at s x t (a - 1) item-at
-
-            more-parts : item-parts (stripped-items (one-more (now .done) t)) ≡ item-parts (stripped-items (now .done)) ++ (part (stripped t) ∷ [])
-            more-parts = ap item-parts (strip-one (now .done) t) ∙ parts-one (stripped-items (now .done)) (stripped t)
-
-            more-payloads : length (payloads (item-parts (stripped-items (one-more (now .done) t))))
-                ≡ length (payloads (item-parts (stripped-items (now .done)))) + length (payload (stripped t))
-            more-payloads =
-                ap (λ (l : List Part). length (payloads l)) more-parts
-                ∙ ap length (payloads-append (item-parts (stripped-items (now .done))) (part (stripped t) ∷ []))
-                ∙ length-append (payloads (item-parts (stripped-items (now .done)))) (payload (stripped t) ++ [])
-                ∙ ap (λ (l : Bytes). length (payloads (item-parts (stripped-items (now .done)))) + length l) (append-nil (payload (stripped t)))
-
-            done-payloads : length (payloads (item-parts (one-more (now .done) t))) ≡ length (payloads (item-parts (now .done))) + length (payload t)
-            done-payloads =
-                ap (λ (l : List Part). length (payloads l)) (parts-one (now .done) t)
-                ∙ ap length (payloads-append (item-parts (now .done)) (part t ∷ []))
-                ∙ length-append (payloads (item-parts (now .done))) (payload t ++ [])
-                ∙ ap (λ (l : Bytes). length (payloads (item-parts (now .done))) + length l) (append-nil (payload t))
-
-            entry-len : length-of (entry-at s (p .index)) ≡ length (payload t)
-            entry-len = ap length-of (sym he ∙ item-at .entry) ∙ length-entry (code (kind t)) (length (payload t)) (omega (arith, item-at .short))
-
-            pub storing-len : len ≤ 65536
-            storing-len =
-                omega (arith, told .1, ap length (sa .0), strip-shrinks t .payload, size-payload t, size-payload (stripped t), item-at .short)
-
-            pub storing-on : (p′ : PartAt) → p′ ≡ next-part s p
-                → Storing s n a at w o out₁ (record { jentry = here .jentry + 4; place = here .place + len }) p′
-            storing-on p′ ep =
-                let ln : len ≡ length (payload (stripped t)) = told .1 ∙ ap length (sa .0) in
-                let pi : p′ .index ≡ p .index + 1 = ap (λ (y : PartAt). y .index) ep in
-                let pp : p′ .place ≡ p .place + length-of (entry-at s (p .index)) = ap (λ (y : PartAt). y .place) ep in
-                let k = ap length more-parts ∙ length-append (item-parts (stripped-items (now .done))) (part (stripped t) ∷ []) in
-                let rm = storing-room in
-                record {
-                  done = one-more (now .done) t;
-                  rest = next-item .1;
-                  split = join-one (now .done) t (next-item .1) ∙ whole;
-                  index = omega (arith, pi, now .index, ap length (parts-one (now .done) t), length-append (item-parts (now .done)) (part t ∷ []));
-                  place = omega (arith, pp, now .place, entry-len, done-payloads);
-                  jentry = omega (arith, now .jentry, k);
-                  spot = omega (arith, now .spot, ln, more-payloads);
-                  fine = fine-one (now .done) t (now .fine) (sym (sa .2) ∙ told .0);
-                  stored =
-                      one-stored o out out₁ (at + 4) (at + (4 + 4 * n)) (item-parts (stripped-items (now .done))) (part (stripped t))
-                      (here .jentry) (here .place) (strip-entry s x) (strip-item s x)
-                      (now .stored) (now .jentry) (now .spot) (sa .1) (sa .0) (told .2) (omega (arith, rm .0, more, now .index, count-stripped (now .done)))
-                      ∙ ap (laid o (at + 4) (at + (4 + 4 * n))) (sym more-parts);
-                  as-long = ap length (told .2) ∙ length-patch _ _ _ ∙ length-patch _ _ _ ∙ now .as-long;
-                }

@@ -27,7 +27,7 @@ use Rattle.layout.proofs.Readables.{size-payload}
 use Rattle.layout.proofs.Answers.{gives-inj}
 use Rattle.layout.proofs.Values.{rising-tail, rising-all, ≺-irrefl}
 use Rattle.builders.specs.Order.{by, insert, insert-all, in-order, find, distinct}
-use Rattle.layout.specs.Parts.{name-in, value-in, members-at}
+use Rattle.layout.specs.Parts.{name-in, value-in, members-at, past}
 use Rattle.builders.specs.Search.{is-kept, kept-of, Bound, bound, least, nth}
 use Rattle.builders.specs.Sorted.{sorted}
 use Rattle.builders.specs.Weave.{own-entry, stored, woven, column}
@@ -39,7 +39,7 @@ use Rattle.builders.specs.declared.search.Found.the-variants.{Nothing, At}
 use Rattle.builders.proofs.Orderings.{order-equal, order-refl}
 use Rattle.builders.proofs.InOrders.{in-order-rising, find-in-order, in-order-count, in-order-names, count-distinct}
 use Rattle.builders.proofs.Searches.{length-sorted, nth-inside, bytes-short}
-use Rattle.builders.proofs.Storing.{column-sorted, column-less, Stored, begins, goes, ends-full, ends-val, sought-nth, sought-end}
+use Rattle.builders.proofs.Storing.{payload-short, column-sorted, column-less, Stored, begins, goes, ends-full, ends-val, sought-nth, sought-end}
 use Rattle.builders.proofs.Twos.{and-false}
 use Rattle.builders.proofs.Stands.{Stands, Stand, stand-sorted, stand-names}
 use Rattle.edits.specs.Strip.{is-null, kept, stripped, stripped-members, unrepeated, unrepeated-members}
@@ -213,8 +213,8 @@ pub record Object-stripped (s : Bytes) (n a : ℕ) : Type 0 where
   pub stripped-is : stripped-of s ≡ payload (object (in-order (stripped-members (object-is .members))))
   pub unrepeated-is : unrepeated-of s ≡ (distinct (names (kept (object-is .members))) && unrepeated-members (object-is .members))
 
-pub object-stripped : (s : Bytes) (n a : ℕ) → Octets s → Strippable s a → header s ≡ Object n → Object-stripped s n a
-object-stripped s n a o st h =
+pub object-stripped : {s : Bytes} {n a : ℕ} → Octets s → Strippable s a → header s ≡ Object n → Object-stripped s n a
+object-stripped {s} {n} {a} o st h =
     let b = stripped-tree s a o st in
     let w = object-at s n o (ap checked (b .contained .reads)) (st .short) h in
     let e : b .tree ≡ object (w .members) = gives-inj (sym (b .contained .reads) ∙ w .contained .reads) in
@@ -351,17 +351,17 @@ module _ (s : Bytes) (n a : ℕ) (w : Object-stripped s n a) where
         )
 
 -- All its members are ahead, and are measured, where it is handed on.
-module _ (s : Bytes) (n a : ℕ) (ahead : Ahead) (e : ahead ≡ all-ahead (take (length s - 0) s) n) where
-  pub handed-near : Object-stripped s n a → Near ahead
-  handed-near w = rw (e, handed s) (ahead-starts s n NonNull (w .object-is) .near)
+pub handed-near : {s : Bytes} {n a : ℕ} {ahead : Ahead} → Object-stripped s n a → ahead ≡ all-ahead (take (length s - 0) s) n → Near ahead
+handed-near {s} {n} w e = rw (e, handed s) (ahead-starts s n NonNull (w .object-is) .near)
 
-  pub handed-members : Strippable s a → header s ≡ Object n → (z : Sizes) → z ≡ sizes-of (take (length s - 0) s) (kept-ahead (take (length s - 0) s) NonNull ahead)
-      → Prepared (take (length s - 0) s) ahead z a
-  handed-members st h z hz =
-      let c : n ≡ ahead .count = sym (ap (λ (x : Ahead). x .count) e) in
-      let k : ahead ≡ all-ahead s n = rw (handed s) at e in
-      let m : z ≡ sizes-of s (kept-ahead s NonNull ahead) = rw (handed s) at hz in
-      rw (handed s) (record { strippable = st; object = h ∙ ap (λ (j : ℕ). Object j) c; all = k ∙ ap (all-ahead s) c; measured = m })
+pub handed-members : {s : Bytes} {n a : ℕ} {ahead : Ahead} {z : Sizes} → Strippable s a → header s ≡ Object n
+    → ahead ≡ all-ahead (take (length s - 0) s) n → z ≡ sizes-of (take (length s - 0) s) (kept-ahead (take (length s - 0) s) NonNull ahead)
+    → Prepared (take (length s - 0) s) ahead z a
+handed-members {s} {n} {a} {ahead} {z} st h e hz =
+    let c : n ≡ ahead .count = sym (ap (λ (x : Ahead). x .count) e) in
+    let k : ahead ≡ all-ahead s n = rw (handed s) at e in
+    let m : z ≡ sizes-of s (kept-ahead s NonNull ahead) = rw (handed s) at hz in
+    rw (handed s) (record { strippable = st; object = h ∙ ap (λ (j : ℕ). Object j) c; all = k ∙ ap (all-ahead s) c; measured = m })
 
 -- An object that is stored at `at`: the sizes of what is kept of it, and the places of its members.
 pub record Setting (s : Bytes) (n a at : ℕ) (z : Sizes) (to₀ : Places) : Type 0 where
@@ -376,9 +376,9 @@ stripped-sizes s n a w z ez =
     omega (arith, stripped-room s n a w, ap (λ (x : Sizes). x .count) ez, ap (λ (x : Sizes). x .keys) ez, w .object-is .short)
 
 -- Before the loop.
-module _ (s : Bytes) (ahead : Ahead) (z : Sizes) (a : ℕ) (o : Octets s) (p : Prepared s ahead z a) where
+module _ {s : Bytes} {ahead : Ahead} {z : Sizes} {a : ℕ} (o : Octets s) (p : Prepared s ahead z a) where
   whole : Object-stripped s (ahead .count) a
-  whole = object-stripped s (ahead .count) a o (p .strippable) (p .object)
+  whole = object-stripped o (p .strippable) (p .object)
 
   pub sizes-measured : z ≡ sizes-of s (searched s (ahead .count) NonNull)
   sizes-measured = p .measured ∙ ap (λ (x : Ahead). sizes-of s (kept-ahead s NonNull x)) (p .all) ∙ ap (sizes-of s) (all-is s (ahead .count) NonNull)
@@ -386,8 +386,8 @@ module _ (s : Bytes) (ahead : Ahead) (z : Sizes) (a : ℕ) (o : Octets s) (p : P
   pub sizes-fit : 4 + 8 * z .count + z .keys ≤ 65536
   sizes-fit = omega (arith, stripped-sizes s (ahead .count) a whole z sizes-measured)
 
-  pub setting-of : (at : ℕ) → at ≤ 65536 * (64 - a) → (to₀ : Places) → to₀ ≡ places-for z at → Setting s (ahead .count) a at z to₀
-  setting-of at near to₀ et = record { object-is = whole; near = near; sizes = sizes-measured; places = et }
+  pub setting-of : {at : ℕ} {to₀ : Places} → at ≤ 65536 * (64 - a) → to₀ ≡ places-for z at → Setting s (ahead .count) a at z to₀
+  setting-of near et = record { object-is = whole; near = near; sizes = sizes-measured; places = et }
 
   -- As `next_member` asks and finds.
   pub all-places : (ahead .count < 2 ^ 29)
@@ -397,9 +397,9 @@ module _ (s : Bytes) (ahead : Ahead) (z : Sizes) (a : ℕ) (o : Octets s) (p : P
       let z : ahead .index ≡ 0 = ap (λ (x : Ahead). x .index) (p .all) in
       (h .few, omega (arith, h .key-jentry), omega (arith, h .val-jentry), omega (arith, h .key), omega (arith, h .val))
 
-  pub found-among : (last : Bound) (found : Found) → found ≡ least (name-in s) last Nothing (kept-of NonNull 0 (members-at s s (ahead .at) (ahead .count)))
+  pub found-among : (last : Bound) {found : Found} → found ≡ least (name-in s) last Nothing (kept-of NonNull 0 (members-at s s (ahead .at) (ahead .count)))
       → found ≡ least (name-in s) last Nothing (searched s (ahead .count) NonNull)
-  found-among last found hf = hf ∙ ap (λ (x : Ahead). least (name-in s) last Nothing (kept-of NonNull 0 (members-at s s (x .at) (ahead .count)))) (p .all)
+  found-among last hf = hf ∙ ap (λ (x : Ahead). least (name-in s) last Nothing (kept-of NonNull 0 (members-at s s (x .at) (ahead .count)))) (p .all)
 
 -- The loop, as the code goes: `i` members are stored, and no value so far has a name twice.
 pub record Storing-members (s : Bytes) (n a at : ℕ) (z : Sizes) (to₀ : Places) (o out last : Bytes) (to : Places) (i : ℕ) : Type 0 where
@@ -444,51 +444,63 @@ module _ {s : Bytes} {n a at : ℕ} {z : Sizes} {to₀ : Places} {o out last : B
         now .setting .object-is .allowed,
       )
 
-  module _ (found : Found) (hf : found ≡ least (name-in s) (bound (eqb i 0) last) Nothing (searched s n NonNull)) where
-    pub members-few : i < z .count → found ≡ Nothing → unrepeated-of s ≡ false
-    members-few h q =
-        too-few s n a (now .setting .object-is) (omega (arith, h, count-is, sought-end (name-in s) (searched s n NonNull) last i (now .stored .sought) found hf q))
+  -- No member is found, though some are left.
+  pub members-few : {found : Found} → i < z .count → found ≡ least (name-in s) (bound (eqb i 0) last) Nothing (searched s n NonNull) → found ≡ Nothing
+      → unrepeated-of s ≡ false
+  members-few {found} h hf q =
+      too-few s n a (now .setting .object-is) (omega (arith, h, count-is, sought-end (name-in s) (searched s n NonNull) last i (now .stored .sought) found hf q))
 
-    module _ (m : MemberAt) (q : found ≡ At m) where
-      is-nth : nth (sorted (name-in s) (searched s n NonNull)) i ≡ At m
-      is-nth = sought-nth (name-in s) (searched s n NonNull) last i (now .stored .sought) found hf m q
+  -- A member is found.
+  module _ {m : MemberAt} (found : At m ≡ least (name-in s) (bound (eqb i 0) last) Nothing (searched s n NonNull)) where
+    is-nth : nth (sorted (name-in s) (searched s n NonNull)) i ≡ At m
+    is-nth = sought-nth (name-in s) (searched s n NonNull) last i (now .stored .sought) (At m) found m refl
 
-      -- What storing the member asks.
-      pub members-asks : i < z .count → (code-of (m .val .jentry) ≡ 5 → Strippable (value-in s m) (a - 1))
-          × (to .«key_jentry» < 2 ^ 60) × (to .key < 2 ^ 60) × (to .«val_jentry» + 4 ≤ to .key) × (to .«val_jentry» + 4 ≤ to .val) × (to .val ≤ 65536 * (64 - (a - 1)))
-      members-asks h =
-          let r = members-room in (
-            member-asks s n a (now .setting .object-is) i m is-nth,
-            omega (arith, r),
-            omega (arith, r),
-            omega (arith, r),
-            omega (arith, r),
-            omega (arith, r),
-          )
+    -- What storing it asks.
+    pub members-asks : i < z .count → (code-of (m .val .jentry) ≡ 5 → Strippable (value-in s m) (a - 1))
+        × (to .«key_jentry» < 2 ^ 60) × (to .key < 2 ^ 60) × (to .«val_jentry» + 4 ≤ to .key) × (to .«val_jentry» + 4 ≤ to .val)
+        × (to .val ≤ 65536 * (64 - (a - 1)))
+    members-asks h =
+        let r = members-room in (
+          member-asks s n a (now .setting .object-is) i m is-nth,
+          omega (arith, r),
+          omega (arith, r),
+          omega (arith, r),
+          omega (arith, r),
+          omega (arith, r),
+        )
 
-      module _ (e : Stripped) (out₁ : Bytes) (st : Strips e (unrepeated-item s (m .val)) (strip-item s (m .val)) out₁
-          (stored (name-in s) (strip-value s) (value-entry s) out (to .«key_jentry») (to .«val_jentry») (to .key) (to .val) m)) where
-        pub members-repeats : e ≡ Repeated → unrepeated-of s ≡ false
-        members-repeats qe = let y : unrepeated-item s (m .val) ≡ false = rw qe at st in member-repeats s n a (now .setting .object-is) i m is-nth y
+    module _ (e : Stripped) (out₁ : Bytes) (st : Strips e (unrepeated-item s (m .val)) (strip-item s (m .val)) out₁
+        (stored (name-in s) (strip-value s) (value-entry s) out (to .«key_jentry») (to .«val_jentry») (to .key) (to .val) m)) where
+      pub members-repeats : e ≡ Repeated → unrepeated-of s ≡ false
+      members-repeats qe = let y : unrepeated-item s (m .val) ≡ false = rw qe at st in member-repeats s n a (now .setting .object-is) i m is-nth y
 
-        module _ (len : ℕ) (qe : e ≡ Len len) where
-          told : (unrepeated-item s (m .val) ≡ true) × (len ≡ length (strip-item s (m .val)))
-              × (out₁ ≡ stored (name-in s) (strip-value s) (value-entry s) out (to .«key_jentry») (to .«val_jentry») (to .key) (to .val) m)
-          told = rw qe at st
+      module _ {len : ℕ} (qe : e ≡ Len len) where
+        told : (unrepeated-item s (m .val) ≡ true) × (len ≡ length (strip-item s (m .val)))
+            × (out₁ ≡ stored (name-in s) (strip-value s) (value-entry s) out (to .«key_jentry») (to .«val_jentry») (to .key) (to .val) m)
+        told = rw qe at st
 
-          pub len-short : len ≤ 65536
-          len-short = omega (arith, told .1, sizes-all, column-part (strip-value s) (sorted (name-in s) (searched s n NonNull)) i m is-nth)
+        pub len-short : len ≤ 65536
+        len-short = omega (arith, told .1, sizes-all, column-part (strip-value s) (sorted (name-in s) (searched s n NonNull)) i m is-nth)
 
-          pub members-on : (key : Bytes) → key ≡ name-in s m
-              → Storing-members s n a at z to₀ o out₁ key
-              (record { «key_jentry» = to .«key_jentry» + 4; «val_jentry» = to .«val_jentry» + 4; key = to .key + length key; val = to .val + len })
-              (i + 1)
-          members-on key hk =
+        module _ {key : Bytes} (hk : key ≡ name-in s m) where
+          -- What going on behind it asks.
+          pub past-room : (to .«key_jentry» < 2 ^ 60) × (to .«val_jentry» < 2 ^ 60) × (to .key + length key < 2 ^ 64) × (to .val + len < 2 ^ 64)
+          past-room =
+              let r = members-room in
+              let k = payload-short s key (m .key) hk in (
+                omega (arith, r),
+                omega (arith, r),
+                omega (arith, r, k),
+                omega (arith, r, len-short),
+              )
+
+          pub members-on : {to′ : Places} → to′ ≡ past to (length key) len → Storing-members s n a at z to₀ o out₁ key to′ (i + 1)
+          members-on {to′} et =
               record {
                 setting = now .setting;
                 stored =
-                    goes (name-in s) (strip-value s) (value-entry s) (searched s n NonNull) o to₀ out last to i (now .stored) found hf m key out₁ _ q
-                    (rw (hk, told .1), told .2) hk (bytes-short s (m .key)) (omega (arith, told .1, len-short));
+                    goes (name-in s) (strip-value s) (value-entry s) (searched s n NonNull) o to₀ out last to i (now .stored) (At m) found m key out₁ to′ refl
+                    (et ∙ rw (hk, told .1), told .2) hk (bytes-short s (m .key)) (omega (arith, told .1, len-short));
                 each = λ k y h e. more k y (decLe (suc k) i) h e;
               }
             where
@@ -512,9 +524,9 @@ module _ {s : Bytes} {n a at : ℕ} {z : Sizes} {to₀ : Places} {o out last : B
       → unrepeated-item s (m .val) ≡ true
   each-done h k m e = now .each k m (omega (arith, done h, nth-inside (sorted (name-in s) (searched s n NonNull)) k m e)) e
 
-  pub members-ends : (v : ℕ) (o₀ : Bytes) → z .count ≤ i → v ≡ bitOr (2 ^ 30) (z .count) → o ≡ patch o₀ at (be32 v)
+  pub members-ends : {v : ℕ} (o₀ : Bytes) → z .count ≤ i → v ≡ bitOr (2 ^ 30) (z .count) → o ≡ patch o₀ at (be32 v)
       → Strips (Len (to .val - at)) (unrepeated-of s) (stripped-of s) out (patch o₀ at (stripped-of s))
-  members-ends v o₀ h ev eo =
+  members-ends {v} o₀ h ev eo =
       object-stored s n a (now .setting .object-is) (full h) (each-done h) z to₀ at v (to .val) o₀ o out
       (now .setting .sizes) (now .setting .places) ev eo
       (ends-full (name-in s) (strip-value s) (value-entry s) (searched s n NonNull) o to₀ out last to i (now .stored) i

@@ -11,7 +11,7 @@ use borrow.Author.Tests.{ne-eqb}
 use Rattle.layout.specs.Bytes.{Bytes, be32}
 use Rattle.layout.specs.Entry.{code-of}
 use Rattle.layout.specs.Patch.{patch}
-use Rattle.layout.specs.Parts.{name-in, value-in, member-at}
+use Rattle.layout.specs.Parts.{name-in, value-in, member-at, past}
 use Rattle.builders.specs.Search.{is-kept, bound, least}
 use Rattle.builders.specs.Weave.{stored}
 use Rattle.builders.specs.declared.search.Kept.the-variants.{NonNull}
@@ -25,10 +25,10 @@ use Rattle.edits.specs.declared.members.Ahead.{Ahead}
 use Rattle.edits.specs.declared.members.Sizes.{Sizes}
 use Rattle.edits.specs.declared.members.NextMember.the-variants.{Member}
 use Rattle.edits.specs.declared.strip.Stripped.{Stripped}
-use Rattle.edits.specs.declared.strip.Stripped.the-variants.{Len, Repeated}
+use Rattle.edits.specs.declared.strip.Stripped.the-variants.{Len}
 use Rattle.edits.proofs.Standings.{near-on, one-kept, one-passed, none-left, next-stands}
 use Rattle.edits.proofs.Aheads.{searched, all-is, AheadOf, ahead-starts, ahead-taken, ahead-aside, next-is}
-use Rattle.edits.proofs.StripMembers.{Setting, Storing-members, members-starts, members-asks, members-repeats, len-short, members-on, members-ends}
+use Rattle.edits.proofs.StripMembers.{Setting, Storing-members, members-starts, members-asks, members-on, members-ends}
 
 -- The loop: of the members passed `count` are kept, and are stored. No name is repeated, so these and what is kept of those ahead
 -- are all that are kept.
@@ -40,9 +40,9 @@ pub record Storing-rising (s : Bytes) (n a at : ℕ) (to₀ : Places) (o out : B
   pub up : here .«is_rising» ≡ true
   pub left : count + length (kept-ahead s NonNull here) ≡ length (searched s n NonNull)
 
-pub rising-starts : {s : Bytes} {n a at : ℕ} {z : Sizes} {to₀ : Places} → Setting s n a at z to₀ → (o : Bytes) (ahead : Ahead)
+pub rising-starts : {s : Bytes} {n a at : ℕ} {z : Sizes} {to₀ : Places} {o : Bytes} {ahead : Ahead} → Setting s n a at z to₀
     → ahead ≡ all-ahead s n → ahead .«is_rising» ≡ true → Storing-rising s n a at to₀ o o to₀ ahead
-rising-starts {s} {n} {a} {at} {z} {to₀} h o ahead e up =
+rising-starts {s} {n} {a} {at} {z} {to₀} {o} h e up =
     let own : Setting s n a at (sizes-of s (searched s n NonNull)) to₀ =
     record { object-is = h .object-is; near = h .near; sizes = refl; places = h .places ∙ ap (λ (x : Sizes). places-for x at) (h .sizes) } in
     record {
@@ -54,27 +54,32 @@ rising-starts {s} {n} {a} {at} {z} {to₀} h o ahead e up =
       left = omega (arith, ap (λ (x : Ahead). length (kept-ahead s NonNull x)) e, ap length (all-is s n NonNull));
     }
 
+-- The member that stands first of those ahead, what is ahead behind it, and whether it is kept.
+pub record Rising-next (s : Bytes) (here : Ahead) (m : MemberAt) (next : Ahead) (g : Bool) : Type 0 where
+  pub more : here .index < here .count
+  pub member-is : m ≡ member-at s s (here .at .«key_jentry») (here .at .«val_jentry») (here .at .key) (here .at .val)
+  pub behind : next ≡ behind-ahead here m
+  pub kept-is : g ≡ is-kept NonNull (here .index) m
+
 module _ {s : Bytes} {n a at : ℕ} {to₀ : Places} {o out : Bytes} {to : Places} {here : Ahead} (now : Storing-rising s n a at to₀ o out to here) where
-  pub rising-ends : (z : Sizes) (v : ℕ) (o₀ : Bytes) → here .count ≤ here .index → z ≡ sizes-of s (searched s n NonNull)
+  pub rising-ends : {z : Sizes} {v : ℕ} (o₀ : Bytes) → here .count ≤ here .index → z ≡ sizes-of s (searched s n NonNull)
       → v ≡ bitOr (2 ^ 30) (z .count) → o ≡ patch o₀ at (be32 v)
       → Strips (Len (to .val - at)) (unrepeated-of s) (stripped-of s) out (patch o₀ at (stripped-of s))
-  rising-ends z v o₀ h ez ev eo =
-      members-ends (now .storing) v o₀ (omega (arith, now .left, ap length (none-left s NonNull here h)))
+  rising-ends o₀ h ez ev eo =
+      members-ends (now .storing) o₀ (omega (arith, now .left, ap length (none-left s NonNull here h)))
       (ev ∙ ap (λ (x : Sizes). bitOr (2 ^ 30) (x .count)) ez) eo
 
-  module _ (more : here .index < here .count) (m : MemberAt)
-      (em : m ≡ member-at s s (here .at .«key_jentry») (here .at .«val_jentry») (here .at .key) (here .at .val)) (next : Ahead)
-      (en : next ≡ behind-ahead here m) (g : Bool) (hg : g ≡ is-kept NonNull (here .index) m) where
+  module _ {m : MemberAt} {next : Ahead} {g : Bool} (read : Rising-next s here m next g) where
     next-near : Near next
-    next-near = near-on here m next (now .rest .near) more en
+    next-near = near-on here m next (now .rest .near) (read .more) (read .behind)
 
     next-up : next .«is_rising» ≡ true
-    next-up = ap (λ (x : Ahead). x .«is_rising») en ∙ now .up
+    next-up = ap (λ (x : Ahead). x .«is_rising») (read .behind) ∙ now .up
 
     -- A member that is left out.
     pub rising-passed : g ≡ false → Storing-rising s n a at to₀ o out to next
     rising-passed f =
-        let p = one-passed s NonNull here more m em next en g hg f in
+        let p = one-passed s NonNull here (read .more) m (read .member-is) next (read .behind) g (read .kept-is) f in
         record {
           last = now .last;
           count = now .count;
@@ -87,43 +92,35 @@ module _ {s : Bytes} {n a at : ℕ} {to₀ : Places} {o out : Bytes} {to : Place
     -- One that is kept is the next in byte order.
     module _ (t : g ≡ true) where
       split : kept-ahead s NonNull here ≡ m ∷ kept-ahead s NonNull next
-      split = one-kept s NonNull here more m em next en g hg t
+      split = one-kept s NonNull here (read .more) m (read .member-is) next (read .behind) g (read .kept-is) t
 
       taken : Next s NonNull (bound (eqb (now .count) 0) (now .last)) here (Member m next)
       taken =
           next-stands s NonNull (bound (eqb (now .count) 0) (now .last)) here (Member m next) (now .up)
-          (split, ap (λ (x : Ahead). x .«is_rising») en, next-near)
+          (split, ap (λ (x : Ahead). x .«is_rising») (read .behind), next-near)
 
-      found : At m ≡ least (name-in s) (bound (eqb (now .count) 0) (now .last)) Nothing (searched s n NonNull)
-      found = next-is s n NonNull (bound (eqb (now .count) 0) (now .last)) here (now .rest) (Member m next) taken
+      pub rising-found : At m ≡ least (name-in s) (bound (eqb (now .count) 0) (now .last)) Nothing (searched s n NonNull)
+      rising-found = next-is s n NonNull (bound (eqb (now .count) 0) (now .last)) here (now .rest) (Member m next) taken
 
       pub rising-asks : (code-of (m .val .jentry) ≡ 5 → Strippable (value-in s m) (a - 1))
-          × (to .«key_jentry» < 2 ^ 60) × (to .key < 2 ^ 60) × (to .«val_jentry» + 4 ≤ to .key) × (to .«val_jentry» + 4 ≤ to .val) × (to .val ≤ 65536 * (64 - (a - 1)))
-      rising-asks = members-asks (now .storing) (At m) found m refl (omega (arith, now .left, ap length split))
+          × (to .«key_jentry» < 2 ^ 60) × (to .key < 2 ^ 60) × (to .«val_jentry» + 4 ≤ to .key) × (to .«val_jentry» + 4 ≤ to .val)
+          × (to .val ≤ 65536 * (64 - (a - 1)))
+      rising-asks = members-asks (now .storing) rising-found (omega (arith, now .left, ap length split))
 
-      module _ (e : Stripped) (out₁ : Bytes) (st : Strips e (unrepeated-item s (m .val)) (strip-item s (m .val)) out₁
-          (stored (name-in s) (strip-value s) (value-entry s) out (to .«key_jentry») (to .«val_jentry») (to .key) (to .val) m)) where
-        pub rising-repeats : e ≡ Repeated → unrepeated-of s ≡ false
-        rising-repeats = members-repeats (now .storing) (At m) found m refl e out₁ st
-
-        module _ (len : ℕ) (qe : e ≡ Len len) where
-          pub rising-len : len ≤ 65536
-          rising-len = len-short (now .storing) (At m) found m refl e out₁ st len qe
-
-          pub rising-on : (key : Bytes) → key ≡ name-in s m
-              → Storing-rising s n a at to₀ o out₁
-              (record { «key_jentry» = to .«key_jentry» + 4; «val_jentry» = to .«val_jentry» + 4; key = to .key + length key; val = to .val + len })
-              next
-          rising-on key hk =
-              let later : eqb (now .count + 1) 0 ≡ false = ne-eqb (now .count + 1) 0 (λ y. omega arith) in
-              record {
-                last = key;
-                count = now .count + 1;
-                storing = members-on (now .storing) (At m) found m refl e out₁ st len qe key hk;
-                rest =
-                    rw (later, hk)
-                    (ahead-taken s n NonNull (bound (eqb (now .count) 0) (now .last)) here (now .rest) m next taken
-                    (least-over (name-in s) (bound (eqb (now .count) 0) (now .last)) (searched s n NonNull) m (sym found)));
-                up = next-up;
-                left = omega (arith, now .left, ap length split);
-              }
+      pub rising-on : (e : Stripped) (out₁ : Bytes) → Strips e (unrepeated-item s (m .val)) (strip-item s (m .val)) out₁
+          (stored (name-in s) (strip-value s) (value-entry s) out (to .«key_jentry») (to .«val_jentry») (to .key) (to .val) m)
+          → {len : ℕ} → e ≡ Len len → {key : Bytes} → key ≡ name-in s m → {to′ : Places} → to′ ≡ past to (length key) len
+          → Storing-rising s n a at to₀ o out₁ to′ next
+      rising-on e out₁ st qe {key} hk et =
+          let later : eqb (now .count + 1) 0 ≡ false = ne-eqb (now .count + 1) 0 (λ y. omega arith) in
+          record {
+            last = key;
+            count = now .count + 1;
+            storing = members-on (now .storing) rising-found e out₁ st qe hk et;
+            rest =
+                rw (later, hk)
+                (ahead-taken s n NonNull (bound (eqb (now .count) 0) (now .last)) here (now .rest) m next taken
+                (least-over (name-in s) (bound (eqb (now .count) 0) (now .last)) (searched s n NonNull) m (sym rising-found)));
+            up = next-up;
+            left = omega (arith, now .left, ap length split);
+          }

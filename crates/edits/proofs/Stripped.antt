@@ -156,47 +156,59 @@ module _ (s : Bytes) (x : ItemAt) (t : Tree) (a : ℕ) (h : Tree-at s x t a) whe
           (rw (is-five k, h .bytes, r), rw (is-five k, h .bytes, r, kind-stripped t, k), rw (is-five k, h .bytes, r))
       go (no d) = (rw (no-five d, h .bytes, own-strip t d .0), rw (no-five d, h .entry, own-strip t d .0), rw (no-five d, own-strip t d .1))
 
--- An item stored, as the code goes.
-module _ (s : Bytes) (x : ItemAt) (b : Bytes) (hb : b ≡ bytes-at s x) (c : ℕ) (hc : c ≡ code-of (x .jentry)) (at : Cursor) (o : Bytes) where
-  abbrev whole : Bytes
-  whole = patch (patch o (at .jentry) (be32 (strip-entry s x))) (at .place) (strip-item s x)
+-- Storing that ended with a length.
+pub ends-len : {r : Stripped} {len : ℕ} (f : Bool) (b o w : Bytes) → Strips r f b o w → r ≡ Len len → Strips (Len len) f b o w
+ends-len f b o w h q = rw q at h
 
-  module _ (five : c ≡ 5) where
-    test : eqb (code-of (x .jentry)) 5 ≡ true
-    test = eq-eqb (code-of (x .jentry)) 5 (sym hc ∙ five)
+-- An item that is a container, as the code finds it: its payload is read, and can be stripped.
+pub record Nested-item (s : Bytes) (x : ItemAt) (b : Bytes) (a : ℕ) : Type 0 where
+  pub octets : Octets s
+  pub payload-is : b ≡ bytes-at s x
+  pub five : code-of (x .jentry) ≡ 5
+  pub asked : code-of (x .jentry) ≡ 5 → Strippable (bytes-at s x) a
 
-    pub item-asked : (a : ℕ) → (code-of (x .jentry) ≡ 5 → Strippable (bytes-at s x) a) → Strippable b a
-    item-asked a f = rw hb (f (sym hc ∙ five))
+module _ {s : Bytes} {x : ItemAt} {b : Bytes} {a : ℕ} (item : Nested-item s x b a) where
+  test : eqb (code-of (x .jentry)) 5 ≡ true
+  test = eq-eqb (code-of (x .jentry)) 5 (item .five)
 
-    pub item-repeats : (r : Stripped) (o₁ w : Bytes) → Strips r (unrepeated-of b) (stripped-of b) o₁ w → r ≡ Repeated → unrepeated-item s x ≡ false
-    item-repeats r o₁ w h q = let z : unrepeated-of b ≡ false = rw q at h in rw (test, ← hb) z
+  pub item-asked : Strippable b a
+  item-asked = rw (item .payload-is) (item .asked (item .five))
 
-    module _ (r : Stripped) (len : ℕ) (o₁ : Bytes) (h : Strips r (unrepeated-of b) (stripped-of b) o₁ (patch o (at .place) (stripped-of b))) (q : r ≡ Len len) where
-      by-len : (unrepeated-of b ≡ true) × (len ≡ length (stripped-of b)) × (o₁ ≡ patch o (at .place) (stripped-of b))
-      by-len = rw q at h
+  pub item-repeats : {r : Stripped} (o w : Bytes) → Strips r (unrepeated-of b) (stripped-of b) o w → r ≡ Repeated → unrepeated-item s x ≡ false
+  item-repeats o w h q = let z : unrepeated-of b ≡ false = rw q at h in rw (test, ← item .payload-is) z
 
-      pub item-short : (a : ℕ) → Octets s → Strippable b a → len ≤ 65536
-      item-short a os st =
-          let ob : Octets b = rw hb (octets-take (length-of (x .jentry)) (drop (x .place) s) (octets-drop (x .place) s os)) in
-          omega (arith, by-len .1, stripped-tree b a ob st .shorter, st .short)
+  pub item-short : {r : Stripped} {len : ℕ} (o w : Bytes) → Strips r (unrepeated-of b) (stripped-of b) o w → r ≡ Len len → len ≤ 65536
+  item-short o w h q =
+      let ob : Octets b = rw (item .payload-is) (octets-take (length-of (x .jentry)) (drop (x .place) s) (octets-drop (x .place) s (item .octets))) in
+      omega (arith, ends-len (unrepeated-of b) (stripped-of b) o w h q .1, stripped-tree b a ob item-asked .shorter, item-asked .short)
 
-      pub item-stripped : (e : ℕ) (o₂ : Bytes) → len ≤ 65536 → e ≡ entry-of (5 % 2 ^ 3) (len % 2 ^ 28) → o₂ ≡ patch o₁ (at .jentry) (be32 e) → at .jentry + 4 ≤ at .place
-          → Strips (Len len) (unrepeated-item s x) (strip-item s x) o₂ whole
-      item-stripped e o₂ l ee e₂ ap′ =
-          let ez : e ≡ entry-of 5 (length (stripped-of b)) = ee ∙ omega (arith, by-len .1) in
-          let lb = length-be32 (entry-of 5 (length (stripped-of b))) in (
-            rw (test, ← hb) (by-len .0),
-            rw (test, ← hb) (by-len .1),
-            e₂
-                ∙ rw (by-len .2, ez, test, ← hb)
-                (patch-comm o (at .jentry) (at .place) (be32 (entry-of 5 (length (stripped-of b)))) (stripped-of b) (omega arith)),
-          )
+  -- It is stored, and its entry behind it.
+  pub item-stripped : (at : Cursor) (o o₁ o₂ : Bytes) {r : Stripped} {len e : ℕ}
+      → Strips r (unrepeated-of b) (stripped-of b) o₁ (patch o (at .place) (stripped-of b)) → r ≡ Len len
+      → e ≡ entry-of (5 % 2 ^ 3) (len % 2 ^ 28) → o₂ ≡ patch o₁ (at .jentry) (be32 e) → at .jentry + 4 ≤ at .place
+      → Strips (Len len) (unrepeated-item s x) (strip-item s x) o₂
+      (patch (patch o (at .jentry) (be32 (strip-entry s x))) (at .place) (strip-item s x))
+  item-stripped at o o₁ o₂ {r} {len} {e} h q ee e₂ ap′ =
+      let told = ends-len (unrepeated-of b) (stripped-of b) o₁ (patch o (at .place) (stripped-of b)) h q in
+      let short = item-short o₁ (patch o (at .place) (stripped-of b)) h q in
+      let hb = item .payload-is in
+      let ez : e ≡ entry-of 5 (length (stripped-of b)) = ee ∙ omega (arith, told .1, short) in
+      let lb = length-be32 (entry-of 5 (length (stripped-of b))) in (
+        rw (test, ← hb) (told .0),
+        rw (test, ← hb) (told .1),
+        e₂
+            ∙ rw (told .2, ez, test, ← hb)
+            (patch-comm o (at .jentry) (at .place) (be32 (entry-of 5 (length (stripped-of b)))) (stripped-of b) (omega arith)),
+      )
 
-  pub item-as-is : (c ≡ 5 → ⊥) → (o₁ o₂ : Bytes) → o₁ ≡ patch o (at .jentry) (be32 (x .jentry)) → o₂ ≡ patch o₁ (at .place) b
-      → Strips (Len (length b)) (unrepeated-item s x) (strip-item s x) o₂ whole
-  item-as-is d o₁ o₂ e₁ e₂ =
-      let t : eqb (code-of (x .jentry)) 5 ≡ false = ne-eqb (code-of (x .jentry)) 5 (λ z. d (hc ∙ z)) in
-      (rw t, rw (t, hb), e₂ ∙ rw (e₁, t, hb))
+-- Anything else is stored as it is.
+pub item-as-is : (s : Bytes) (x : ItemAt) (b : Bytes) (c : ℕ) (at : Cursor) (o o₁ o₂ : Bytes) → b ≡ bytes-at s x → c ≡ code-of (x .jentry)
+    → (c ≡ 5 → ⊥) → o₁ ≡ patch o (at .jentry) (be32 (x .jentry)) → o₂ ≡ patch o₁ (at .place) b
+    → Strips (Len (length b)) (unrepeated-item s x) (strip-item s x) o₂
+    (patch (patch o (at .jentry) (be32 (strip-entry s x))) (at .place) (strip-item s x))
+item-as-is s x b c at o o₁ o₂ hb hc d e₁ e₂ =
+    let t : eqb (code-of (x .jentry)) 5 ≡ false = ne-eqb (code-of (x .jentry)) 5 (λ z. d (hc ∙ z)) in
+    (rw t, rw (t, hb), e₂ ∙ rw (e₁, t, hb))
 
 -- How storing ended, told of an equal buffer.
 pub strips-as : (r : Stripped) (f : Bool) (b o w w′ : Bytes) → w ≡ w′ → Strips r f b o w → Strips r f b o w′
@@ -228,17 +240,17 @@ neither (extension x) h k e a b = let z : _≡_ {A = ℕ} 0 1 = cc in omega arit
 neither (array ts) h k e a b = a (length (item-parts ts)) e
 neither (object ms) h k e a b = b (length (member-parts ms)) e
 
-module _ {C : Type 0} (s : Bytes) (a : ℕ) (o : Octets s) (h : Strippable s a) where
+module _ {C : Type 0} {s : Bytes} {a : ℕ} (o : Octets s) (h : Strippable s a) where
   no-other : ((n : ℕ) → header s ≡ Array n → ⊥) → ((n : ℕ) → header s ≡ Object n → ⊥) → C
   no-other d e = let w = stripped-tree s a o h .contained in absurd (neither (stripped-tree s a o h .tree) (header s) (w .container) (w .head) d e)
 
-  pub no-scalar : (n : ℕ) → header s ≡ Scalar n → C
-  no-scalar n q =
+  pub no-scalar : {n : ℕ} → header s ≡ Scalar n → C
+  no-scalar {n} q =
       no-other (λ m e. let z : Scalar n ≡ Array m = sym q ∙ e in let y : _≡_ {A = ℕ} 0 1 = cc in omega arith)
       (λ m e. let z : Scalar n ≡ Object m = sym q ∙ e in let y : _≡_ {A = ℕ} 0 1 = cc in omega arith)
 
-  pub no-refusal : (r : Refusal) → header s ≡ Refused r → C
-  no-refusal r q =
+  pub no-refusal : {r : Refusal} → header s ≡ Refused r → C
+  no-refusal {r} q =
       no-other (λ m e. let z : Refused r ≡ Array m = sym q ∙ e in let y : _≡_ {A = ℕ} 0 1 = cc in omega arith)
       (λ m e. let z : Refused r ≡ Object m = sym q ∙ e in let y : _≡_ {A = ℕ} 0 1 = cc in omega arith)
 
@@ -246,9 +258,9 @@ module _ {C : Type 0} (s : Bytes) (a : ℕ) (o : Octets s) (h : Strippable s a) 
 pub handed : (s : Bytes) → take (length s - 0) s ≡ s
 handed s = rw (sub-zero (length s)) (take-length s)
 
-pub handed-asks : (s : Bytes) (a : ℕ) (h : Header) → Strippable s a → header s ≡ h
+pub handed-asks : {s : Bytes} {a : ℕ} {h : Header} → Strippable s a → header s ≡ h
     → Strippable (take (length s - 0) s) a × (header (take (length s - 0) s) ≡ h)
-handed-asks s a h st e = rw (handed s) (st, e)
+handed-asks {s} st e = rw (handed s) (st, e)
 
 pub handed-back : (r : Stripped) (s o x : Bytes) (at : ℕ)
     → Strips r (unrepeated-of (take (length s - 0) s)) (stripped-of (take (length s - 0) s)) x (patch (take (length o - 0) o) at (stripped-of (take (length s - 0) s)))

@@ -22,10 +22,11 @@ use layout::jentry::type_code;
 use layout::parts::Cursor;
 use layout::parts::ItemAt;
 use layout::parts::MemberAt;
-use layout::parts::PartAt;
 use layout::parts::Places;
+use layout::parts::first_part;
 use layout::parts::part_behind;
 use layout::parts::payload_at;
+use layout::parts::places_past;
 use layout::parts::read_member;
 use layout::refusal::Refusal;
 use layout::util::Header;
@@ -107,10 +108,7 @@ fn put_items_stripped(s: &[u8], n: usize, out: &mut [u8], at: usize, allowance: 
     ensures { λ r. ⌜ Strips r (unrepeatedOf (now (s .entry))) (strippedOf (now (s .entry))) (now (out .exit))
         (patch (now (out .entry)) at (strippedOf (now (s .entry)))) ⌝ }
 {
-    let mut part = PartAt {
-        index: 0,
-        place: HEADER_SIZE + JENTRY_SIZE * n,
-    };
+    let mut part = first_part(n);
     let mut here = Cursor {
         jentry: at + HEADER_SIZE,
         place: at + part.place,
@@ -167,12 +165,7 @@ fn put_sorted_stripped(
             return Stripped::Repeated;
         };
         last = payload_at(s, member.key);
-        to = Places {
-            key_jentry: to.key_jentry + JENTRY_SIZE,
-            val_jentry: to.val_jentry + JENTRY_SIZE,
-            key: to.key + last.len(),
-            val: to.val + len,
-        };
+        to = places_past(to, last.len(), len);
         i += 1;
     }
     Stripped::Len(to.val - at)
@@ -201,12 +194,7 @@ fn put_rising_stripped(
             let Stripped::Len(len) = put_member_stripped(s, member, out, to, allowance - 1) else {
                 return Stripped::Repeated;
             };
-            to = Places {
-                key_jentry: to.key_jentry + JENTRY_SIZE,
-                val_jentry: to.val_jentry + JENTRY_SIZE,
-                key: to.key + payload_at(s, member.key).len(),
-                val: to.val + len,
-            };
+            to = places_past(to, payload_at(s, member.key).len(), len);
         }
         here = next;
     }
