@@ -39,7 +39,7 @@ use Rattle.edits.proofs.Rows.{row-entry, row-bytes, row-lengths}
 use Rattle.edits.proofs.Runs.{laid, laid-append, laid-record}
 use Rattle.edits.proofs.Withouts.{array-word}
 use Rattle.edits.proofs.Tables.{Contains}
-use Rattle.edits.proofs.Stripped.{stripped-tree, Tree-at, strippable-at, stripped-at}
+use Rattle.edits.proofs.Stripped.{stripped-tree, Tree-at, strippable-at, stripped-at, ends-len}
 
 -- Some items and one more.
 abbrev one-more : Items → Tree → Items
@@ -320,7 +320,7 @@ module _ {s : Bytes} {n a at : ℕ} {w : Array-at s n a} {o out : Bytes} {here :
       module _ {len : ℕ} (q : r ≡ Len len) where
         told : (unrepeated-item s x ≡ true) × (len ≡ length (strip-item s x))
             × (out₁ ≡ patch (patch out (here .jentry) (be32 (strip-entry s x))) (here .place) (strip-item s x))
-        told = rw q at st
+        told = ends-len _ _ _ _ st q
 
         abbrev t : Tree
         t = next-item .0

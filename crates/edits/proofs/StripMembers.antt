@@ -58,7 +58,7 @@ use Rattle.edits.proofs.Withouts.{object-word}
 use Rattle.edits.proofs.Sorteds.{Object-at, object-at, stand-count, stand-sizes, stand-woven}
 use Rattle.edits.proofs.SortedAnews.{nth-in, column-part}
 use Rattle.edits.proofs.Aheads.{searched, all-is, ahead-starts}
-use Rattle.edits.proofs.Stripped.{handed, stripped-tree, no-longer, Tree-at, strippable-at, stripped-at}
+use Rattle.edits.proofs.Stripped.{handed, stripped-tree, no-longer, Tree-at, strippable-at, stripped-at, ends-len}
 
 -- Only null has code 0.
 null-code : (t : Tree) → eqb (code (kind t)) 0 ≡ is-null t
@@ -477,13 +477,13 @@ module _ {s : Bytes} {n a at : ℕ} {z : Sizes} {to₀ : Places} {o out last : B
       module _ {len : ℕ} (qe : e ≡ Len len) where
         told : (unrepeated-item s (m .val) ≡ true) × (len ≡ length (strip-item s (m .val)))
             × (out₁ ≡ stored (name-in s) (strip-value s) (value-entry s) out (to .«key_jentry») (to .«val_jentry») (to .key) (to .val) m)
-        told = rw qe at st
+        told = ends-len _ _ _ _ st qe
 
         pub len-short : len ≤ 65536
         len-short = omega (arith, told .1, sizes-all, column-part (strip-value s) (sorted (name-in s) (searched s n NonNull)) i m is-nth)
 
         module _ {key : Bytes} (hk : key ≡ name-in s m) where
-          -- What going on behind it asks.
+          -- What is asked where the places go on behind it.
           pub past-room : (to .«key_jentry» < 2 ^ 60) × (to .«val_jentry» < 2 ^ 60) × (to .key + length key < 2 ^ 64) × (to .val + len < 2 ^ 64)
           past-room =
               let r = members-room in

@@ -1,6 +1,6 @@
 -- A container stripped: measured first, by the same writer on a part of no bytes, then stored where there is room; and the numbers
 -- of strip in their order.
-use Prim.Native.Nat.{ℕ, _+_, _≤_, _<_}
+use Prim.Native.Nat.{ℕ, _≤_, _<_}
 use native.Mathlib.Omega.{arith}
 use mathlib.Core.Path.{_≡_, refl, ap, sym, _∙_}
 use mathlib.Core.Bool.{Bool, true, false, cond}

@@ -164,15 +164,15 @@ ends-len f b o w h q = rw q at h
 pub record Nested-item (s : Bytes) (x : ItemAt) (b : Bytes) (a : ℕ) : Type 0 where
   pub octets : Octets s
   pub payload-is : b ≡ bytes-at s x
-  pub five : code-of (x .jentry) ≡ 5
+  pub is-container : code-of (x .jentry) ≡ 5
   pub asked : code-of (x .jentry) ≡ 5 → Strippable (bytes-at s x) a
 
 module _ {s : Bytes} {x : ItemAt} {b : Bytes} {a : ℕ} (item : Nested-item s x b a) where
   test : eqb (code-of (x .jentry)) 5 ≡ true
-  test = eq-eqb (code-of (x .jentry)) 5 (item .five)
+  test = eq-eqb (code-of (x .jentry)) 5 (item .is-container)
 
   pub item-asked : Strippable b a
-  item-asked = rw (item .payload-is) (item .asked (item .five))
+  item-asked = rw (item .payload-is) (item .asked (item .is-container))
 
   pub item-repeats : {r : Stripped} (o w : Bytes) → Strips r (unrepeated-of b) (stripped-of b) o w → r ≡ Repeated → unrepeated-item s x ≡ false
   item-repeats o w h q = let z : unrepeated-of b ≡ false = rw q at h in rw (test, ← item .payload-is) z

@@ -410,7 +410,7 @@ nested t c =
     record {
       octets = octets-of (start .args .s .now) (λ i. omega (arith, entry .shared-slice-known .given i));
       payload-is = code .before .payload-at .ensures;
-      five = sym (code .type-code .ensures) ∙ c .if1 .taken;
+      is-container = sym (code .type-code .ensures) ∙ c .if1 .taken;
       asked = start .pre .1 .0;
     }
 
