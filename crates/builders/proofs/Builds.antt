@@ -46,7 +46,7 @@ use Rattle.builders.specs.Room.{room-for, sized}
 use Rattle.builders.specs.declared.search.Kept.the-variants.{All}
 use Rattle.builders.specs.declared.room.Room.{Room}
 use Rattle.builders.specs.declared.room.Room.the-variants.{Serves, Refused as NoRoom}
-use Rattle.layout.specs.Parts.{texts, name-in, value-in, members-at}
+use Rattle.layout.specs.Parts.{texts, name-in, value-in, members-at, parts-of}
 use Rattle.builders.specs.Names.{strings-at, Pairs}
 use Rattle.builders.specs.Search.{kept-of}
 use Rattle.builders.specs.Sorted.{sorted}
@@ -128,7 +128,7 @@ pair-depth (n ∷ ns) none = omega arith
 pair-depth (n ∷ ns) (item u us) = omega (arith, pair-depth ns us)
 
 pub array-parts : (s : Bytes) (n : ℕ) (ts : Items) → Known s (array ts) → n ≡ length (item-parts ts)
-    → (parts-at s 0 (4 + 4 * n) n ≡ item-parts ts) × AllFit (item-parts ts)
+    → (parts-of s n ≡ item-parts ts) × AllFit (item-parts ts)
 array-parts s n ts k e =
     let f = array-fits ts (omega (arith, k .short, ap length (k .bytes))) in
     (rw (e, ← k .bytes) (parts-at-record (2 ^ 31 + length (item-parts ts)) 0 (item-parts ts) (f .fits) tt), f .fits)
@@ -174,7 +174,7 @@ module _ (ks vs : Bytes) (n : ℕ) (ts us : Items) (kk : Known ks (array ts)) (k
     abbrev ms : Members
     ms = pair (texts (item-parts ts)) us
 
-    parts-are : parts-at ks 0 (4 + 4 * n) n ≡ item-parts ts
+    parts-are : parts-of ks n ≡ item-parts ts
     parts-are = array-parts ks n ts kk en .0
 
     strings : all-strings (item-parts ts) ≡ true
@@ -214,7 +214,7 @@ module _ (ks vs : Bytes) (n : ℕ) (ts us : Items) (kk : Known ks (array ts)) (k
     ends e o′ b d q h =
         two-sized build ks vs o room (array ts) (kk .reads) (array us) (kv .reads) (object (in-order ms)) (built true d) e o′ b deep q h
 
-    pub build-repeated : distinct (texts (parts-at ks 0 (4 + 4 * n) n)) ≡ false
+    pub build-repeated : distinct (texts (parts-of ks n)) ≡ false
         → EndedIn (Refused Repeated) o o (on-two build ks vs room)
     build-repeated q =
         two-edit build ks vs o room (array ts) (kk .reads) (array us) (kv .reads) Repeated
@@ -248,7 +248,7 @@ module _ (ks vs : Bytes) (n : ℕ) (ts us : Items) (kk : Known ks (array ts)) (k
           payloads-append,
         )
 
-    pub build-rising : rising-parts (parts-at ks 0 (4 + 4 * n) n) ≡ true → (e : Ending) (o′ : Bytes)
+    pub build-rising : rising-parts (parts-of ks n) ≡ true → (e : Ending) (o′ : Bytes)
         → EndedIn e o o′ (sized room (joined (bitOr (2 ^ 30) n) ks (Table n) vs (Table n)))
         → EndedIn e o o′ (on-two build ks vs room)
     build-rising q e o′ h =
@@ -258,7 +258,7 @@ module _ (ks vs : Bytes) (n : ℕ) (ts us : Items) (kk : Known ks (array ts)) (k
         ends e o′ _ (rising-distinct ns up) (joined-object ∙ ap (λ m. encode (object m)) (sym same)) h
 
     -- Other names: the members in byte order, one after another.
-    module _ (dist : distinct (texts (parts-at ks 0 (4 + 4 * n) n)) ≡ true) where
+    module _ (dist : distinct (texts (parts-of ks n)) ≡ true) where
       distinct-ns : distinct ns ≡ true
       distinct-ns = ap (λ ps. distinct (texts ps)) (sym parts-are) ∙ dist
 
@@ -382,18 +382,18 @@ module _ {ks vs : Bytes} {n : ℕ} (p : Paired ks vs n) where
     abbrev On : Ending → Bytes → Type 0
     On e o′ = EndedIn e o o′ (on-two build ks vs room)
 
-    pub pairs-repeated : distinct (texts (parts-at ks 0 (4 + 4 * n) n)) ≡ false → On (Refused Repeated) o
+    pub pairs-repeated : distinct (texts (parts-of ks n)) ≡ false → On (Refused Repeated) o
     pairs-repeated =
         build-repeated ks vs n (keys-known .0) (vals-known .0) (keys-known .1) (vals-known .1) (keys-known .2) (vals-known .2)
         (p .pairs .strings) o room
 
-    pub pairs-rising : rising-parts (parts-at ks 0 (4 + 4 * n) n) ≡ true → (e : Ending) (o′ : Bytes)
+    pub pairs-rising : rising-parts (parts-of ks n) ≡ true → (e : Ending) (o′ : Bytes)
         → EndedIn e o o′ (sized room (joined (bitOr (2 ^ 30) n) ks (Table n) vs (Table n))) → On e o′
     pairs-rising =
         build-rising ks vs n (keys-known .0) (vals-known .0) (keys-known .1) (vals-known .1) (keys-known .2) (vals-known .2)
         (p .pairs .strings) o room
 
-    module _ (dist : distinct (texts (parts-at ks 0 (4 + 4 * n) n)) ≡ true) (len : ℕ) (el : len ≡ length ks + (length vs - 4))
+    module _ (dist : distinct (texts (parts-of ks n)) ≡ true) (len : ℕ) (el : len ≡ length ks + (length vs - 4))
         (serves : Room) (hs : serves ≡ room-for len room) where
       pub pairs-refused : (x : Refusal) → serves ≡ NoRoom x → On (Refused x) o
       pairs-refused =

@@ -13,6 +13,7 @@ use Rattle.layout.specs.Tree.{Tree, null, boolean, number, string, extension, a
 use Rattle.layout.specs.Encode.{encode}
 use Rattle.layout.specs.Read.{header, container-in, root-in, nested, read}
 use Rattle.layout.specs.Place.{parts-at}
+use Rattle.layout.specs.Parts.{parts-of}
 use Rattle.layout.specs.Check.{checked}
 use Rattle.layout.specs.Ended.{into}
 use Rattle.layout.specs.Room.{EndedIn}
@@ -47,7 +48,7 @@ use Rattle.edits.proofs.OnPaths.{path-left, path-path, path-absent, pat
 
 -- The steps of a path of `n`.
 abbrev pub steps-in : Bytes → ℕ → List Step
-steps-in path n = part-steps (parts-at path 0 (4 + 4 * n) n)
+steps-in path n = part-steps (parts-of path n)
 
 -- ---- from one step to the next
 
@@ -143,7 +144,7 @@ scalar-look-up [] t m e q = absurd (q refl)
 scalar-look-up (s ∷ p) t m e q = rw (scalar-none s t m e)
 
 pub steps-length : (path : Bytes) (n : ℕ) → length (steps-in path n) ≡ n
-steps-length path n = length-part-steps (parts-at path 0 (4 + 4 * n) n) ∙ length-parts path 0 (4 + 4 * n) n
+steps-length path n = length-part-steps (parts-of path n) ∙ length-parts path 0 (4 + 4 * n) n
 
 -- ---- an edit by a path: the tests that look-up and delete share
 

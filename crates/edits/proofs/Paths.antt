@@ -14,7 +14,7 @@ use Rattle.layout.specs.Number.{decoded}
 use Rattle.layout.specs.Tree.{Tree, null, boolean, number, string, extension, array, object, Items, none, item}
 use Rattle.layout.specs.Encode.{Part, item-parts, part}
 use Rattle.layout.specs.Read.{header, read}
-use Rattle.layout.specs.Place.{parts-at}
+use Rattle.layout.specs.Parts.{parts-of}
 use Rattle.layout.specs.Check.{checked}
 use Rattle.layout.specs.declared.number.Number.{Number}
 use Rattle.layout.specs.declared.number.Number.the-variants.{Nan, Infinity, NegInfinity, Int64, UInt64, Float64, Decimal64, WideDecimal, Refused as NotListed}
@@ -125,19 +125,19 @@ path-no-array b o c h =
 -- The parts of an array are steps, or one of them is none.
 array-path : (b : Bytes) (n : ℕ) (ts : Items) → Known b (array ts) → n ≡ length (item-parts ts)
     → path-of b
-    ≡ cond (are-steps (parts-at b 0 (4 + 4 * n) n)) (gives (part-steps (parts-at b 0 (4 + 4 * n) n))) (refused Path)
+    ≡ cond (are-steps (parts-of b n)) (gives (part-steps (parts-of b n))) (refused Path)
 array-path b n ts k e = path-read b (array ts) (k .reads) ∙ rw (array-parts b n ts k e .0) (steps-taken ts)
 
 module _ (b : Bytes) (n : ℕ) (o : Octets b) (c : checked (read b) ≡ Readable) (h : header b ≡ Array n) where
   path-by : path-of b
-      ≡ cond (are-steps (parts-at b 0 (4 + 4 * n) n)) (gives (part-steps (parts-at b 0 (4 + 4 * n) n))) (refused Path)
+      ≡ cond (are-steps (parts-of b n)) (gives (part-steps (parts-of b n))) (refused Path)
   path-by = let a = array-known b n o c h in array-path b n (a .0) (a .1) (a .2)
 
-  pub path-steps : are-steps (parts-at b 0 (4 + 4 * n) n) ≡ true
-      → path-of b ≡ gives (part-steps (parts-at b 0 (4 + 4 * n) n))
+  pub path-steps : are-steps (parts-of b n) ≡ true
+      → path-of b ≡ gives (part-steps (parts-of b n))
   path-steps q = path-by ∙ rw q
 
-  pub path-no-steps : are-steps (parts-at b 0 (4 + 4 * n) n) ≡ false → path-of b ≡ refused Path
+  pub path-no-steps : are-steps (parts-of b n) ≡ false → path-of b ≡ refused Path
   path-no-steps q = path-by ∙ rw q
 
 -- What the count of the steps says.
@@ -148,13 +148,13 @@ no-count n e = let z : _≡_ {A = ℕ} 0 1 = cc in let w : ⊥ = omega arith in 
 -- A path of `n` steps.
 abbrev Counted : Bytes → ℕ → Type 0
 Counted b n =
-    (header b ≡ Array n) × (n < 2 ^ 29) × (path-of b ≡ gives (part-steps (parts-at b 0 (4 + 4 * n) n)))
+    (header b ≡ Array n) × (n < 2 ^ 29) × (path-of b ≡ gives (part-steps (parts-of b n)))
 
 module _ (b : Bytes) (n : ℕ) (o : Octets b) where
   counted-array : (ts : Items) → Known b (array ts) → n ≡ length (item-parts ts) → are-steps (item-parts ts) ≡ true → Counted b n
   counted-array ts k e q =
       let h : header b ≡ Array n = k .head ∙ ap Array (sym e) in
-      let p : parts-at b 0 (4 + 4 * n) n ≡ item-parts ts = array-parts b n ts k e .0 in
+      let p : parts-of b n ≡ item-parts ts = array-parts b n ts k e .0 in
       (h, told-array b (header b) refl n h .1, array-path b n ts k e ∙ rw (p, q))
 
   counted-items : (ts : Items) → Known b (array ts) → (t : Bool) → are-steps (item-parts ts) ≡ t
@@ -180,7 +180,7 @@ module _ (b : Bytes) (n : ℕ) (o : Octets b) where
   counted-read (refused x) r e = no-count n e
 
   pub steps-counted : Count n ≡ steps-told (path-of b)
-      → (header b ≡ Array n) × (n < 2 ^ 29) × (path-of b ≡ gives (part-steps (parts-at b 0 (4 + 4 * n) n)))
+      → (header b ≡ Array n) × (n < 2 ^ 29) × (path-of b ≡ gives (part-steps (parts-of b n)))
   steps-counted e = counted-read (read b) refl (e ∙ ap steps-told (path-is b))
 
 -- Whatever is no path is refused as one.
@@ -216,10 +216,10 @@ module _ (b : Bytes) (c : Check) (hc : c ≡ checked (read b)) where
     pub count-no-array : ((n : ℕ) → h ≡ Array n → ⊥) → Refused ≡ steps-told (path-of b)
     count-no-array f = sym (ap steps-told (path-no-array b o (sym hc ∙ q) (λ n e. f n (hh ∙ e))))
 
-    module _ (n : ℕ) (e : h ≡ Array n) (g : Bool) (hg : g ≡ are-steps (parts-at b 0 (4 + 4 * n) n)) where
+    module _ (n : ℕ) (e : h ≡ Array n) (g : Bool) (hg : g ≡ are-steps (parts-of b n)) where
       pub count-steps : g ≡ true → Count n ≡ steps-told (path-of b)
       count-steps t =
-          let l : length (part-steps (parts-at b 0 (4 + 4 * n) n)) ≡ n = length-part-steps (parts-at b 0 (4 + 4 * n) n) ∙ length-parts b 0 (4 + 4 * n) n in
+          let l : length (part-steps (parts-of b n)) ≡ n = length-part-steps (parts-of b n) ∙ length-parts b 0 (4 + 4 * n) n in
           ap Count (sym l) ∙ sym (ap steps-told (path-steps b n o (sym hc ∙ q) (sym hh ∙ e) (sym hg ∙ t)))
 
       pub count-no-steps : g ≡ false → Refused ≡ steps-told (path-of b)

@@ -14,7 +14,7 @@ use Rattle.layout.specs.Bytes.{Bytes, word-at}
 use Rattle.layout.specs.Encode.{Part}
 use Rattle.layout.specs.Entry.{code, code-of, kind-of, entry-at, lengths}
 use Rattle.layout.specs.Order.{same-bytes}
-use Rattle.layout.specs.Parts.{first-part, next-part, part-in, part-payload}
+use Rattle.layout.specs.Parts.{first-part, next-part, part-in, part-payload, parts-of}
 use Rattle.layout.specs.Place.{parts-at}
 use Rattle.layout.specs.Read.{header}
 use Rattle.layout.specs.declared.item.Kind.{Kind}
@@ -26,9 +26,7 @@ use Rattle.layout.proofs.Fields.{length-lt}
 use Rattle.layout.proofs.Checks.{one-less, parts-step}
 use Rattle.layout.proofs.Pieces.{nth-is}
 use Rattle.layout.proofs.Walks.{lengths-le}
-use Rattle.values.specs.Alike.{same-kind, same-payload, same-part, same-parts}
-use Rattle.values.specs.Alike.{Member, member-at, Near, next, members-from, first, members}
-use Rattle.values.specs.Alike.{like, likes, same-members, same-by, same-at}
+use Rattle.values.specs.Alike.{same-kind, same-payload, same-part, same-parts, Member, member-at, Near, next, members-from, first, members, like, likes, same-members, same-by, same-at}
 use Rattle.values.specs.declared.value.PairAt.{PairAt}
 
 -- Kinds and payloads.
@@ -331,7 +329,7 @@ module _ {k : ℕ} {a b : Bytes} {h : Header} (d : Headed k a b h) where
     pub same-scalar : h ≡ Scalar n → g ≡ same-parts (same-at (k - 1)) (parts-at a 0 8 1) (parts-at b 0 8 1) → g ≡ same-at k a b
     same-scalar q t = same-headed g (Scalar n) q t
 
-    pub same-array : h ≡ Array n → g ≡ same-parts (same-at (k - 1)) (parts-at a 0 (4 + 4 * n) n) (parts-at b 0 (4 + 4 * n) n)
+    pub same-array : h ≡ Array n → g ≡ same-parts (same-at (k - 1)) (parts-of a n) (parts-of b n)
         → g ≡ same-at k a b
     same-array q t = same-headed g (Array n) q t
 

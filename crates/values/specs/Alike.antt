@@ -8,7 +8,7 @@ use Rattle.layout.specs.Entry.{code}
 use Rattle.layout.specs.Encode.{Part}
 use Rattle.layout.specs.Order.{same-bytes}
 use Rattle.layout.specs.Place.{parts-at}
-use Rattle.layout.specs.Parts.{next-part, first-part, nth-part, part-in, part-payload}
+use Rattle.layout.specs.Parts.{next-part, first-part, nth-part, part-in, part-payload, parts-of}
 use Rattle.layout.specs.Read.{header}
 use Rattle.layout.specs.declared.item.Kind.{Kind}
 use Rattle.layout.specs.declared.item.Kind.the-variants.{Null, String, Number, False, True, Container, Extension}
@@ -88,7 +88,7 @@ same-members f (m ∷ ms) ns = ltb (likes f m ms) (likes f m ns) && same-members
 abbrev pub same-by : (Bytes → Bytes → Bool) → Header → Bytes → Bytes → Bool
 same-by f (Refused r) a b = false
 same-by f (Scalar n) a b = same-parts f (parts-at a 0 8 1) (parts-at b 0 8 1)
-same-by f (Array n) a b = same-parts f (parts-at a 0 (4 + 4 * n) n) (parts-at b 0 (4 + 4 * n) n)
+same-by f (Array n) a b = same-parts f (parts-of a n) (parts-of b n)
 same-by f (Object n) a b = same-members f (members a n) (members b n)
 
 -- Down to `k` levels.
