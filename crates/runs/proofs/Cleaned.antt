@@ -44,7 +44,9 @@ find-cleaned x empty d = refl
 find-cleaned x (member n t ms) d =
     let c = distinct-cons n (names ms) d in
     ⊎-elim
-    (λ (e : x ≡ n). rw (e, find-first n t ms) (here (is-null t) (not-in n (strip-members ms) (λ i. has-not n (names ms) (c .0) (fewer-in (names (strip-members ms)) (names ms) (strip-fewer ms) n i)))))
+    (λ (e : x ≡ n). rw (e, find-first n t ms)
+    (here (is-null t) (not-in n (strip-members ms)
+    (λ i. has-not n (names ms) (c .0) (fewer-in (names (strip-members ms)) (names ms) (strip-fewer ms) n i)))))
     (λ h. rw (find-later x n t ms h) (there (is-null t) h ∙ find-cleaned x ms (c .1)))
     (equal-or-not x n)
   where

@@ -88,7 +88,8 @@ leave-members : (f : Tree → Option Tree) (n : Bytes) (ms : Members) (c : Tree)
     → in-order (canon-members (leave-named f n ms)) ≡ in-order (change-member (canon-found (f c)) n (in-order (canon-members ms)))
 leave-members f n ms c d e =
     find-unique _ _ (in-order-rising (canon-members (leave-named f n ms))) (in-order-rising (change-member (canon-found (f c)) n (in-order (canon-members ms))))
-    (λ x. canon-find x (leave-named f n ms) ∙ ⊎-elim (λ q. here x q) (λ h. there x h) (equal-or-not x n) ∙ sym (find-in-order x (change-member (canon-found (f c)) n (in-order (canon-members ms)))))
+    (λ x. canon-find x (leave-named f n ms) ∙ ⊎-elim (λ q. here x q) (λ h. there x h) (equal-or-not x n)
+    ∙ sym (find-in-order x (change-member (canon-found (f c)) n (in-order (canon-members ms)))))
   where
     left-here : (o : Option Tree) → o ≡ find n (change-member o n (in-order (canon-members ms)))
     left-here nothing = sym (find-gone n (in-order (canon-members ms)) (in-order-rising (canon-members ms)))
