@@ -10,11 +10,11 @@ use borrow.Author.Tests.{lt-ltb, le-ltb}
 use Rattle.layout.specs.Bytes.{Bytes}
 use Rattle.layout.specs.Patch.{patch}
 use Rattle.layout.specs.Ended.{refusal, into}
-use Rattle.layout.specs.Room.{EndedIn, Fits}
+use Rattle.layout.specs.Room.{EndedIn}
 use Rattle.layout.specs.declared.ending.Ending.the-variants.{Done, Refused}
 use Rattle.layout.specs.declared.refusal.Refusal.{Refusal}
 use Rattle.layout.specs.declared.refusal.Refusal.the-variants.{Result, Buffer}
-use Rattle.layout.proofs.Patches.{in-short, in-full, into-fits}
+use Rattle.layout.proofs.Patches.{in-short, in-full}
 use Rattle.builders.specs.Room.{room-for, sized}
 use Rattle.builders.specs.declared.room.Room.{Room}
 use Rattle.builders.specs.declared.room.Room.the-variants.{Serves, Refused as NoRoom}
@@ -64,12 +64,3 @@ module _ (b o : Bytes) (room n : ℕ) (e : n ≡ length b) (r : Room) (hr : r �
       by-length (no k) d = absurd (never Result (room-long n room (omega arith)))
       by-length (yes k) (no j) = absurd (never Buffer (room-short n room k (omega arith)))
       by-length (yes k) (yes j) = rw (le-ltb 65536 (length b) (omega arith)) (in-full b o room o′ n (omega arith) e p)
-
--- What comes of bytes goes into the room.
-pub sized-fits : (room : ℕ) (b : Bytes) → Fits room (sized room b)
-unfolding sized
-sized-fits room b = by-length (ltb 65536 (length b))
-  where
-    by-length : (long : Bool) → Fits room (cond long (refusal Result) (into room b))
-    by-length true = tt
-    by-length false = into-fits room b
