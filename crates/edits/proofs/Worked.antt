@@ -1,24 +1,22 @@
--- Document 01, "Worked bytes": the lines "Marked * are proved", in their order, about the definitions that the contracts cite. A
--- result goes `into` a buffer of any length, so that each line says as well from which length on a buffer serves. An absence and
--- a number are so with every buffer.
+-- Document 01, "Worked bytes": "Marked * are proved". One table, in the document's order, each line a call and the answer that the
+-- document gives it; `worked` proves every line, about the definitions that the contracts cite and for a buffer of every length. Two
+-- lines without a star stand among them, where their other half has one.
 use Prim.Native.Nat.{ℕ}
-use native.Mathlib.Omega.{arith}
 use mathlib.Core.Path.{_≡_, refl}
 use mathlib.Core.Bool.{true}
-use mathlib.Core.List.{[], _∷_}
-use mathlib.Core.Logic.{⊎-elim}
+use mathlib.Core.List.{List, [], _∷_, _++_}
 use Rattle.layout.specs.Bytes.{Bytes, be32, be-value}
 use Rattle.layout.specs.Answer.{gives}
 use Rattle.layout.specs.Tree.{Tree, null, boolean, number, object, empty, member}
 use Rattle.layout.specs.Number.{signed, number-of}
-use Rattle.layout.specs.Encode.{encode}
 use Rattle.layout.specs.Read.{read}
-use Rattle.layout.specs.Sound.{Sound}
 use Rattle.layout.specs.Check.{checked, soundness}
-use Rattle.layout.specs.Ended.{absence, refusal, into}
+use Rattle.layout.specs.Ended.{Outcome, result, absence, refusal, into}
 use Rattle.layout.specs.Order.{order, before, same-bytes}
 use Rattle.layout.specs.declared.refusal.Refusal.the-variants.{Short, Layout, Repeated}
+use Rattle.layout.specs.declared.check.Check.{Check}
 use Rattle.layout.specs.declared.check.Check.the-variants.{Readable, Refused}
+use Rattle.layout.specs.declared.sound.Soundness.{Soundness}
 use Rattle.layout.specs.declared.sound.Soundness.the-variants.{Unsound}
 use Rattle.builders.specs.Order.{has}
 use Rattle.builders.specs.Build.{on-two}
@@ -27,157 +25,128 @@ use Rattle.edits.specs.Path.{get-by, delete-by, on-path}
 use Rattle.edits.specs.Concat.{concat}
 use Rattle.edits.specs.Strip.{strip, on-one}
 
--- ---- records
+-- ---- what a line says
 
--- "A is 40000001 10000001 20000002 61 5001, that is {"a":1}."
+-- Bytes in the document's groups: four bytes, and what follows them.
+infixr 67 _▸_
+abbrev _▸_ : ℕ → Bytes → Bytes
+w ▸ b = be32 w ++ b
+
+data Line : Type 0 where
+  reads : Bytes → Tree → Line
+  checks : Bytes → Check → Line
+  tests : Bytes → Soundness → Line
+  gets : Bytes → Bytes → Outcome → Line
+  deletes : Bytes → Bytes → Outcome → Line
+  strips : Bytes → Outcome → Line
+  concats : Bytes → Bytes → Outcome → Line
+
+-- A result goes into a buffer that is long enough; an absence and a number are so with every buffer.
+abbrev told : Outcome → ℕ → Outcome
+told (result b) room = into room b
+told absence room = absence
+told (refusal r) room = refusal r
+
+abbrev Holds : Line → Type 0
+Holds (reads s t) = read s ≡ gives t
+Holds (checks s c) = checked (read s) ≡ c
+Holds (tests s c) = soundness (read s) ≡ c
+Holds (gets s path o) = (room : ℕ) → on-path get-by s path room ≡ told o room
+Holds (deletes s path o) = (room : ℕ) → on-path delete-by s path room ≡ told o room
+Holds (strips s o) = (room : ℕ) → on-one strip s room ≡ told o room
+Holds (concats l r o) = (room : ℕ) → on-two concat l r room ≡ told o room
+
+abbrev AllHold : List Line → Type 0
+AllHold [] = Unit {0}
+AllHold (line ∷ lines) = Holds line × AllHold lines
+
+infixr 20 _also_
+abbrev _also_ : {A B : Type 0} → A → B → A × B
+a also b = (a, b)
+
+-- ---- records and paths
+
+-- "A is 40000001 10000001 20000002 61 5001, that is {"a":1}. D is 40000002 10000001 10000001 00000000 40000000 61 61."
 abbrev A : Bytes
-A = 0x40 ∷ 0 ∷ 0 ∷ 1 ∷ 0x10 ∷ 0 ∷ 0 ∷ 1 ∷ 0x20 ∷ 0 ∷ 0 ∷ 2 ∷ 0x61 ∷ 0x50 ∷ 1 ∷ []
+A = 0x40000001 ▸ 0x10000001 ▸ 0x20000002 ▸ 0x61 ∷ 0x50 ∷ 0x01 ∷ []
 
--- "D is 40000002 10000001 10000001 00000000 40000000 61 61", {"a":null,"a":true}.
 abbrev D : Bytes
-D =
-    0x40 ∷ 0 ∷ 0 ∷ 2 ∷ 0x10 ∷ 0 ∷ 0 ∷ 1 ∷ 0x10 ∷ 0 ∷ 0 ∷ 1 ∷ 0 ∷ 0 ∷ 0 ∷ 0 ∷ 0x40 ∷ 0 ∷ 0 ∷ 0 ∷ 0x61 ∷ 0x61 ∷ []
-
--- {"a":null}, {"a":true}, {"b":true}, {}, [], [null] and null.
-abbrev null-a : Bytes
-null-a = 0x40 ∷ 0 ∷ 0 ∷ 1 ∷ 0x10 ∷ 0 ∷ 0 ∷ 1 ∷ 0 ∷ 0 ∷ 0 ∷ 0 ∷ 0x61 ∷ []
-
-abbrev true-a : Bytes
-true-a = 0x40 ∷ 0 ∷ 0 ∷ 1 ∷ 0x10 ∷ 0 ∷ 0 ∷ 1 ∷ 0x40 ∷ 0 ∷ 0 ∷ 0 ∷ 0x61 ∷ []
-
-abbrev true-b : Bytes
-true-b = 0x40 ∷ 0 ∷ 0 ∷ 1 ∷ 0x10 ∷ 0 ∷ 0 ∷ 1 ∷ 0x40 ∷ 0 ∷ 0 ∷ 0 ∷ 0x62 ∷ []
-
-abbrev empty-object : Bytes
-empty-object = 0x40 ∷ 0 ∷ 0 ∷ 0 ∷ []
-
-abbrev empty-array : Bytes
-empty-array = 0x80 ∷ 0 ∷ 0 ∷ 0 ∷ []
+D = 0x40000002 ▸ 0x10000001 ▸ 0x10000001 ▸ 0x00000000 ▸ 0x40000000 ▸ 0x61 ∷ 0x61 ∷ []
 
 abbrev nulls : Bytes
-nulls = 0x80 ∷ 0 ∷ 0 ∷ 1 ∷ 0 ∷ 0 ∷ 0 ∷ 0 ∷ []
+nulls = 0x80000001 ▸ 0x00000000 ▸ []
 
 abbrev root-null : Bytes
-root-null = 0x20 ∷ 0 ∷ 0 ∷ 0 ∷ 0 ∷ 0 ∷ 0 ∷ 0 ∷ []
+root-null = 0x20000000 ▸ 0x00000000 ▸ []
 
--- ---- paths
+abbrev true-a : Bytes
+true-a = 0x40000001 ▸ 0x10000001 ▸ 0x40000000 ▸ 0x61 ∷ []
 
--- The name "a", and the indexes 0, −1, 1 and −2.
+-- The path of one name, and of one index by its number payload.
 abbrev name-a : Bytes
-name-a = 0x80 ∷ 0 ∷ 0 ∷ 1 ∷ 0x10 ∷ 0 ∷ 0 ∷ 1 ∷ 0x61 ∷ []
+name-a = 0x80000001 ▸ 0x10000001 ▸ 0x61 ∷ []
 
 abbrev index-0 : Bytes
-index-0 = 0x80 ∷ 0 ∷ 0 ∷ 1 ∷ 0x20 ∷ 0 ∷ 0 ∷ 1 ∷ 0 ∷ []
+index-0 = 0x80000001 ▸ 0x20000001 ▸ 0x00 ∷ []
 
-abbrev index-last : Bytes
-index-last = 0x80 ∷ 0 ∷ 0 ∷ 1 ∷ 0x20 ∷ 0 ∷ 0 ∷ 2 ∷ 0x40 ∷ 0xFF ∷ []
-
-abbrev index-1 : Bytes
-index-1 = 0x80 ∷ 0 ∷ 0 ∷ 1 ∷ 0x20 ∷ 0 ∷ 0 ∷ 2 ∷ 0x50 ∷ 1 ∷ []
-
-abbrev index-last-but-one : Bytes
-index-last-but-one = 0x80 ∷ 0 ∷ 0 ∷ 1 ∷ 0x20 ∷ 0 ∷ 0 ∷ 2 ∷ 0x40 ∷ 0xFE ∷ []
+abbrev index : ℕ → ℕ → Bytes
+index first value = 0x80000001 ▸ 0x20000002 ▸ first ∷ value ∷ []
 
 -- ---- the table
 
--- "A is .., that is {"a":1}."
-abbrev A-tree : Tree
-A-tree = object (member (0x61 ∷ []) (number (0x50 ∷ 1 ∷ [])) empty)
+abbrev table : List Line
+table =
+    -- "A is .., that is {"a":1}."
+    reads A (object (member (0x61 ∷ []) (number (0x50 ∷ 0x01 ∷ [])) empty))
+    -- "* A then 40000001 10000001 40000000 62: 40000002 10000001 10000001 20000002 40000000 61 62 5001."
+    ∷ concats A (0x40000001 ▸ 0x10000001 ▸ 0x40000000 ▸ 0x62 ∷ [])
+    (result (0x40000002 ▸ 0x10000001 ▸ 0x10000001 ▸ 0x20000002 ▸ 0x40000000 ▸ 0x61 ∷ 0x62 ∷ 0x50 ∷ 0x01 ∷ []))
+    -- "* A, path 80000001 10000001 61: 20000000 20000002 5001."
+    ∷ gets A name-a (result (0x20000000 ▸ 0x20000002 ▸ 0x50 ∷ 0x01 ∷ []))
+    -- "* 80000001 00000000 at index 0 and −1: 20000000 00000000; * at 1 and −2: absent."
+    ∷ gets nulls index-0 (result root-null)
+    ∷ gets nulls (index 0x40 0xFF) (result root-null)
+    ∷ gets nulls (index 0x50 0x01) absence
+    ∷ gets nulls (index 0x40 0xFE) absence
+    -- "* Its deletion at 0: 80000000. * Its strip: itself."
+    ∷ deletes nulls index-0 (result (0x80000000 ▸ []))
+    ∷ strips nulls (result nulls)
+    -- "* D is readable, not sound. * Strip and * deletion of "a" both give 40000001 10000001 40000000 61."
+    ∷ reads D (object (member (0x61 ∷ []) null (member (0x61 ∷ []) (boolean true) empty)))
+    ∷ checks D Readable
+    ∷ tests D Unsound
+    ∷ strips D (result true-a)
+    ∷ deletes D name-a (result true-a)
+    -- "* 40000000 then D: 8. D then 40000000: 40000001 10000001 00000000 61."
+    ∷ concats (0x40000000 ▸ []) D (refusal Repeated)
+    ∷ concats D (0x40000000 ▸ []) (result (0x40000001 ▸ 0x10000001 ▸ 0x00000000 ▸ 0x61 ∷ []))
+    -- "* Root null then root null: 80000002 00000000 00000000."
+    ∷ concats root-null root-null (result (0x80000002 ▸ 0x00000000 ▸ 0x00000000 ▸ []))
+    -- "* 400000: 1. .. * 80000000 00: 2."
+    ∷ checks (0x40 ∷ 0x00 ∷ 0x00 ∷ []) (Refused Short)
+    ∷ checks (0x80000000 ▸ 0x00 ∷ []) (Refused Layout)
+    ∷ []
 
-A-reads : read A ≡ gives A-tree
-unfolding read
-A-reads = refl
-
-A-encodes : encode A-tree ≡ A
-unfolding be32
-A-encodes = refl
-
--- "* A then 40000001 10000001 40000000 62: 40000002 10000001 10000001 20000002 40000000 61 62 5001."
-A-then-b : (room : ℕ) → on-two concat A true-b room
-    ≡ into room (
-    0x40 ∷ 0 ∷ 0 ∷ 2 ∷ 0x10 ∷ 0 ∷ 0 ∷ 1 ∷ 0x10 ∷ 0 ∷ 0 ∷ 1 ∷ 0x20 ∷ 0 ∷ 0 ∷ 2 ∷ 0x40 ∷ 0 ∷ 0 ∷ 0 ∷ 0x61 ∷ 0x62 ∷ 0x50 ∷ 1 ∷ []
-    )
-unfolding on-two concat be32 order same-bytes has
-A-then-b room = refl
-
--- "* A, path 80000001 10000001 61: 20000000 20000002 5001."
-A-at-a : (room : ℕ) → on-path get-by A name-a room ≡ into room (0x20 ∷ 0 ∷ 0 ∷ 0 ∷ 0x20 ∷ 0 ∷ 0 ∷ 2 ∷ 0x50 ∷ 1 ∷ [])
-unfolding on-path be32 order
-A-at-a room = refl
-
--- "* 80000001 00000000 at index 0 and −1: 20000000 00000000; * at 1 and −2: absent."
-nulls-at-0 : (room : ℕ) → on-path get-by nulls index-0 room ≡ into room root-null
-unfolding on-path be32 place number-of
-nulls-at-0 room = refl
-
-nulls-at-last : (room : ℕ) → on-path get-by nulls index-last room ≡ into room root-null
-unfolding on-path be32 place number-of signed be-value
-nulls-at-last room = refl
-
-nulls-at-1 : (room : ℕ) → on-path get-by nulls index-1 room ≡ absence
-unfolding on-path place number-of be-value
-nulls-at-1 room = refl
-
-nulls-at-last-but-one : (room : ℕ) → on-path get-by nulls index-last-but-one room ≡ absence
-unfolding on-path place number-of signed be-value
-nulls-at-last-but-one room = refl
-
--- "* Its deletion at 0: 80000000. * Its strip: itself."
-nulls-without-0 : (room : ℕ) → on-path delete-by nulls index-0 room ≡ into room empty-array
-unfolding on-path be32 place number-of
-nulls-without-0 room = refl
-
-nulls-stripped : (room : ℕ) → on-one strip nulls room ≡ into room nulls
-unfolding on-one be32
-nulls-stripped room = refl
-
--- "* D is readable, not sound."
-abbrev D-tree : Tree
-D-tree = object (member (0x61 ∷ []) null (member (0x61 ∷ []) (boolean true) empty))
-
-D-reads : read D ≡ gives D-tree
-unfolding read
-D-reads = refl
-
-D-not-sound : Sound D-tree → ⊥
-D-not-sound h = ⊎-elim (λ l. omega arith) (λ e. e .1) (h .0 .0)
-
-D-readable : checked (read D) ≡ Readable
-unfolding read
-D-readable = refl
-
-D-unsound : soundness (read D) ≡ Unsound
-unfolding read before order
-D-unsound = refl
-
--- "* Strip and * deletion of "a" both give 40000001 10000001 40000000 61."
-D-stripped : (room : ℕ) → on-one strip D room ≡ into room true-a
-unfolding on-one be32 order same-bytes has
-D-stripped room = refl
-
-D-without-a : (room : ℕ) → on-path delete-by D name-a room ≡ into room true-a
-unfolding on-path be32 order
-D-without-a room = refl
-
--- "* 40000000 then D: 8." And without a star, the other side: "D then 40000000: 40000001 10000001 00000000 61."
-empty-then-D : (room : ℕ) → on-two concat empty-object D room ≡ refusal Repeated
-unfolding on-two concat order same-bytes has
-empty-then-D room = refl
-
-D-then-empty : (room : ℕ) → on-two concat D empty-object room ≡ into room null-a
-unfolding on-two concat be32 order same-bytes has
-D-then-empty room = refl
-
--- "* Root null then root null: 80000002 00000000 00000000."
-null-then-null : (room : ℕ) → on-two concat root-null root-null room ≡ into room (0x80 ∷ 0 ∷ 0 ∷ 2 ∷ 0 ∷ 0 ∷ 0 ∷ 0 ∷ 0 ∷ 0 ∷ 0 ∷ 0 ∷ [])
-unfolding on-two concat be32
-null-then-null room = refl
-
--- "* 400000: 1. .. * 80000000 00: 2."
-three-bytes : checked (read (0x40 ∷ 0 ∷ 0 ∷ [])) ≡ Refused Short
-unfolding read
-three-bytes = refl
-
-byte-over : checked (read (0x80 ∷ 0 ∷ 0 ∷ 0 ∷ 0 ∷ [])) ≡ Refused Layout
-unfolding read
-byte-over = refl
+worked : AllHold table
+unfolding read before order same-bytes has on-path on-two on-one concat be32 place number-of signed be-value
+worked =
+    refl
+    also (λ room. refl)
+    also (λ room. refl)
+    also (λ room. refl)
+    also (λ room. refl)
+    also (λ room. refl)
+    also (λ room. refl)
+    also (λ room. refl)
+    also (λ room. refl)
+    also refl
+    also refl
+    also refl
+    also (λ room. refl)
+    also (λ room. refl)
+    also (λ room. refl)
+    also (λ room. refl)
+    also (λ room. refl)
+    also refl
+    also refl
+    also tt
