@@ -16,7 +16,8 @@ use Rattle.layout.specs.Read.{header, read}
 use Rattle.layout.specs.Limits.{depth, depth-items, depth-members}
 use Rattle.layout.specs.Place.{parts-at}
 use Rattle.layout.specs.Parts.{start-of, texts}
-use Rattle.layout.specs.Every.{Ask, every, every-items, every-members, every-part, every-parts, every-by, every-at}
+use Rattle.layout.specs.Every.{Ask, every, every-items, every-members}
+use Rattle.layout.specs.EveryAt.{every-part, every-parts, every-by, every-at}
 use Rattle.layout.specs.declared.refusal.Refusal.{Refusal}
 use Rattle.layout.specs.declared.util.Header.{Header}
 use Rattle.layout.specs.declared.util.Header.the-variants.{Array, Object, Scalar, Refused}

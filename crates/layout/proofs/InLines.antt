@@ -11,7 +11,8 @@ use Rattle.layout.specs.Encode.{Part}
 use Rattle.layout.specs.Read.{header}
 use Rattle.layout.specs.Order.{rising}
 use Rattle.layout.specs.Place.{parts-at, rising-parts}
-use Rattle.layout.specs.Every.{every-items, every-members, every-part, every-parts, every-by, every-at, sound-ask, is-sound, sound-at}
+use Rattle.layout.specs.Every.{every-items, every-members, sound-ask, is-sound}
+use Rattle.layout.specs.EveryAt.{every-part, every-parts, every-by, every-at, sound-at}
 use Rattle.layout.specs.declared.item.Kind.{Kind}
 use Rattle.layout.specs.declared.item.Kind.the-variants.{Null, String, Number, False, True, Container, Extension}
 use Rattle.layout.specs.declared.util.Header.{Header}

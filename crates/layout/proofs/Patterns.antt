@@ -18,7 +18,8 @@ use lib.Signed.{mag, ltZ, nonNeg}
 use mir.Syntax.{w64}
 use mir.Val.{Fits, SFits, toZ, ofZ}
 use mir.ValLaws.{toZ-ofZ, toZ-pos}
-use Rattle.layout.specs.Bytes.{Bytes, be-bytes, be-value, part-word}
+use Rattle.layout.specs.Bytes.{Bytes, be-bytes, be-value, part-word, word-at}
+use Rattle.layout.specs.Entry.{entry-at}
 use Rattle.layout.specs.Patch.{patch}
 use Rattle.layout.specs.Number.{is-width, signed, pattern, uint-width, int-width}
 
@@ -89,6 +90,11 @@ part-word-out s at (suc n) h =
     let r = part-word-out s at n h in
     let out : length s ≤ at + n = omega arith in
     (rw (← r .0, List·getD-eq-default s 0 out), rw (pow-suc 256 n) (omega (arith, r .1)))
+
+-- No slice has an entry so far behind its header.
+pub entry-out : (s : Bytes) (i : ℕ) → length s < 2 ^ 63 → 2 ^ 61 ≤ i → 0 ≡ entry-at s i
+unfolding entry-at word-at
+entry-out s i l h = part-word-out s (4 + 4 * i) 4 (omega arith) .0
 
 pub part-word-more : (s : Bytes) (at n v x w : ℕ) → (n ≡ 0 → ⊥) → (v ≡ part-word s at (n - 1)) × (v < 256 ^ (n - 1))
     → x ≡ getD s (at + (n - 1)) 0 → (w ≡ x) × (w < 256) → (v * 256 + w ≡ part-word s at n) × (v * 256 + w < 256 ^ n)

@@ -17,7 +17,8 @@ use Rattle.layout.specs.Order.{before, rising}
 use Rattle.layout.specs.Sound.{Rising, Sound, SoundItems, SoundMembers}
 use Rattle.layout.specs.Place.{parts-at, rising-from, rising-parts}
 use Rattle.layout.specs.Parts.{start-of, texts, rises}
-use Rattle.layout.specs.Every.{every-items, every-members, every-part, every-parts, every-at, sound-ask, is-sound, sound-at}
+use Rattle.layout.specs.Every.{every-items, every-members, sound-ask, is-sound}
+use Rattle.layout.specs.EveryAt.{every-part, every-parts, every-at, sound-at}
 use Rattle.layout.specs.Check.{checked, soundness}
 use Rattle.layout.specs.declared.refusal.Refusal.{Refusal}
 use Rattle.layout.specs.declared.item.Kind.{Kind}

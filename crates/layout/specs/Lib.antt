@@ -1,6 +1,6 @@
 -- The definitions of the layout, in reading order.
 
--- What document 01 says. From here a reader can work out every answer that the code promises.
+-- What document 01 says: all that the promises of the functions for users cite. From here a reader can work out every answer.
 pub mod Refusal
 pub mod Bytes
 pub mod Answer
@@ -13,16 +13,18 @@ pub mod Decimal
 pub mod Read
 pub mod Limits
 pub mod Sound
+pub mod Order
+pub mod Every
 pub mod Value
 pub mod Check
 pub mod Ended
 pub mod Pipeline
 pub mod Walk
--- Forms that follow the code, for the contracts inside the crate; theorems of proofs/ tie each to the definitions above.
-pub mod Order
-pub mod Place
-pub mod Parts
-pub mod Every
-pub mod Pass
+-- Forms that follow the code, which the helpers for the crates above promise; theorems of proofs/ tie each to the definitions above.
 pub mod Patch
 pub mod Room
+pub mod Place
+pub mod Parts
+pub mod EveryAt
+-- Forms that follow the code, inside the crate.
+pub mod Pass

@@ -17,10 +17,13 @@ use crate::item::Kind;
 use crate::util::read_u32;
 use crate::util::read_whole;
 ghost use mathlib.Core.Path.{_≡_};
-ghost use Prim.Native.Nat.{_+_, _*_, _%_, _^_, _≤_};
+ghost use Prim.Native.Nat.{_+_, _*_, _%_, _^_};
 ghost use Rattle.layout.specs.Entry.{«code-of» as codeOf, «length-of» as lengthOf, «entry-of» as entryOf};
 ghost use Rattle.layout.specs.Entry.{«entry-at» as entryAt, «kind-of» as kindOf, «entry-good» as entryGood};
 ghost use Rattle.layout.specs.Read.{«entry-ok» as entryOk};
+
+// Half of all places, 2^63, in entries: a slice is shorter than that.
+const JENTRY_LIMIT: usize = 0x2000_0000_0000_0000;
 
 // The type code of an entry.
 pub fn type_code(encoded: u32) -> u32
@@ -58,11 +61,14 @@ pub fn kind_of(code: u32) -> Kind
     }
 }
 
-// Entry i of the table behind a header. Its place is no sum beyond the machine's word, so that one test tells whether it is whole.
+// Entry i of the table behind a header; what lies outside the slice counts as 0. No slice reaches the limit's entry, and below it
+// the place is no sum beyond the machine's word, so that one test tells whether the entry is whole.
 pub fn read_jentry(s: &[u8], i: usize) -> u32
-    requires { ⌜ i ≤ 2 ^ 30 ⌝ }
     ensures { λ r. ⌜ r ≡ entryAt (now (s .entry)) i ⌝ }
 {
+    if JENTRY_LIMIT <= i {
+        return 0;
+    }
     let at = HEADER_SIZE + JENTRY_SIZE * i;
     if at + JENTRY_SIZE <= s.len() {
         return read_whole(s, at);

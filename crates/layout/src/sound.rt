@@ -18,8 +18,9 @@ ghost use Prim.Native.Nat.{_+_, _*_, _^_, _<_};
 ghost use Rattle.layout.specs.Read.{read};
 ghost use Rattle.layout.specs.Entry.{«kind-of» as kindOf};
 ghost use Rattle.layout.specs.Place.{«parts-at» as partsAt, «rising-parts» as risingParts};
-ghost use Rattle.layout.specs.Every.{«every-part» as everyPart, «every-parts» as everyParts};
-ghost use Rattle.layout.specs.Every.{«sound-ask» as soundAsk, «sound-at» as soundAt};
+ghost use Rattle.layout.specs.EveryAt.{«every-part» as everyPart, «every-parts» as everyParts};
+ghost use Rattle.layout.specs.Every.{«sound-ask» as soundAsk};
+ghost use Rattle.layout.specs.EveryAt.{«sound-at» as soundAt};
 ghost use Rattle.layout.specs.Check.{soundness};
 
 pub enum Soundness {
@@ -58,7 +59,7 @@ fn is_sound_item(code: u32, payload: &[u8], allowance: u32) -> bool
     ensures { λ r. ⌜ r ≡ everyPart soundAsk (soundAt allowance) (kindOf code) (now (payload .entry)) ⌝ }
 {
     if code == CONTAINER_CODE {
-        return is_sound_nested(payload, allowance);
+        return is_sound_where_readable(payload, allowance);
     }
     true
 }
@@ -83,8 +84,9 @@ fn are_sound(s: &[u8], n: usize, start: usize, allowance: u32) -> bool
     true
 }
 
-// The same for a record: where it is readable and nests at most `allowance` levels deep, whether it is sound.
-pub fn is_sound_nested(s: &[u8], allowance: u32) -> bool
+// The same for a record: where it is readable and nests at most `allowance` levels deep, whether it is sound. Of other bytes it says
+// true unless it meets an object whose names do not rise, so that nothing may be taken from it without the check.
+pub fn is_sound_where_readable(s: &[u8], allowance: u32) -> bool
     ensures { λ r. ⌜ r ≡ soundAt allowance (now (s .entry)) ⌝ }
 {
     if allowance == 0 {
@@ -111,7 +113,7 @@ pub fn check_sound(s: &[u8]) -> Soundness
     match check_record(s) {
         Check::Refused(refusal) => Soundness::Refused(refusal),
         Check::Readable => {
-            if is_sound_nested(s, DEPTH_LIMIT) {
+            if is_sound_where_readable(s, DEPTH_LIMIT) {
                 return Soundness::Sound;
             }
             Soundness::Unsound

@@ -14,7 +14,8 @@ use Rattle.layout.specs.Read.{read}
 use Rattle.layout.specs.Sound.{Sound}
 use Rattle.layout.specs.Value.{Same}
 use Rattle.layout.specs.Order.{same-bytes}
-use Rattle.layout.specs.Every.{sound-ask, sound-at}
+use Rattle.layout.specs.Every.{sound-ask}
+use Rattle.layout.specs.EveryAt.{sound-at}
 use Rattle.layout.specs.Check.{checked}
 use Rattle.layout.specs.declared.check.Check.{Check}
 use Rattle.layout.specs.declared.check.Check.the-variants.{Readable, Refused}

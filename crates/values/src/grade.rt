@@ -5,7 +5,7 @@ use layout::check::check_record;
 use layout::constants::DEPTH_LIMIT;
 use layout::order::is_same_bytes;
 use layout::refusal::Refusal;
-use layout::sound::is_sound_nested;
+use layout::sound::is_sound_where_readable;
 ghost use Rattle.values.specs.Grade.{Graded};
 
 pub enum Grade {
@@ -35,7 +35,9 @@ pub fn grade_record(candidate: &[u8], expected: &[u8]) -> Grade
         return Grade::Right;
     }
     // Sound records of other bytes have other values, and no members need be searched for.
-    if is_sound_nested(candidate, DEPTH_LIMIT) & is_sound_nested(expected, DEPTH_LIMIT) {
+    if is_sound_where_readable(candidate, DEPTH_LIMIT)
+        & is_sound_where_readable(expected, DEPTH_LIMIT)
+    {
         return Grade::OtherValue;
     }
     if is_same_nested(candidate, expected, DEPTH_LIMIT) {

@@ -1,4 +1,4 @@
--- `layout::sound::are_sound`, `layout::sound::is_sound_item` and `layout::sound::is_sound_nested` meet their contracts.
+-- `layout::sound::are_sound`, `layout::sound::is_sound_item` and `layout::sound::is_sound_where_readable` meet their contracts.
 -- They call each other; the number that falls is three times the allowance, and a place in the turn. The loop over the
 -- items keeps that all are sound where the rest are.
 use Prim.Native.Nat.{_+_, _*_, _-_, _≤_}
@@ -7,7 +7,8 @@ use native.Mathlib.Nat.{sub-zero}
 use native.Mathlib.Omega.{arith}
 use borrow.Author.Needs.{needs}
 use Rattle.layout.specs.Place.{parts-at}
-use Rattle.layout.specs.Every.{every-parts, sound-ask, sound-at}
+use Rattle.layout.specs.Every.{sound-ask}
+use Rattle.layout.specs.EveryAt.{every-parts, sound-at}
 use Rattle.layout.proofs.Fields.{length-lt}
 use Rattle.layout.proofs.Checks.{told-array, told-object}
 use Rattle.layout.proofs.Asks.{every-container, every-stop, every-more, every-end, every-none, every-refused, every-array}
@@ -17,21 +18,21 @@ use borrow.Fn.Kinds.{In}
 use borrow.Fn.PlainCycle.{Measures, is, falls, and}
 use Rattle.layout.proofs.sound.are_sound.Reads as are-sound
 use Rattle.layout.proofs.sound.are_sound.Kinds as are-sound-kinds
-use Rattle.layout.proofs.sound.+are_sound+is_sound_item+is_sound_nested.Lts-are_sound as are-sound-lts
+use Rattle.layout.proofs.sound.+are_sound+is_sound_item+is_sound_where_readable.Lts-are_sound as are-sound-lts
 use Rattle.layout.proofs.sound.is_sound_item.Reads as is-sound-item
 use Rattle.layout.proofs.sound.is_sound_item.Kinds as is-sound-item-kinds
-use Rattle.layout.proofs.sound.+are_sound+is_sound_item+is_sound_nested.Lts-is_sound_item as is-sound-item-lts
-use Rattle.layout.proofs.sound.is_sound_nested.Reads as is-sound-nested
-use Rattle.layout.proofs.sound.is_sound_nested.Kinds as is-sound-nested-kinds
-use Rattle.layout.proofs.sound.+are_sound+is_sound_item+is_sound_nested.Lts-is_sound_nested as is-sound-nested-lts
+use Rattle.layout.proofs.sound.+are_sound+is_sound_item+is_sound_where_readable.Lts-is_sound_item as is-sound-item-lts
+use Rattle.layout.proofs.sound.is_sound_where_readable.Reads as is-sound-where-readable
+use Rattle.layout.proofs.sound.is_sound_where_readable.Kinds as is-sound-where-readable-kinds
+use Rattle.layout.proofs.sound.+are_sound+is_sound_item+is_sound_where_readable.Lts-is_sound_where_readable as is-sound-where-readable-lts
 use Rattle.layout.proofs.jentry.payload_len.Reads as payload-len-reads
 use Rattle.layout.proofs.jentry.read_jentry.Reads as read-jentry-reads
 use Rattle.layout.proofs.jentry.type_code.Reads as type-code-reads
 use Rattle.layout.proofs.sound.is_rising.Reads as is-rising-reads
 use Rattle.layout.proofs.util.read_header.Reads as read-header-reads
 use Rattle.layout.proofs.util.slice.Reads as slice-reads
-use Rattle.layout.proofs.sound.+are_sound+is_sound_item+is_sound_nested.{statement}
-use Rattle.layout.proofs.sound.+are_sound+is_sound_item+is_sound_nested.Tie.{close}
+use Rattle.layout.proofs.sound.+are_sound+is_sound_item+is_sound_where_readable.{statement}
+use Rattle.layout.proofs.sound.+are_sound+is_sound_item+is_sound_where_readable.Tie.{close}
 
 abbrev μ-are-sound : Measures 1 are-sound-kinds.ps ℕ
 μ-are-sound κs a = 3 * a .1 .1 .1 .0 + 2
@@ -39,8 +40,8 @@ abbrev μ-are-sound : Measures 1 are-sound-kinds.ps ℕ
 abbrev μ-is-sound-item : Measures 1 is-sound-item-kinds.ps ℕ
 μ-is-sound-item κs a = 3 * a .1 .1 .0 + 1
 
-abbrev μ-is-sound-nested : Measures 1 is-sound-nested-kinds.ps ℕ
-μ-is-sound-nested κs a = 3 * a .1 .0
+abbrev μ-is-sound-where-readable : Measures 1 is-sound-where-readable-kinds.ps ℕ
+μ-is-sound-where-readable κs a = 3 * a .1 .0
 
 abbrev are-sound-at : ℕ → In 1 are-sound-kinds.ps
 are-sound-at t = and 1 are-sound-kinds.ps (is 1 are-sound-kinds.ps μ-are-sound t) are-sound.Pre
@@ -57,13 +58,13 @@ abbrev is-sound-item-below : ℕ → In 1 is-sound-item-kinds.ps
 is-sound-item-below t =
     and 1 is-sound-item-kinds.ps (falls 1 is-sound-item-kinds.ps _<_ μ-is-sound-item t) is-sound-item.Pre
 
-abbrev is-sound-nested-at : ℕ → In 1 is-sound-nested-kinds.ps
-is-sound-nested-at t =
-    and 1 is-sound-nested-kinds.ps (is 1 is-sound-nested-kinds.ps μ-is-sound-nested t) is-sound-nested.Pre
+abbrev is-sound-where-readable-at : ℕ → In 1 is-sound-where-readable-kinds.ps
+is-sound-where-readable-at t =
+    and 1 is-sound-where-readable-kinds.ps (is 1 is-sound-where-readable-kinds.ps μ-is-sound-where-readable t) is-sound-where-readable.Pre
 
-abbrev is-sound-nested-below : ℕ → In 1 is-sound-nested-kinds.ps
-is-sound-nested-below t =
-    and 1 is-sound-nested-kinds.ps (falls 1 is-sound-nested-kinds.ps _<_ μ-is-sound-nested t) is-sound-nested.Pre
+abbrev is-sound-where-readable-below : ℕ → In 1 is-sound-where-readable-kinds.ps
+is-sound-where-readable-below t =
+    and 1 is-sound-where-readable-kinds.ps (falls 1 is-sound-where-readable-kinds.ps _<_ μ-is-sound-where-readable t) is-sound-where-readable.Pre
 
 abbrev are-sound-Inv-loop : are-sound-lts.InvT-loop
 are-sound-Inv-loop s n start allowance place₀ i₀ place i =
@@ -90,11 +91,11 @@ are-sound-claims t = (
 
 -- what the functions that `is-sound-item` calls ask and give
 abbrev is-sound-item-claims : ℕ → is-sound-item-lts.Claims
-is-sound-item-claims t = (is-sound-nested-below t, is-sound-nested.Post)
+is-sound-item-claims t = (is-sound-where-readable-below t, is-sound-where-readable.Post)
 
--- what the functions that `is-sound-nested` calls ask and give
-abbrev is-sound-nested-claims : ℕ → is-sound-nested-lts.Claims
-is-sound-nested-claims t = (
+-- what the functions that `is-sound-where-readable` calls ask and give
+abbrev is-sound-where-readable-claims : ℕ → is-sound-where-readable-lts.Claims
+is-sound-where-readable-claims t = (
   read-header-reads.Asked,
   read-header-reads.Learnt,
   are-sound-below t,
@@ -157,72 +158,72 @@ are-sound-returns-2 t c =
 -- One item.
 
 is-sound-item-returns : (t : ℕ) → is-sound-item-lts.Need-returns (is-sound-item-claims t) (is-sound-item-at t) is-sound-item.Post
-is-sound-item-returns t c = every-container _ _ _ _ _ (c .before .if1 .taken) (c .is-sound-nested .ensures)
+is-sound-item-returns t c = every-container _ _ _ _ _ (c .before .if1 .taken) (c .is-sound-where-readable .ensures)
 
 is-sound-item-returns-2 : (t : ℕ) → is-sound-item-lts.Need-returns-2 (is-sound-item-claims t) (is-sound-item-at t) is-sound-item.Post
 is-sound-item-returns-2 t c = sound-other _ _ _ (c .if1 .left)
 
 -- A record by its header.
 
-is-sound-nested-returns : (t : ℕ) → is-sound-nested-lts.Need-returns (is-sound-nested-claims t) (is-sound-nested-at t) is-sound-nested.Post
-is-sound-nested-returns t c = every-none _ _ _ (c .if1 .taken)
+is-sound-where-readable-returns : (t : ℕ) → is-sound-where-readable-lts.Need-returns (is-sound-where-readable-claims t) (is-sound-where-readable-at t) is-sound-where-readable.Post
+is-sound-where-readable-returns t c = every-none _ _ _ (c .if1 .taken)
 
-is-sound-nested-mul-are-sound : (t : ℕ) → is-sound-nested-lts.Need-mul-are-sound (is-sound-nested-claims t) (is-sound-nested-at t) is-sound-nested.Post
-is-sound-nested-mul-are-sound t c =
+is-sound-where-readable-mul-are-sound : (t : ℕ) → is-sound-where-readable-lts.Need-mul-are-sound (is-sound-where-readable-claims t) (is-sound-where-readable-at t) is-sound-where-readable.Post
+is-sound-where-readable-mul-are-sound t c =
     let arm = c .before in
     let h = told-array _ _ (arm .before .before .read-header .ensures) _ (arm .n .given .1) in
     omega arith
 
-is-sound-nested-add-are-sound : (t : ℕ) → is-sound-nested-lts.Need-add-are-sound (is-sound-nested-claims t) (is-sound-nested-at t) is-sound-nested.Post
-is-sound-nested-add-are-sound t c =
+is-sound-where-readable-add-are-sound : (t : ℕ) → is-sound-where-readable-lts.Need-add-are-sound (is-sound-where-readable-claims t) (is-sound-where-readable-at t) is-sound-where-readable.Post
+is-sound-where-readable-add-are-sound t c =
     let arm = c .before in
     let h = told-array _ _ (arm .before .before .read-header .ensures) _ (arm .n .given .1) in
     omega arith
 
-is-sound-nested-are-sound-requires : (t : ℕ) → is-sound-nested-lts.Need-are-sound-requires (is-sound-nested-claims t) (is-sound-nested-at t) is-sound-nested.Post
-is-sound-nested-are-sound-requires t c κs =
+is-sound-where-readable-are-sound-requires : (t : ℕ) → is-sound-where-readable-lts.Need-are-sound-requires (is-sound-where-readable-claims t) (is-sound-where-readable-at t) is-sound-where-readable.Post
+is-sound-where-readable-are-sound-requires t c κs =
     let arm = c .before in
     let h = told-array _ _ (arm .before .before .read-header .ensures) _ (arm .n .given .1) in
     omega arith
 
-is-sound-nested-add-start : (t : ℕ) → is-sound-nested-lts.Need-add-start (is-sound-nested-claims t) (is-sound-nested-at t) is-sound-nested.Post
-is-sound-nested-add-start t c =
+is-sound-where-readable-add-start : (t : ℕ) → is-sound-where-readable-lts.Need-add-start (is-sound-where-readable-claims t) (is-sound-where-readable-at t) is-sound-where-readable.Post
+is-sound-where-readable-add-start t c =
     let arm = c .before in
     let h = told-object _ _ (arm .before .before .read-header .ensures) _ (arm .n2 .given .1) in
     omega arith
 
-is-sound-nested-mul-start : (t : ℕ) → is-sound-nested-lts.Need-mul-start (is-sound-nested-claims t) (is-sound-nested-at t) is-sound-nested.Post
-is-sound-nested-mul-start t c =
+is-sound-where-readable-mul-start : (t : ℕ) → is-sound-where-readable-lts.Need-mul-start (is-sound-where-readable-claims t) (is-sound-where-readable-at t) is-sound-where-readable.Post
+is-sound-where-readable-mul-start t c =
     let arm = c .before in
     let h = told-object _ _ (arm .before .before .read-header .ensures) _ (arm .n2 .given .1) in
     omega arith
 
-is-sound-nested-add-start-2 : (t : ℕ) → is-sound-nested-lts.Need-add-start-2 (is-sound-nested-claims t) (is-sound-nested-at t) is-sound-nested.Post
-is-sound-nested-add-start-2 t c =
+is-sound-where-readable-add-start-2 : (t : ℕ) → is-sound-where-readable-lts.Need-add-start-2 (is-sound-where-readable-claims t) (is-sound-where-readable-at t) is-sound-where-readable.Post
+is-sound-where-readable-add-start-2 t c =
     let arm = c .before in
     let h = told-object _ _ (arm .before .before .read-header .ensures) _ (arm .n2 .given .1) in
     omega arith
 
-is-sound-nested-is-rising-requires : (t : ℕ) → is-sound-nested-lts.Need-is-rising-requires (is-sound-nested-claims t) (is-sound-nested-at t) is-sound-nested.Post
-is-sound-nested-is-rising-requires t c κs =
+is-sound-where-readable-is-rising-requires : (t : ℕ) → is-sound-where-readable-lts.Need-is-rising-requires (is-sound-where-readable-claims t) (is-sound-where-readable-at t) is-sound-where-readable.Post
+is-sound-where-readable-is-rising-requires t c κs =
     let arm = c .before in
     let h = told-object _ _ (arm .before .before .read-header .ensures) _ (arm .n2 .given .1) in
     omega arith
 
-is-sound-nested-add-are-sound-2 : (t : ℕ) → is-sound-nested-lts.Need-add-are-sound-2 (is-sound-nested-claims t) (is-sound-nested-at t) is-sound-nested.Post
-is-sound-nested-add-are-sound-2 t c =
+is-sound-where-readable-add-are-sound-2 : (t : ℕ) → is-sound-where-readable-lts.Need-add-are-sound-2 (is-sound-where-readable-claims t) (is-sound-where-readable-at t) is-sound-where-readable.Post
+is-sound-where-readable-add-are-sound-2 t c =
     let arm = c .before .before .before in
     let h = told-object _ _ (arm .before .before .read-header .ensures) _ (arm .n2 .given .1) in
     omega arith
 
-is-sound-nested-are-sound-requires-2 : (t : ℕ) → is-sound-nested-lts.Need-are-sound-requires-2 (is-sound-nested-claims t) (is-sound-nested-at t) is-sound-nested.Post
-is-sound-nested-are-sound-requires-2 t c κs =
+is-sound-where-readable-are-sound-requires-2 : (t : ℕ) → is-sound-where-readable-lts.Need-are-sound-requires-2 (is-sound-where-readable-claims t) (is-sound-where-readable-at t) is-sound-where-readable.Post
+is-sound-where-readable-are-sound-requires-2 t c κs =
     let arm = c .before .before .before in
     let h = told-object _ _ (arm .before .before .read-header .ensures) _ (arm .n2 .given .1) in
     omega arith
 
-is-sound-nested-returns-2 : (t : ℕ) → is-sound-nested-lts.Need-returns-2 (is-sound-nested-claims t) (is-sound-nested-at t) is-sound-nested.Post
-is-sound-nested-returns-2 t c =
+is-sound-where-readable-returns-2 : (t : ℕ) → is-sound-where-readable-lts.Need-returns-2 (is-sound-where-readable-claims t) (is-sound-where-readable-at t) is-sound-where-readable.Post
+is-sound-where-readable-returns-2 t c =
     let arm = c .before .before .before .before in
     let told = arm .before .before in
     let rises = c .before .before in
@@ -232,33 +233,33 @@ is-sound-nested-returns-2 t c =
     (c .before .if2 .taken)
     (c .are-sound2 .ensures)
 
-is-sound-nested-returns-3 : (t : ℕ) → is-sound-nested-lts.Need-returns-3 (is-sound-nested-claims t) (is-sound-nested-at t) is-sound-nested.Post
-is-sound-nested-returns-3 t c =
+is-sound-where-readable-returns-3 : (t : ℕ) → is-sound-where-readable-lts.Need-returns-3 (is-sound-where-readable-claims t) (is-sound-where-readable-at t) is-sound-where-readable.Post
+is-sound-where-readable-returns-3 t c =
     let told = c .before .before in
     every-refused _ _ _ _ (told .before .if1 .left) (told .read-header .ensures) _ (c .enum-told .given .1)
 
-is-sound-nested-returns-4 : (t : ℕ) → is-sound-nested-lts.Need-returns-4 (is-sound-nested-claims t) (is-sound-nested-at t) is-sound-nested.Post
-is-sound-nested-returns-4 t c =
+is-sound-where-readable-returns-4 : (t : ℕ) → is-sound-where-readable-lts.Need-returns-4 (is-sound-where-readable-claims t) (is-sound-where-readable-at t) is-sound-where-readable.Post
+is-sound-where-readable-returns-4 t c =
     let told = c .before .before in
     sound-scalar _ _ _ (told .before .if1 .left) (told .read-header .ensures) _ (c .enum-told2 .given .1)
 
-is-sound-nested-returns-5 : (t : ℕ) → is-sound-nested-lts.Need-returns-5 (is-sound-nested-claims t) (is-sound-nested-at t) is-sound-nested.Post
-is-sound-nested-returns-5 t c =
+is-sound-where-readable-returns-5 : (t : ℕ) → is-sound-where-readable-lts.Need-returns-5 (is-sound-where-readable-claims t) (is-sound-where-readable-at t) is-sound-where-readable.Post
+is-sound-where-readable-returns-5 t c =
     let arm = c .before .before in
     let told = arm .before .before in
     every-array _ _ _ _ (told .before .if1 .left) (told .read-header .ensures) _ _ (arm .n .given .1) (c .are-sound .ensures)
 
-is-sound-nested-returns-6 : (t : ℕ) → is-sound-nested-lts.Need-returns-6 (is-sound-nested-claims t) (is-sound-nested-at t) is-sound-nested.Post
-is-sound-nested-returns-6 t c =
+is-sound-where-readable-returns-6 : (t : ℕ) → is-sound-where-readable-lts.Need-returns-6 (is-sound-where-readable-claims t) (is-sound-where-readable-at t) is-sound-where-readable.Post
+is-sound-where-readable-returns-6 t c =
     let arm = c .before .before .before in
     let told = arm .before .before in
     sound-misnamed _ _ _ (told .before .if1 .left) (told .read-header .ensures) _ _ (arm .n2 .given .1)
     (c .before .is-rising .ensures)
     (c .if2 .left)
 
-pub +are-sound+is-sound-item+is-sound-nested-spec : {M : Type 1} → statement M
-+are-sound+is-sound-item+is-sound-nested-spec =
-    close μ-are-sound μ-is-sound-item μ-is-sound-nested (λ t. are-sound-lts.spec (are-sound-claims t)
+pub +are-sound+is-sound-item+is-sound-where-readable-spec : {M : Type 1} → statement M
++are-sound+is-sound-item+is-sound-where-readable-spec =
+    close μ-are-sound μ-is-sound-item μ-is-sound-where-readable (λ t. are-sound-lts.spec (are-sound-claims t)
     (are-sound-at t)
     are-sound.Post
     are-sound-Inv-loop
@@ -283,28 +284,28 @@ pub +are-sound+is-sound-item+is-sound-nested-spec : {M : Type 1} → statement M
     (λ c κs. search needs)
     (is-sound-item-returns t)
     (is-sound-item-returns-2 t))
-    λ t. is-sound-nested-lts.spec (is-sound-nested-claims t)
-    (is-sound-nested-at t)
-    is-sound-nested.Post
-    (is-sound-nested-returns t)
+    λ t. is-sound-where-readable-lts.spec (is-sound-where-readable-claims t)
+    (is-sound-where-readable-at t)
+    is-sound-where-readable.Post
+    (is-sound-where-readable-returns t)
     (λ c κs. search needs)
     (λ c. search needs)
     (λ c. search needs)
     (λ c. search needs)
-    (is-sound-nested-mul-are-sound t)
-    (is-sound-nested-add-are-sound t)
+    (is-sound-where-readable-mul-are-sound t)
+    (is-sound-where-readable-add-are-sound t)
     (λ c. search needs)
-    (is-sound-nested-are-sound-requires t)
+    (is-sound-where-readable-are-sound-requires t)
     (λ c. search needs)
-    (is-sound-nested-add-start t)
-    (is-sound-nested-mul-start t)
-    (is-sound-nested-add-start-2 t)
-    (is-sound-nested-is-rising-requires t)
-    (is-sound-nested-add-are-sound-2 t)
+    (is-sound-where-readable-add-start t)
+    (is-sound-where-readable-mul-start t)
+    (is-sound-where-readable-add-start-2 t)
+    (is-sound-where-readable-is-rising-requires t)
+    (is-sound-where-readable-add-are-sound-2 t)
     (λ c. search needs)
-    (is-sound-nested-are-sound-requires-2 t)
-    (is-sound-nested-returns-2 t)
-    (is-sound-nested-returns-3 t)
-    (is-sound-nested-returns-4 t)
-    (is-sound-nested-returns-5 t)
-    (is-sound-nested-returns-6 t)
+    (is-sound-where-readable-are-sound-requires-2 t)
+    (is-sound-where-readable-returns-2 t)
+    (is-sound-where-readable-returns-3 t)
+    (is-sound-where-readable-returns-4 t)
+    (is-sound-where-readable-returns-5 t)
+    (is-sound-where-readable-returns-6 t)

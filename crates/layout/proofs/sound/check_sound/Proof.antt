@@ -8,13 +8,13 @@ use Rattle.layout.proofs.sound.check_sound.Statement.{statement}
 use Rattle.layout.proofs.sound.check_sound.Tie as tie
 
 returns : tie.Need-returns
-returns c = answer-sound (c .before .before .before .before .before .before .args .s .now) _ _ (octets-of (c .before .before .before .before .before .before .args .s .now) (λ i. omega (arith, c .before .before .before .before .before .shared-slice-known .given i))) (c .before .before .before .before .check-record .ensures) (c .before .before .enum-told .given .1) (c .before .is-sound-nested .ensures) (c .if1 .taken)
+returns c = answer-sound (c .before .before .before .before .before .before .args .s .now) _ _ (octets-of (c .before .before .before .before .before .before .args .s .now) (λ i. omega (arith, c .before .before .before .before .before .shared-slice-known .given i))) (c .before .before .before .before .check-record .ensures) (c .before .before .enum-told .given .1) (c .before .is-sound-where-readable .ensures) (c .if1 .taken)
 
 returns-2 : tie.Need-returns-2
 returns-2 c = answer-refused (read (c .before .before .before .before .before .args .s .now)) _ _ (c .before .before .before .check-record .ensures) (c .before .refusal .given .1)
 
 returns-3 : tie.Need-returns-3
-returns-3 c = answer-unsound (c .before .before .before .before .before .before .args .s .now) _ _ (octets-of (c .before .before .before .before .before .before .args .s .now) (λ i. omega (arith, c .before .before .before .before .before .shared-slice-known .given i))) (c .before .before .before .before .check-record .ensures) (c .before .before .enum-told .given .1) (c .before .is-sound-nested .ensures) (c .if1 .left)
+returns-3 c = answer-unsound (c .before .before .before .before .before .before .args .s .now) _ _ (octets-of (c .before .before .before .before .before .before .args .s .now) (λ i. omega (arith, c .before .before .before .before .before .shared-slice-known .given i))) (c .before .before .before .before .check-record .ensures) (c .before .before .enum-told .given .1) (c .before .is-sound-where-readable .ensures) (c .if1 .left)
 
 pub check-sound-spec : {M : Type 1} → statement M
 check-sound-spec =

@@ -16,7 +16,7 @@ returns-3 : tie.Need-returns-3
 returns-3 c = graded-right (c .before .before .before .before .before .before .before .before .before .before .args .candidate .now) (c .before .before .before .before .before .before .before .before .before .before .args .expected .now) _ (c .before .before .before .before .before .before .before .check-record .ensures) (c .before .before .before .before .before .enum-told .given .1) _ (c .before .before .before .before .check-record2 .ensures) (c .before .before .enum-told2 .given .1) _ (c .before .is-same-bytes .ensures) (c .if1 .taken)
 
 returns-4 : tie.Need-returns-4
-returns-4 c = graded-sound (c .before .before .before .before .before .before .before .before .before .before .before .before .before .args .candidate .now) (c .before .before .before .before .before .before .before .before .before .before .before .before .before .args .expected .now) _ (c .before .before .before .before .before .before .before .before .before .before .check-record .ensures) (c .before .before .before .before .before .before .before .before .enum-told .given .1) _ (c .before .before .before .before .before .before .before .check-record2 .ensures) (c .before .before .before .before .before .enum-told2 .given .1) _ (c .before .before .before .before .is-same-bytes .ensures) (c .before .before .before .if1 .left) (octets-of (c .before .before .before .before .before .before .before .before .before .before .before .before .before .args .candidate .now) (λ i. omega (arith, c .before .before .before .before .before .before .before .before .before .before .before .before .shared-slice-known .given i))) (octets-of (c .before .before .before .before .before .before .before .before .before .before .before .before .before .args .expected .now) (λ i. omega (arith, c .before .before .before .before .before .before .before .before .before .before .before .shared-slice-known2 .given i))) _ _ (c .before .before .is-sound-nested .ensures) (c .before .is-sound-nested2 .ensures) (c .if2 .taken)
+returns-4 c = graded-sound (c .before .before .before .before .before .before .before .before .before .before .before .before .before .args .candidate .now) (c .before .before .before .before .before .before .before .before .before .before .before .before .before .args .expected .now) _ (c .before .before .before .before .before .before .before .before .before .before .check-record .ensures) (c .before .before .before .before .before .before .before .before .enum-told .given .1) _ (c .before .before .before .before .before .before .before .check-record2 .ensures) (c .before .before .before .before .before .enum-told2 .given .1) _ (c .before .before .before .before .is-same-bytes .ensures) (c .before .before .before .if1 .left) (octets-of (c .before .before .before .before .before .before .before .before .before .before .before .before .before .args .candidate .now) (λ i. omega (arith, c .before .before .before .before .before .before .before .before .before .before .before .before .shared-slice-known .given i))) (octets-of (c .before .before .before .before .before .before .before .before .before .before .before .before .before .args .expected .now) (λ i. omega (arith, c .before .before .before .before .before .before .before .before .before .before .before .shared-slice-known2 .given i))) _ _ (c .before .before .is-sound-where-readable .ensures) (c .before .is-sound-where-readable2 .ensures) (c .if2 .taken)
 
 returns-5 : tie.Need-returns-5
 returns-5 c = graded-same (c .before .before .before .before .before .before .before .before .before .before .before .before .before .before .before .args .candidate .now) (c .before .before .before .before .before .before .before .before .before .before .before .before .before .before .before .args .expected .now) _ (c .before .before .before .before .before .before .before .before .before .before .before .before .check-record .ensures) (c .before .before .before .before .before .before .before .before .before .before .enum-told .given .1) _ (c .before .before .before .before .before .before .before .before .before .check-record2 .ensures) (c .before .before .before .before .before .before .before .enum-told2 .given .1) _ (c .before .before .before .before .before .before .is-same-bytes .ensures) (c .before .before .before .before .before .if1 .left) (octets-of (c .before .before .before .before .before .before .before .before .before .before .before .before .before .before .before .args .candidate .now) (λ i. omega (arith, c .before .before .before .before .before .before .before .before .before .before .before .before .before .before .shared-slice-known .given i))) (octets-of (c .before .before .before .before .before .before .before .before .before .before .before .before .before .before .before .args .expected .now) (λ i. omega (arith, c .before .before .before .before .before .before .before .before .before .before .before .before .before .shared-slice-known2 .given i))) _ (c .before .is-same-nested .ensures) (c .if3 .taken)
