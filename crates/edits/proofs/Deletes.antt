@@ -12,10 +12,11 @@ use Rattle.layout.specs.Tree.{Tree, Items, none, item, Members, empty, member, 
 use Rattle.layout.specs.Sound.{_≺_, Rising}
 use Rattle.layout.specs.Value.{Taken}
 use Rattle.layout.proofs.Values.{≺-irrefl, ≺-trans, In, rising-tail, rising-all}
-use Rattle.builders.specs.Order.{by, in-order, find}
+use Rattle.builders.specs.Order.{by, in-order, find, distinct}
 use Rattle.builders.specs.Build.{count, join}
 use Rattle.builders.proofs.Orderings.{order-cases, by-order, order-refl}
-use Rattle.builders.proofs.InOrders.{unlike, rising-cons, in-order-rising, find-in-order}
+use Rattle.builders.proofs.InOrders.{unlike, rising-cons, in-order-rising, find-in-order, has-not, distinct-cons}
+use Rattle.builders.proofs.Proper.{distinct-with}
 use Rattle.edits.specs.Keypath.{Step, name, index}
 use Rattle.edits.specs.Find.{_then_, place, step-place, item-at}
 use Rattle.edits.specs.Delete.{kept-member, change-item, change-member}
@@ -123,13 +124,29 @@ change-rising o n (member m t ms) h =
     here nothing = rising-tail m (names ms) h
     here (some u) = h
 
--- Where names rise, the name of a member that goes finds nothing more.
-pub find-gone : (n : Bytes) (ms : Members) → Rising (names ms) → find n (change-member nothing n ms) ≡ nothing
-find-gone n empty h = refl
-find-gone n (member m t ms) h =
+-- Names that stand there once go on doing so, and the name of a member that goes finds nothing more.
+pub change-distinct : (o : Option Tree) (n : Bytes) (ms : Members) → distinct (names ms) ≡ true
+    → distinct (names (change-member o n ms)) ≡ true
+change-distinct o n empty d = d
+change-distinct o n (member m t ms) d =
+    let k = distinct-cons m (names ms) d in
+    by-equal n m (λ (a : Members). distinct (names a) ≡ true) _ _
+    (λ _.
+    distinct-with m (names (change-member o n ms)) (λ i. has-not m (names ms) (k .0) (change-names o n ms m i))
+    (change-distinct o n ms (k .1)))
+    (λ _. here o (k .1))
+  where
+    here : (o : Option Tree) → distinct (names ms) ≡ true → distinct (names (kept-member m o ms)) ≡ true
+    here nothing k = k
+    here (some u) k = d
+
+pub find-gone : (n : Bytes) (ms : Members) → distinct (names ms) ≡ true → find n (change-member nothing n ms) ≡ nothing
+find-gone n empty d = refl
+find-gone n (member m t ms) d =
+    let k = distinct-cons m (names ms) d in
     by-equal n m (λ (a : Members). find n a ≡ nothing) _ _
-    (λ k. find-later n m t (change-member nothing n ms) k ∙ find-gone n ms (rising-tail m (names ms) h))
-    (λ e. not-in n ms (λ i. unlike m n (rising-all m (names ms) h n i) (sym e)))
+    (λ h. find-later n m t (change-member nothing n ms) h ∙ find-gone n ms (k .1))
+    (λ (e : n ≡ m). not-in n ms (λ i. has-not m (names ms) (k .0) (rw e at i)))
 
 -- The members without the first that has the name.
 pub change-taken : (n : Bytes) (v : Tree) (ms : Members) → find n ms ≡ some v → Taken n v ms (change-member nothing n ms)

@@ -371,6 +371,27 @@ deletes-other-repeated :
 unfolding on-path be32 order
 deletes-other-repeated = refl
 
+-- {"a":null,"b":true,"b":false} without "a" is {"b":true}: names that stood in order, and the second "b" goes all the same.
+deletes-later-repeated :
+    on-path delete-by
+    (
+    0x40 ∷ 0 ∷ 0 ∷ 3 ∷ 0x10 ∷ 0 ∷ 0 ∷ 1 ∷ 0x10 ∷ 0 ∷ 0 ∷ 1 ∷ 0x10 ∷ 0 ∷ 0 ∷ 1 ∷ 0 ∷ 0 ∷ 0 ∷ 0 ∷ 0x40 ∷ 0 ∷ 0 ∷ 0 ∷ 0x30 ∷ 0
+    ∷ 0 ∷ 0 ∷ 0x61 ∷ 0x62 ∷ 0x62 ∷ []
+    )
+    name-a 13
+    ≡ result (true-at (0x62 ∷ []))
+unfolding on-path be32 order
+deletes-later-repeated = refl
+
+-- {"a":null,"a":true} without "a": the name then finds the next member that had it, true.
+deletes-first-of-two : on-path delete-by twice-a name-a 13 ≡ result (true-at (0x61 ∷ []))
+unfolding on-path be32 order
+deletes-first-of-two = refl
+
+finds-next-of-two : on-path get-by (true-at (0x61 ∷ [])) name-a 8 ≡ result root-true
+unfolding on-path be32 order
+finds-next-of-two = refl
+
 -- Every container above is written anew: of {"a":{"b":[null],"b":true}} the item in "a", "b" goes, and with it the second "b".
 deletes-inside :
     on-path delete-by

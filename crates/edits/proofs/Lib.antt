@@ -8,6 +8,7 @@ pub mod Finds
 pub mod Deletes
 pub mod Kept
 pub mod Meanings
+pub mod Firsts
 pub mod Strips
 pub mod Concats
 pub mod KeypathCases

@@ -11,18 +11,17 @@ use lib.IntN.{pos, negsuc}
 use borrow.Author.Tests.{lt-ltb}
 use Rattle.layout.specs.Bytes.{Bytes}
 use Rattle.layout.specs.Tree.{Tree, null, boolean, number, string, extension, array, object, Items, item, Members, names}
-use Rattle.layout.specs.Sound.{Rising, Sound}
-use Rattle.layout.specs.Value.{Taken}
-use Rattle.builders.specs.Order.{in-order, find}
+use Rattle.layout.specs.Sound.{Rising}
+use Rattle.layout.specs.Value.{Taken, SameMembers}
+use Rattle.builders.specs.Order.{in-order, find, distinct}
 use Rattle.builders.specs.Build.{count, join}
-use Rattle.builders.proofs.InOrders.{in-order-rising, rising-in-order, find-in-order}
+use Rattle.builders.proofs.InOrders.{in-order-rising, in-order-same, find-in-order}
 use Rattle.edits.specs.Keypath.{Step, index, name}
 use Rattle.edits.specs.Find.{_then_, place, step-place, step-name, item-at, step-into, look-up}
 use Rattle.edits.specs.Delete.{change-item, change-at, change-member, anew, remains, or-same, delete}
 use Rattle.edits.proofs.Deletes.{some-inj, nothing-some, then-some, found-or-not, find-other, find-changed, find-gone}
-use Rattle.edits.proofs.Deletes.{change-rising, change-taken, change-split, step-below, count-changed, count-gone}
+use Rattle.edits.proofs.Deletes.{change-distinct, change-taken, change-split, step-below, count-changed, count-gone}
 use Rattle.edits.proofs.Deletes.{item-there, item-past, item-changed, item-other, item-before, item-behind}
-use Rattle.edits.proofs.Kept.{look-up-kept}
 
 -- ---- paths in two parts
 
@@ -35,7 +34,7 @@ look-up-append (s ∷ r) p t = inward (step-into s t) (λ c. look-up-append r p 
     inward nothing h = refl
     inward (some c) h = h c
 
-look-up-behind : (r p : List Step) (t u : Tree) → look-up r t ≡ some u → look-up (r ++ p) t ≡ look-up p u
+pub look-up-behind : (r p : List Step) (t u : Tree) → look-up r t ≡ some u → look-up (r ++ p) t ≡ look-up p u
 look-up-behind r p t u e = look-up-append r p t ∙ ap (λ (o : Option Tree). o then look-up p) e
 
 -- ---- what is found, and what is not
@@ -112,7 +111,7 @@ module _ (r : List Step) (t u : Tree) (e : look-up r t ≡ some u) (s : Step) (p
 
 module _ (ms : Members) (s : Step) where
   -- The name of a member that went finds nothing more, where no name was there twice.
-  name-gone : Rising (names ms) → look-up (s ∷ []) (delete (s ∷ []) (object ms)) ≡ nothing
+  name-gone : distinct (names ms) ≡ true → look-up (s ∷ []) (delete (s ∷ []) (object ms)) ≡ nothing
   name-gone h =
       ⊎-elim
       (λ e. ap (look-up (s ∷ [])) (deleted-missing (s ∷ []) (object ms) (missing e)) ∙ missing e)
@@ -141,20 +140,20 @@ module _ (ms : Members) (s : Step) where
       (found-or-not (look-up (s ∷ p) (object ms)))
 
 module _ (r : List Step) (t : Tree) (ms : Members) (e : look-up r t ≡ some (object ms)) (s : Step) where
-  -- What was deleted from an object is found no more.
-  pub deleted-name : Sound t → look-up (r ++ (s ∷ [])) (delete (r ++ (s ∷ [])) t) ≡ nothing
-  deleted-name h = found-within r t (object ms) e s [] (s ∷ []) ∙ name-gone ms s (look-up-kept r t (object ms) e .sound h .0)
+  -- What was deleted from an object in which no name was there twice is found no more.
+  pub deleted-name : distinct (names ms) ≡ true → look-up (r ++ (s ∷ [])) (delete (r ++ (s ∷ [])) t) ≡ nothing
+  deleted-name d = found-within r t (object ms) e s [] (s ∷ []) ∙ name-gone ms s d
 
-  -- The object then has every member but that one.
-  pub deleted-member : Sound t → (v : Tree) → find (step-name s) ms ≡ some v
-      → (rest : Members) × Taken (step-name s) v ms rest × (look-up r (delete (r ++ (s ∷ [])) t) ≡ some (object rest))
-  deleted-member h v f =
-      let rest = change-member nothing (step-name s) ms in
-      let rising : Rising (names rest) = change-rising nothing (step-name s) ms (look-up-kept r t (object ms) e .sound h .0) in (
+  -- The object then has every member but that one, in byte order of the names.
+  pub deleted-member : distinct (names ms) ≡ true → (v : Tree) → find (step-name s) ms ≡ some v
+      → (rest : Members) × Taken (step-name s) v ms rest × SameMembers rest (in-order rest)
+      × (look-up r (delete (r ++ (s ∷ [])) t) ≡ some (object (in-order rest)))
+  deleted-member d v f =
+      let rest = change-member nothing (step-name s) ms in (
         rest,
         change-taken (step-name s) v ms f,
-        deleted-within r s [] t (object ms) e
-            ∙ ap some (deleted-found s [] (object ms) v v f refl ∙ ap object (rising-in-order rest rising)),
+        in-order-same rest (change-distinct nothing (step-name s) ms d),
+        deleted-within r s [] t (object ms) e ∙ ap some (deleted-found s [] (object ms) v v f refl),
       )
 
   -- What has another name there is found as it was, and all that is within it.

@@ -59,7 +59,7 @@ abbrev pub or-same : Tree → Option Tree → Tree
 or-same t nothing = t
 or-same t (some u) = u
 
--- What `left` gives where the path finds an item; the tree itself where it finds none, and for the empty path.
+-- What `remains` gives where the path finds an item; the tree itself where it finds none, and for the empty path.
 abbrev pub delete : List Step → Tree → Tree
 delete p t = or-same t (look-up p t then λ _. remains p t)
 

@@ -10,7 +10,7 @@ use Rattle.layout.specs.Bytes.{Bytes}
 use Rattle.layout.specs.Tree.{Tree, null, boolean, number, string, extension, array, object, Items, none, item, Members, empty, member, names}
 use Rattle.builders.specs.Order.{in-order, find, distinct}
 use Rattle.builders.specs.Build.{count}
-use Rattle.builders.proofs.InOrders.{in-order-rising, find-in-order, has-not, distinct-cons}
+use Rattle.builders.proofs.InOrders.{in-order-rising, rising-distinct, find-in-order, has-not, distinct-cons}
 use Rattle.edits.specs.Keypath.{Step}
 use Rattle.edits.specs.Find.{_then_, step-place}
 use Rattle.edits.specs.Delete.{kept-item, change-item, change-at, change-member, anew, remains, or-same, delete}
@@ -92,7 +92,9 @@ leave-members f n ms c d e =
     ∙ sym (find-in-order x (change-member (canon-found (f c)) n (in-order (canon-members ms)))))
   where
     left-here : (o : Option Tree) → o ≡ find n (change-member o n (in-order (canon-members ms)))
-    left-here nothing = sym (find-gone n (in-order (canon-members ms)) (in-order-rising (canon-members ms)))
+    left-here nothing =
+        let ns = in-order (canon-members ms) in
+        sym (find-gone n ns (rising-distinct (names ns) (in-order-rising (canon-members ms))))
     left-here (some u) = sym (find-changed n u (in-order (canon-members ms)) (canon c) (canon-find n ms ∙ ap canon-found e))
 
     here : (x : Bytes) → x ≡ n → canon-found (find x (leave-named f n ms)) ≡ find x (change-member (canon-found (f c)) n (in-order (canon-members ms)))
