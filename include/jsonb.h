@@ -124,10 +124,11 @@ uint64_t jsonb_build_object(const uint8_t *names, size_t names_length, const uin
                             uint8_t *out, size_t out_length);
 
 /*
- * For example, the heater's limit of a table {"heater":40} (examples/c/overlay.c has more):
+ * For example, the heater's limit of a table {"heater":40} (examples/c/overlay.c has more). Buffers of this length stand beside the
+ * stack: the 64 KiB of it that serve a call have no room for them.
  *
  *     static const uint8_t path[] = {0x80, 0, 0, 1, 0x10, 0, 0, 6, 'h', 'e', 'a', 't', 'e', 'r'};
- *     uint8_t found[JSONB_ROOM];
+ *     static uint8_t found[JSONB_ROOM];
  *     uint64_t answer = jsonb_get_by_keypath(table, table_length, path, sizeof path, found, sizeof found);
  *     if (JSONB_IS_DONE(answer))
  *         use(found, (size_t)answer);

@@ -6,6 +6,7 @@ pub mod Paths
 pub mod Parts
 pub mod Finds
 pub mod Deletes
+pub mod Findings
 pub mod Kept
 pub mod Meanings
 pub mod Firsts

@@ -3,12 +3,10 @@ use Prim.Native.Nat.{ℕ, suc, _+_, _-_, _<_, _≤_}
 use native.Mathlib.Omega.{arith}
 use mathlib.Core.Path.{_≡_, refl, ap, sym, _∙_}
 use mathlib.Core.Logic.{⊎-elim}
-use mathlib.Core.Bool.{Bool, true, false, not, cond}
+use mathlib.Core.Bool.{true}
 use mathlib.Core.List.{List, [], _∷_, _++_}
 use mathlib.Core.Option.{Option, none as nothing, some}
-use lib.Dec.{T, ltb, nltb→le}
 use lib.IntN.{pos, negsuc}
-use borrow.Author.Tests.{lt-ltb}
 use Rattle.layout.specs.Bytes.{Bytes}
 use Rattle.layout.specs.Tree.{Tree, null, boolean, number, string, extension, array, object, Items, item, Members, names}
 use Rattle.layout.specs.Sound.{Rising}
@@ -21,7 +19,8 @@ use Rattle.edits.specs.Find.{_then_, place, step-place, step-name, item-
 use Rattle.edits.specs.Delete.{change-item, change-at, change-member, anew, remains, or-same, delete}
 use Rattle.edits.proofs.Deletes.{some-inj, nothing-some, then-some, found-or-not, find-other, find-changed, find-gone}
 use Rattle.edits.proofs.Deletes.{change-distinct, change-taken, change-split, step-below, count-changed, count-gone}
-use Rattle.edits.proofs.Deletes.{item-there, item-past, item-changed, item-other, item-before, item-behind}
+use Rattle.edits.proofs.Deletes.{item-there, item-changed, item-other, item-before, item-behind}
+use Rattle.edits.proofs.Findings.{back-finds, found-item}
 
 -- ---- paths in two parts
 
@@ -175,22 +174,6 @@ module _ (r : List Step) (t : Tree) (ms : Members) (e : look-up r t ≡ some (ob
 
 -- ---- arrays
 
--- An index from the start finds the item at that place, if there is one.
-pub index-finds : (j : ℕ) (ts : Items) → step-into (index (pos j)) (array ts) ≡ item-at ts j
-unfolding place
-index-finds j ts = go (ltb j (count ts)) (nltb→le j (count ts))
-  where
-    go : (b : Bool) → (T (not b) → count ts ≤ j) → (cond b (some j) nothing then item-at ts) ≡ item-at ts j
-    go true h = refl
-    go false h = sym (item-past ts j (h tt))
-
-index-look-up : (j : ℕ) (q : List Step) (ts : Items) → look-up (index (pos j) ∷ q) (array ts) ≡ (item-at ts j then look-up q)
-index-look-up j q ts = ap (λ (o : Option Tree). o then look-up q) (index-finds j ts)
-
-back-finds : (k : ℕ) (ts : Items) → k < count ts → step-into (index (negsuc k)) (array ts) ≡ item-at ts (count ts - suc k)
-unfolding place
-back-finds k ts h = rw (lt-ltb k (count ts) h)
-
 module _ (ts : Items) (s : Step) where
   array-found : (p : List Step) (i : ℕ) (v : Tree) → step-place s (count ts) ≡ some i → look-up (s ∷ p) (array ts) ≡ some v
       → (c : Tree) × (item-at ts i ≡ some c) × (delete (s ∷ p) (array ts) ≡ array (change-item (remains p c) i ts))
@@ -247,18 +230,18 @@ module _ (r : List Step) (t : Tree) (ts : Items) (e : look-up r t ≡ some (arra
     deleted-item-before j q l =
         as-before r t (array ts) e s [] (index (pos j) ∷ q) (index (pos j) ∷ q)
         (ap (look-up (index (pos j) ∷ q)) (item-gone ts s i h)
-        ∙ index-look-up j q (change-item nothing i ts)
+        ∙ found-item q j (change-item nothing i ts)
         ∙ ap (λ (o : Option Tree). o then look-up q) (item-before nothing i j ts l)
-        ∙ sym (index-look-up j q ts))
+        ∙ sym (found-item q j ts))
 
     pub deleted-item-behind : (j : ℕ) (q : List Step) → i ≤ j
         → look-up (r ++ (index (pos j) ∷ q)) (delete (r ++ (s ∷ [])) t) ≡ look-up (r ++ (index (pos (suc j)) ∷ q)) t
     deleted-item-behind j q l =
         as-before r t (array ts) e s [] (index (pos j) ∷ q) (index (pos (suc j)) ∷ q)
         (ap (look-up (index (pos j) ∷ q)) (item-gone ts s i h)
-        ∙ index-look-up j q (change-item nothing i ts)
+        ∙ found-item q j (change-item nothing i ts)
         ∙ ap (λ (o : Option Tree). o then look-up q) (item-behind i j ts l)
-        ∙ sym (index-look-up (suc j) q ts))
+        ∙ sym (found-item q (suc j) ts))
 
     -- Counted from the end, those behind it keep their places.
     pub deleted-item-from-end : (k : ℕ) (q : List Step) → i + suc k < count ts

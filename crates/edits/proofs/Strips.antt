@@ -28,7 +28,7 @@ use Rattle.edits.specs.Keypath.{Step, name, index}
 use Rattle.edits.specs.Find.{_then_, step-place, step-name, item-at, step-into, look-up}
 use Rattle.edits.specs.Strip.{is-null, kept, stripped, stripped-items, stripped-members, unrepeated, unrepeated-items, unrepeated-members, strip}
 use Rattle.edits.proofs.Deletes.{some-inj, nothing-some, then-some, by-equal, find-first, find-later, found-in, not-in}
-use Rattle.edits.proofs.Meanings.{index-finds}
+use Rattle.edits.proofs.Findings.{index-finds}
 use Rattle.edits.proofs.Kept.{NoMore, NoMoreItems, NoMoreMembers, no-more-same, in-order-shorter}
 
 -- ---- null members
