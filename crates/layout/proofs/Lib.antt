@@ -14,7 +14,6 @@ pub mod Readables
 pub mod Pipelines
 pub mod ReadCases
 pub mod Values
-pub mod Sames
 pub mod Places
 pub mod Texts
 pub mod Checks
@@ -24,6 +23,7 @@ pub mod Nestings
 pub mod Orders
 pub mod Asks
 pub mod Sounds
+pub mod Sames
 pub mod InLines
 pub mod Walks
 pub mod Walked

@@ -114,7 +114,7 @@ mutual
   same-items-refl none = refl
   same-items-refl (item t ts) = (t, ts, refl, same-refl t, same-items-refl ts)
 
-  same-members-refl : (ms : Members) → SameMembers ms ms
+  pub same-members-refl : (ms : Members) → SameMembers ms ms
   same-members-refl empty = refl
   same-members-refl (member n t ms) = (t, ms, inl (refl, refl, refl), same-refl t, same-members-refl ms)
 
