@@ -3,22 +3,23 @@ use Prim.Native.Nat.{ℕ, zero, suc, _+_, _^_, _<_, _≤_}
 use native.Mathlib.Omega.{arith}
 use native.Mathlib.Nat.{zero-add}
 use native.Mathlib.Decide.{ℕ-discrete}
-use mathlib.Core.Path.{_≡_, refl, sym, ap, ap₂, _∙_}
+use mathlib.Core.Path.{_≡_, refl, sym, ap, _∙_}
 use mathlib.Core.Logic.{_↔_, Iff·trans}
 use mathlib.Core.Bool.{Bool, true, false, _&&_}
 use mathlib.Core.List.{List, [], _∷_, _++_}
-use lib.Dec.{T, eqb, eqb→eq}
+use lib.Dec.{T, eqb}
 use lib.ListN.{length, drop, length-append}
 use lib.Seq.{drop-at}
 use borrow.Author.Tests.{eq-eqb, ne-eqb, eqb-true, eqb-false}
 use Rattle.layout.specs.Bytes.{Bytes, word-at}
-use Rattle.layout.specs.Entry.{code, kind-of, lengths}
+use Rattle.layout.specs.Entry.{code, lengths}
 use Rattle.layout.specs.Tree.{Tree, null, boolean, number, string, extension, array, object, Items, none, item, Members, empty, member, names, kind}
 use Rattle.layout.specs.Encode.{Part, entries, payloads, name-parts, payload, item-parts, member-parts, part, scalar, encode}
 use Rattle.layout.specs.Limits.{depth, depth-items, depth-members}
+use Rattle.layout.specs.Order.{same-bytes}
 use Rattle.layout.specs.Parts.{start-of}
 use Rattle.layout.specs.Place.{parts-at}
-use Rattle.layout.specs.Value.{Same, SameItems, SameMembers}
+use Rattle.layout.specs.Value.{Same, SameItems, SameMembers, same-kind}
 use Rattle.layout.specs.declared.item.Kind.{Kind}
 use Rattle.layout.specs.declared.item.Kind.the-variants.{Null, String, Number, False, True, Container, Extension}
 use Rattle.layout.proofs.Fields.{word-at-be32}
@@ -27,9 +28,8 @@ use Rattle.layout.proofs.Encoding.{array-header, object-header, scalar-header, 
 use Rattle.layout.proofs.Readables.{record-of-length}
 use Rattle.layout.proofs.Places.{parts-at-record, drop-parts, names-at}
 use Rattle.layout.proofs.Sounds.{both}
-use Rattle.layout.specs.Order.{same-bytes}
-use Rattle.layout.proofs.Orders.{bytes-test}
-use Rattle.values.specs.Alike.{same-kind, same-payload, same-part, same-parts, same-at}
+use Rattle.layout.proofs.Sames.{Leaf, kind-test, scalar-test}
+use Rattle.values.specs.Alike.{same-payload, same-part, same-parts, same-at}
 use Rattle.values.specs.Alike.{Member, member-at, next, members-from, first, members}
 use Rattle.values.specs.declared.value.PairAt.{PairAt}
 use Rattle.values.proofs.Likes.{listed, Tells, Told, Small, same-length, members-test}
@@ -45,27 +45,6 @@ one-kind (extension b) u h = rw h
 one-kind (array ts) u h = rw (h .1)
 one-kind (object ms) u h = rw (h .1)
 
-kind-code : (k : Kind) → kind-of (code k) ≡ k
-unfolding kind-of
-kind-code Null = refl
-kind-code String = refl
-kind-code Number = refl
-kind-code False = refl
-kind-code True = refl
-kind-code Container = refl
-kind-code Extension = refl
-
-kind-test : (k l : Kind) → T (same-kind k l) ↔ (k ≡ l)
-unfolding same-kind
-kind-test k l = (
-  λ h. sym (kind-code k) ∙ ap kind-of (eqb→eq (code k) (code l) h) ∙ kind-code l,
-  λ e. eq-test (code k) (code l) (ap code e),
-)
-
--- A tree that is no container.
-abbrev Leaf : Tree → Type 0
-Leaf t = eqb (code (kind t)) 5 ≡ false
-
 -- Trees are arrays, objects or leaves.
 by-sort : (G : Tree → Type 0) → ((us : Items) → G (array us)) → ((ns : Members) → G (object ns)) → ((u : Tree) → Leaf u → G u) → (u : Tree) → G u
 by-sort G a o l null = l null refl
@@ -77,35 +56,7 @@ by-sort G a o l (extension b) = l (extension b) refl
 by-sort G a o l (array us) = a us
 by-sort G a o l (object ns) = o ns
 
--- Leaves: equal kinds and payloads. A leaf is told by both.
-
-abbrev leaf-of : Kind → Bytes → Tree
-leaf-of Null b = null
-leaf-of String b = string b
-leaf-of Number b = number b
-leaf-of False b = boolean false
-leaf-of True b = boolean true
-leaf-of Container b = null
-leaf-of Extension b = extension b
-
-leaf-is : (t : Tree) → Leaf t → leaf-of (kind t) (payload t) ≡ t
-leaf-is null h = refl
-leaf-is (boolean true) h = refl
-leaf-is (boolean false) h = refl
-leaf-is (number b) h = refl
-leaf-is (string b) h = refl
-leaf-is (extension b) h = refl
-leaf-is (array ts) h = cc
-leaf-is (object ms) h = cc
-
-leaf-same : (t u : Tree) → Leaf t → (u ≡ t) ↔ Same t u
-leaf-same null u l = (λ h. h, λ h. h)
-leaf-same (boolean x) u l = (λ h. h, λ h. h)
-leaf-same (number b) u l = (λ h. h, λ h. h)
-leaf-same (string b) u l = (λ h. h, λ h. h)
-leaf-same (extension b) u l = (λ h. h, λ h. h)
-leaf-same (array ts) u l = absurd (eqb-false 5 5 l refl)
-leaf-same (object ms) u l = absurd (eqb-false 5 5 l refl)
+-- Leaves: equal kinds and payloads.
 
 payload-leaf : (f : Bytes → Bytes → Bool) (k : Kind) (a b : Bytes) → eqb (code k) 5 ≡ false → same-payload f k a b ≡ same-bytes a b
 unfolding same-payload
@@ -119,16 +70,7 @@ payload-leaf f Extension a b h = refl
 
 leaf-test : (f : Bytes → Bytes → Bool) (t u : Tree) → Leaf t → T (same-part f (part t) (part u)) ↔ Same t u
 unfolding same-part
-leaf-test f t u l =
-    rw (payload-leaf f (kind t) (payload t) (payload u) l)
-    (Iff·trans (both (same-kind (kind t) (kind u)) (same-bytes (payload t) (payload u)) (kind-test (kind t) (kind u)) (bytes-test (payload t) (payload u)))
-    (Iff·trans equal (leaf-same t u l)))
-  where
-    equal : ((kind t ≡ kind u) × (payload t ≡ payload u)) ↔ (u ≡ t)
-    equal = (
-      λ h. let m : Leaf u = rw (← h .0) l in sym (leaf-is u m) ∙ ap₂ leaf-of (sym (h .0)) (sym (h .1)) ∙ leaf-is t l,
-      λ h. (ap kind (sym h), ap payload (sym h)),
-    )
+leaf-test f t u l = rw (payload-leaf f (kind t) (payload t) (payload u) l) (scalar-test t u l)
 
 -- Containers.
 
@@ -211,7 +153,7 @@ members-of (object ms) = ms
 array-same : (ts us : Items) → SameItems ts us ↔ Same (array ts) (array us)
 array-same ts us = (λ h. (us, refl, h), λ h. let e : us ≡ h .0 = ap items-of (h .1) in rw e (h .2))
 
-pub object-same : (ms ns : Members) → SameMembers ms ns ↔ Same (object ms) (object ns)
+object-same : (ms ns : Members) → SameMembers ms ns ↔ Same (object ms) (object ns)
 object-same ms ns = (λ h. (ns, refl, h), λ h. let e : ns ≡ h .0 = ap members-of (h .1) in rw e (h .2))
 
 abbrev first-of : Items → Tree

@@ -1,9 +1,8 @@
--- Equal values and grades: each answer of the code says what `EqualValues` and `Graded` say, and of any two records just one grade
--- is true.
+-- Equal values and grades: what the code answers is `equal-values` and `grade-of`, and these say what `EqualValues` and `Graded` say.
 use Prim.Native.Nat.{_≤_}
 use mathlib.Core.Path.{_≡_, refl, ap, sym, subst, _∙_}
 use mathlib.Core.Logic.{_↔_}
-use mathlib.Core.Bool.{Bool, true, false, _&&_}
+use mathlib.Core.Bool.{Bool, true, false, cond, _&&_}
 use lib.Dec.{T}
 use lib.ListN.{length}
 use Rattle.layout.specs.Bytes.{Bytes, Octets}
@@ -12,7 +11,7 @@ use Rattle.layout.specs.Tree.{Tree}
 use Rattle.layout.specs.Encode.{encode}
 use Rattle.layout.specs.Read.{read}
 use Rattle.layout.specs.Sound.{Sound}
-use Rattle.layout.specs.Value.{Same}
+use Rattle.layout.specs.Value.{Same, same}
 use Rattle.layout.specs.Order.{same-bytes}
 use Rattle.layout.specs.Every.{sound-ask}
 use Rattle.layout.specs.EveryAt.{sound-at}
@@ -20,137 +19,150 @@ use Rattle.layout.specs.Check.{checked}
 use Rattle.layout.specs.declared.check.Check.{Check}
 use Rattle.layout.specs.declared.check.Check.the-variants.{Readable, Refused}
 use Rattle.layout.specs.declared.refusal.Refusal.{Refusal}
-use Rattle.layout.proofs.Answers.{gives-inj, refused-gives}
+use Rattle.layout.proofs.Answers.{gives-inj}
 use Rattle.layout.proofs.Decoding.{read-sound}
 use Rattle.layout.proofs.Nestings.{readable-gives, refused-as}
 use Rattle.layout.proofs.Values.{same-refl, sound-bytes}
 use Rattle.layout.proofs.Places.{and-both}
 use Rattle.layout.proofs.Asks.{every-read}
 use Rattle.layout.proofs.Sounds.{sound-test}
-use Rattle.layout.proofs.Orders.{bytes-test}
+use Rattle.layout.proofs.Sames.{same-test}
+use Rattle.layout.proofs.Orders.{bytes-test, alike-bytes, unlike-bytes}
 use Rattle.values.specs.Alike.{same-at}
-use Rattle.values.specs.Value.{EqualValues}
-use Rattle.values.specs.Grade.{Graded}
+use Rattle.values.specs.Value.{EqualValues, both-same, equal-values}
+use Rattle.values.specs.Grade.{grade-by, grade-of, Graded}
 use Rattle.values.specs.declared.grade.Grade.{Grade}
 use Rattle.values.specs.declared.grade.Grade.the-variants.{Right, SameValue, OtherValue, Damaged, Ungraded}
+use Rattle.values.proofs.Likes.{one-test, holds, fails}
 use Rattle.values.proofs.Alikes.{record-test}
 
--- What the test by places says of readable records: whether they have equal values.
-same-value : (a b : Bytes) (t u : Tree) → Octets a → Octets b → read a ≡ gives t → read b ≡ gives u → T (same-at 64 a b) ↔ Same t u
-same-value a b t u o p e f =
-    let d = read-sound a t o e in
-    let g = read-sound b u p f in
-    let l : length (encode t) ≤ 65536 = rw (d .0 .bytes) (d .1) in
-    let m : length (encode u) ≤ 65536 = rw (g .0 .bytes) (g .1) in
-    rw (d .0 .bytes, g .0 .bytes) at (record-test t u (d .0 .deep) l m)
+equal-by : (a b : Bytes) → equal-values a b ≡ both-same (read a) (read b)
+unfolding equal-values
+equal-by a b = refl
 
-sound-value : (s : Bytes) (t : Tree) → Octets s → read s ≡ gives t → sound-at 64 s ≡ true → Sound t
-sound-value s t o e q =
-    sound-test t .0 (subst T (sym q ∙ every-read sound-ask s t o e) tt)
+graded-by : (c e : Bytes) → grade-of c e ≡ grade-by (read c) (read e) (same-bytes c e)
+unfolding grade-of
+graded-by c e = refl
+
+graded-read : (c e : Bytes) {t u : Tree} → read c ≡ gives t → read e ≡ gives u
+    → grade-of c e ≡ cond (same-bytes c e) Right (cond (same t u) SameValue OtherValue)
+graded-read c e p q = rw (graded-by c e, p, q)
+
+-- ---- What they say
+
+pub equal-values-is : (a b : Bytes) → T (equal-values a b) ↔ EqualValues a b
+equal-values-is a b =
+    rw (equal-by a b) (go (read a) (read b) refl refl, λ h. rw (h .2, h .3) (same-test (h .0) (h .1) .1 (h .4)))
+  where
+    go : (x y : Answer Tree) → read a ≡ x → read b ≡ y → T (both-same x y) → EqualValues a b
+    go (gives t) (gives u) p q h = (t, u, p, q, same-test t u .0 h)
+    go (gives t) (refused r) p q h = absurd h
+    go (refused r) y p q h = absurd h
+
+-- The grade that is given is true.
+given : (c e : Bytes) → Graded (grade-of c e) c e
+given c e = rw (graded-by c e) (go (read c) (read e) (same-bytes c e) refl refl (bytes-test c e))
+  where
+    by-value : (t u : Tree) → read c ≡ gives t → read e ≡ gives u → (c ≡ e → ⊥) → (b : Bool) → T b ↔ Same t u
+        → Graded (cond b SameValue OtherValue) c e
+    by-value t u p q n true k = (n, (t, u, p, q, k .0 tt))
+    by-value t u p q n false k = (t, u, p, q, λ h. k .1 h)
+
+    go : (x y : Answer Tree) (s : Bool) → read c ≡ x → read e ≡ y → T s ↔ (c ≡ e) → Graded (grade-by x y s) c e
+    go x (refused r) s p q k = q
+    go (refused r) (gives u) s p q k = (u, q, p)
+    go (gives t) (gives u) true p q k = (t, p, k .0 tt)
+    go (gives t) (gives u) false p q k = by-value t u p q (k .1) (same t u) (same-test t u)
+
+-- And no other is.
+only : (g : Grade) (c e : Bytes) → Graded g c e → g ≡ grade-of c e
+only Right c e h =
+    let q : read e ≡ gives (h .0) = ap read (sym (h .2)) ∙ h .1 in
+    rw (graded-read c e (h .1) q, ← alike-bytes c e (h .2))
+only SameValue c e h =
+    let (t, u, p, q, k) = h .1 in
+    rw (graded-read c e p q, ← unlike-bytes c e (h .0), holds (same t u) (same-test t u .1 k))
+only OtherValue c e h =
+    let (t, u, p, q, n) = h in
+    let differ : c ≡ e → ⊥ = λ k. n (subst (Same t) (gives-inj (sym p ∙ ap read k ∙ q)) (same-refl t)) in
+    rw (graded-read c e p q, ← unlike-bytes c e differ, fails (same t u) (λ k. n (same-test t u .0 k)))
+only (Damaged r) c e h = rw (graded-by c e, h .1, h .2)
+only (Ungraded r) c e h = rw (graded-by c e, h)
+
+-- Of any two records one grade is true and no other: `grade-of`.
+pub graded-is : (g : Grade) (c e : Bytes) → Graded g c e ↔ (g ≡ grade-of c e)
+graded-is g c e = (only g c e, λ h. subst (λ x. Graded x c e) (sym h) (given c e))
+
+-- ---- In the terms of the code
+
+-- A record that passed the check, and what it reads as.
+pub record Reading (s : Bytes) : Type 0 where
+  pub octets : Octets s
+  pub tree : Tree
+  pub reads : read s ≡ gives tree
+
+pub reading : (s : Bytes) (k : Check) → Octets s → k ≡ checked (read s) → k ≡ Readable → Reading s
+reading s k o e q =
+    let w = readable-gives (read s) k e q in
+    record { octets = o; tree = w .0; reads = w .1 }
+
+-- The test by places of two such records.
+same-read : {a b : Bytes} (p : Reading a) (q : Reading b) → same-at 64 a b ≡ same (p .tree) (q .tree)
+same-read {a} {b} p q =
+    let d = read-sound a (p .tree) (p .octets) (p .reads) in
+    let g = read-sound b (q .tree) (q .octets) (q .reads) in
+    let l : length (encode (p .tree)) ≤ 65536 = rw (d .0 .bytes) (d .1) in
+    let m : length (encode (q .tree)) ≤ 65536 = rw (g .0 .bytes) (g .1) in
+    let x : T (same-at 64 a b) ↔ Same (p .tree) (q .tree) =
+    rw (d .0 .bytes, g .0 .bytes) at (record-test (p .tree) (q .tree) (d .0 .deep) l m) in
+    let y = same-test (p .tree) (q .tree) in
+    one-test _ _ (λ h. y .1 (x .0 h)) (λ h. x .1 (y .0 h))
+
+sound-read : {s : Bytes} (p : Reading s) → sound-at 64 s ≡ true → Sound (p .tree)
+sound-read {s} p q = sound-test (p .tree) .0 (subst T (sym q ∙ every-read sound-ask s (p .tree) (p .octets) (p .reads)) tt)
 
 -- The answers of `is_same_value`.
-module _ (a b : Bytes) (k : Check) (hk : k ≡ checked (read a)) where
-  pub first-unread : (r : Refusal) → k ≡ Refused r → T false ↔ EqualValues a b
-  first-unread r q = (λ h. absurd h, λ h. refused-gives (sym (refused-as (read a) k r hk q) ∙ h .2))
+pub first-unread : (a b : Bytes) (k : Check) (r : Refusal) → k ≡ checked (read a) → k ≡ Refused r → false ≡ equal-values a b
+first-unread a b k r e q = rw (equal-by a b, refused-as (read a) k r e q)
 
-  module _ (good : k ≡ Readable) (d : Check) (hd : d ≡ checked (read b)) where
-    pub second-unread : (r : Refusal) → d ≡ Refused r → T false ↔ EqualValues a b
-    second-unread r q = (λ h. absurd h, λ h. refused-gives (sym (refused-as (read b) d r hd q) ∙ h .3))
+pub second-unread : {a : Bytes} → Reading a → (b : Bytes) (k : Check) (r : Refusal) → k ≡ checked (read b) → k ≡ Refused r
+    → false ≡ equal-values a b
+second-unread {a} p b k r e q = rw (equal-by a b, p .reads, refused-as (read b) k r e q)
 
-    pub both-read : d ≡ Readable → Octets a → Octets b → (g : Bool) → g ≡ same-at 64 a b → T g ↔ EqualValues a b
-    both-read q oa ob g hg =
-        let t = readable-gives (read a) k hk good in
-        let u = readable-gives (read b) d hd q in (
-          λ h. (t .0, u .0, t .1, u .1, same-value a b (t .0) (u .0) oa ob (t .1) (u .1) .0 (subst T hg h)),
-          λ h. subst T (sym hg) (same-value a b (h .0) (h .1) oa ob (h .2) (h .3) .1 (h .4)),
-        )
+pub both-read : {a b : Bytes} → Reading a → Reading b → (g : Bool) → g ≡ same-at 64 a b → g ≡ equal-values a b
+both-read {a} {b} p q g h = rw (h, same-read p q, equal-by a b, p .reads, q .reads)
 
 -- The answers of `grade_record`.
-module _ (c e : Bytes) (k : Check) (hk : k ≡ checked (read e)) where
-  pub graded-ungraded : (r : Refusal) → k ≡ Refused r → Graded (Ungraded r) c e
-  graded-ungraded r q = refused-as (read e) k r hk q
+pub graded-ungraded : (c e : Bytes) (k : Check) (r : Refusal) → k ≡ checked (read e) → k ≡ Refused r
+    → Ungraded r ≡ grade-of c e
+graded-ungraded c e k r h q = rw (graded-by c e, refused-as (read e) k r h q)
 
-  module _ (expected : k ≡ Readable) (d : Check) (hd : d ≡ checked (read c)) where
-    pub graded-damaged : (r : Refusal) → d ≡ Refused r → Graded (Damaged r) c e
-    graded-damaged r q =
-        let u = readable-gives (read e) k hk expected in
-        (u .0, u .1, refused-as (read c) d r hd q)
+pub graded-damaged : (c : Bytes) {e : Bytes} → Reading e → (k : Check) (r : Refusal) → k ≡ checked (read c) → k ≡ Refused r
+    → Damaged r ≡ grade-of c e
+graded-damaged c {e} q k r h l = rw (graded-by c e, q .reads, refused-as (read c) k r h l)
 
-    module _ (good : d ≡ Readable) (s : Bool) (hs : s ≡ same-bytes c e) where
-      pub graded-right : s ≡ true → Graded Right c e
-      graded-right q =
-          let t = readable-gives (read c) d hd good in
-          (t .0, t .1, bytes-test c e .0 (subst T (sym q ∙ hs) tt))
+pub graded-right : {c e : Bytes} → Reading c → Reading e → (s : Bool) → s ≡ same-bytes c e → s ≡ true → Right ≡ grade-of c e
+graded-right {c} {e} p q s h l = rw (graded-read c e (p .reads) (q .reads), ← h, l)
 
-      module _ (unequal : s ≡ false) (oc : Octets c) (oe : Octets e) where
-        differ : c ≡ e → ⊥
-        differ h = subst T (sym hs ∙ unequal) (bytes-test c e .1 h)
+-- Readable records of other bytes.
+pub record Unequal (c e : Bytes) : Type 0 where
+  pub candidate : Reading c
+  pub expected : Reading e
+  pub differ : same-bytes c e ≡ false
 
-        pub graded-sound : (x y : Bool) → x ≡ sound-at 64 c → y ≡ sound-at 64 e → (x && y) ≡ true → Graded OtherValue c e
-        graded-sound x y hx hy q =
-            let t = readable-gives (read c) d hd good in
-            let u = readable-gives (read e) k hk expected in
-            let w = and-both x y q in
-            let sc = sound-value c (t .0) oc (t .1) (sym hx ∙ w .0) in
-            let se = sound-value e (u .0) oe (u .1) (sym hy ∙ w .1) in
-            (t .0, u .0, t .1, u .1, λ h. differ (sound-bytes c e (t .0) (u .0) oc oe (t .1) (u .1) sc se .0 h))
+module _ {c e : Bytes} (w : Unequal c e) where
+  by-value : (b : Bool) → same (w .candidate .tree) (w .expected .tree) ≡ b → cond b SameValue OtherValue ≡ grade-of c e
+  by-value b h = rw (graded-read c e (w .candidate .reads) (w .expected .reads), w .differ, h)
 
-        module _ (g : Bool) (hg : g ≡ same-at 64 c e) where
-          pub graded-same : g ≡ true → Graded SameValue c e
-          graded-same q =
-              let t = readable-gives (read c) d hd good in
-              let u = readable-gives (read e) k hk expected in
-              (differ, (t .0, u .0, t .1, u .1, same-value c e (t .0) (u .0) oc oe (t .1) (u .1) .0 (subst T (sym q ∙ hg) tt)))
+  -- Sound records of other bytes have other values.
+  pub graded-sound : (x y : Bool) → x ≡ sound-at 64 c → y ≡ sound-at 64 e → (x && y) ≡ true → OtherValue ≡ grade-of c e
+  graded-sound x y hx hy q =
+      let p = w .candidate in
+      let u = w .expected in
+      let (sc, se) = and-both x y q in
+      let equal = sound-bytes c e (p .tree) (u .tree) (p .octets) (u .octets) (p .reads) (u .reads)
+      (sound-read p (sym hx ∙ sc)) (sound-read u (sym hy ∙ se)) in
+      by-value false (fails _ (λ h. subst T (w .differ) (bytes-test c e .1 (equal .0 (same-test (p .tree) (u .tree) .0 h)))))
 
-          pub graded-other : g ≡ false → Graded OtherValue c e
-          graded-other q =
-              let t = readable-gives (read c) d hd good in
-              let u = readable-gives (read e) k hk expected in
-              (t .0, u .0, t .1, u .1, λ h. subst T (sym hg ∙ q) (same-value c e (t .0) (u .0) oc oe (t .1) (u .1) .1 h))
-
--- No two grades are both true.
-module _ (c e : Bytes) where
-  right-other : Graded Right c e → Graded OtherValue c e → ⊥
-  right-other p q =
-      let same : q .0 ≡ q .1 = gives-inj (sym (q .2) ∙ ap read (p .2) ∙ q .3) in
-      q .4 (subst (Same (q .0)) same (same-refl (q .0)))
-
-  same-other : Graded SameValue c e → Graded OtherValue c e → ⊥
-  same-other p q =
-      let t : q .0 ≡ p .1 .0 = gives-inj (sym (q .2) ∙ p .1 .2) in
-      let u : q .1 ≡ p .1 .1 = gives-inj (sym (q .3) ∙ p .1 .3) in
-      q .4 (rw (t, u) (p .1 .4))
-
-  right-ungraded : (r : Refusal) → Graded Right c e → Graded (Ungraded r) c e → ⊥
-  right-ungraded r p q = refused-gives (sym q ∙ ap read (sym (p .2)) ∙ p .1)
-
-refused-inj : (r x : Refusal) → _≡_ {A = Answer Tree} (refused r) (refused x) → r ≡ x
-refused-inj r x h = cc
-
--- Of any two records just one grade is true.
-pub graded-one : (g h : Grade) (c e : Bytes) → Graded g c e → Graded h c e → g ≡ h
-graded-one Right Right c e p q = refl
-graded-one Right SameValue c e p q = absurd (q .0 (p .2))
-graded-one Right OtherValue c e p q = absurd (right-other c e p q)
-graded-one Right (Damaged r) c e p q = refused-gives (sym (q .2) ∙ p .1)
-graded-one Right (Ungraded r) c e p q = absurd (right-ungraded c e r p q)
-graded-one SameValue Right c e p q = absurd (p .0 (q .2))
-graded-one SameValue SameValue c e p q = refl
-graded-one SameValue OtherValue c e p q = absurd (same-other c e p q)
-graded-one SameValue (Damaged r) c e p q = refused-gives (sym (q .2) ∙ p .1 .2)
-graded-one SameValue (Ungraded r) c e p q = refused-gives (sym q ∙ p .1 .3)
-graded-one OtherValue Right c e p q = absurd (right-other c e q p)
-graded-one OtherValue SameValue c e p q = absurd (same-other c e q p)
-graded-one OtherValue OtherValue c e p q = refl
-graded-one OtherValue (Damaged r) c e p q = refused-gives (sym (q .2) ∙ p .2)
-graded-one OtherValue (Ungraded r) c e p q = refused-gives (sym q ∙ p .3)
-graded-one (Damaged r) Right c e p q = refused-gives (sym (p .2) ∙ q .1)
-graded-one (Damaged r) SameValue c e p q = refused-gives (sym (p .2) ∙ q .1 .2)
-graded-one (Damaged r) OtherValue c e p q = refused-gives (sym (p .2) ∙ q .2)
-graded-one (Damaged r) (Damaged x) c e p q = ap Damaged (refused-inj r x (sym (p .2) ∙ q .2))
-graded-one (Damaged r) (Ungraded x) c e p q = refused-gives (sym q ∙ p .1)
-graded-one (Ungraded r) Right c e p q = absurd (right-ungraded c e r q p)
-graded-one (Ungraded r) SameValue c e p q = refused-gives (sym p ∙ q .1 .3)
-graded-one (Ungraded r) OtherValue c e p q = refused-gives (sym p ∙ q .3)
-graded-one (Ungraded r) (Damaged x) c e p q = refused-gives (sym p ∙ q .1)
-graded-one (Ungraded r) (Ungraded x) c e p q = ap Ungraded (refused-inj r x (sym p ∙ q))
+  pub graded-values : (g b : Bool) → g ≡ same-at 64 c e → g ≡ b → cond b SameValue OtherValue ≡ grade-of c e
+  graded-values g b h q = by-value b (sym (same-read (w .candidate) (w .expected)) ∙ sym h ∙ q)

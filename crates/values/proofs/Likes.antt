@@ -57,15 +57,17 @@ same-length empty ns h = rw h
 same-length (member n t ms) ns h = rw (length-taken n (h .0) ns (h .1) (h .2), same-length ms (h .1) (h .4))
 
 -- Tests that say the same are equal.
-one-test : (a b : Bool) → (T a → T b) → (T b → T a) → a ≡ b
+pub one-test : (a b : Bool) → (T a → T b) → (T b → T a) → a ≡ b
 one-test true true p q = refl
 one-test true false p q = absurd (p tt)
 one-test false true p q = absurd (q tt)
 one-test false false p q = refl
 
-holds : (a : Bool) → T a → a ≡ true
-holds true h = refl
-holds false h = absurd h
+pub holds : (a : Bool) → T a → a ≡ true
+holds a h = one-test a true (λ _. tt) (λ _. h)
+
+pub fails : (a : Bool) → (T a → ⊥) → a ≡ false
+fails a h = one-test a false h (λ k. absurd k)
 
 module _ (f : Bytes → Bytes → Bool) where
   like-test : (n m : Bytes) (t u : Tree) → Tells f t → length (payload u) < 2 ^ 28 → T (like f (one n t) (one m u)) ↔ ((n ≡ m) × Same t u)

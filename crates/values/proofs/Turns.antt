@@ -17,6 +17,7 @@ use Rattle.layout.specs.Order.{same-bytes}
 use Rattle.layout.specs.Parts.{first-part, next-part, part-in, part-payload, parts-of}
 use Rattle.layout.specs.Place.{parts-at}
 use Rattle.layout.specs.Read.{header}
+use Rattle.layout.specs.Value.{same-kind}
 use Rattle.layout.specs.declared.item.Kind.{Kind}
 use Rattle.layout.specs.declared.parts.PartAt.{PartAt}
 use Rattle.layout.specs.declared.refusal.Refusal.{Refusal}
@@ -26,7 +27,7 @@ use Rattle.layout.proofs.Fields.{length-lt}
 use Rattle.layout.proofs.Checks.{one-less, parts-step}
 use Rattle.layout.proofs.Pieces.{nth-is}
 use Rattle.layout.proofs.Walks.{lengths-le}
-use Rattle.values.specs.Alike.{same-kind, same-payload, same-part, same-parts, Member, member-at, Near, next, members-from, first, members, like, likes, same-members, same-by, same-at}
+use Rattle.values.specs.Alike.{same-payload, same-part, same-parts, Member, member-at, Near, next, members-from, first, members, like, likes, same-members, same-by, same-at}
 use Rattle.values.specs.declared.value.PairAt.{PairAt}
 
 -- Kinds and payloads.

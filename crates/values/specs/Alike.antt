@@ -4,12 +4,12 @@ use mathlib.Core.Bool.{Bool, true, false, cond, _&&_}
 use mathlib.Core.List.{List, [], _∷_}
 use lib.Dec.{ltb, eqb}
 use Rattle.layout.specs.Bytes.{Bytes, word-at}
-use Rattle.layout.specs.Entry.{code}
 use Rattle.layout.specs.Encode.{Part}
 use Rattle.layout.specs.Order.{same-bytes}
 use Rattle.layout.specs.Place.{parts-at}
 use Rattle.layout.specs.Parts.{next-part, first-part, nth-part, part-in, part-payload, parts-of}
 use Rattle.layout.specs.Read.{header}
+use Rattle.layout.specs.Value.{same-kind}
 use Rattle.layout.specs.declared.item.Kind.{Kind}
 use Rattle.layout.specs.declared.item.Kind.the-variants.{Null, String, Number, False, True, Container, Extension}
 use Rattle.layout.specs.declared.util.Header.{Header}
@@ -17,9 +17,6 @@ use Rattle.layout.specs.declared.util.Header.the-variants.{Array, Object, Scala
 use Rattle.values.specs.declared.value.PairAt.{PairAt}
 
 -- Items: of one kind, with equal payloads; `f` tells whether containers have equal values.
-unfoldable pub same-kind : Kind → Kind → Bool
-same-kind k l = eqb (code k) (code l)
-
 unfoldable pub same-payload : (Bytes → Bytes → Bool) → Kind → Bytes → Bytes → Bool
 same-payload f Null a b = same-bytes a b
 same-payload f String a b = same-bytes a b

@@ -6,7 +6,8 @@ use layout::constants::DEPTH_LIMIT;
 use layout::order::is_same_bytes;
 use layout::refusal::Refusal;
 use layout::sound::is_sound_where_readable;
-ghost use Rattle.values.specs.Grade.{Graded};
+ghost use mathlib.Core.Path.{_≡_};
+ghost use Rattle.values.specs.Grade.{«grade-of» as gradeOf};
 
 pub enum Grade {
     // The expected record itself.
@@ -23,7 +24,7 @@ pub enum Grade {
 
 // The grade of a candidate. The expected record is checked first, then the candidate.
 pub fn grade_record(candidate: &[u8], expected: &[u8]) -> Grade
-    ensures { λ r. ⌜ Graded r (now (candidate .entry)) (now (expected .entry)) ⌝ }
+    ensures { λ r. ⌜ r ≡ gradeOf (now (candidate .entry)) (now (expected .entry)) ⌝ }
 {
     if let Check::Refused(refusal) = check_record(expected) {
         return Grade::Ungraded(refusal);
@@ -35,9 +36,7 @@ pub fn grade_record(candidate: &[u8], expected: &[u8]) -> Grade
         return Grade::Right;
     }
     // Sound records of other bytes have other values, and no members need be searched for.
-    if is_sound_where_readable(candidate, DEPTH_LIMIT)
-        & is_sound_where_readable(expected, DEPTH_LIMIT)
-    {
+    if is_sound_where_readable(candidate, DEPTH_LIMIT) & is_sound_where_readable(expected, DEPTH_LIMIT) {
         return Grade::OtherValue;
     }
     if is_same_nested(candidate, expected, DEPTH_LIMIT) {

@@ -27,14 +27,13 @@ use layout::util::Header;
 use layout::util::read_header;
 use layout::util::read_u32;
 ghost use mathlib.Core.Path.{_≡_};
-ghost use mathlib.Core.Logic.{_↔_};
 ghost use Prim.Native.Nat.{_+_, _-_, _*_, _^_, _<_, _≤_, min};
-ghost use lib.Dec.{T};
 ghost use Rattle.layout.specs.Entry.{code, «kind-of» as kindOf};
 ghost use Rattle.layout.specs.Place.{«parts-at» as partsAt};
 ghost use Rattle.layout.specs.Parts.{«part-in» as partIn};
-ghost use Rattle.values.specs.Value.{EqualValues};
-ghost use Rattle.values.specs.Alike.{«same-kind» as sameKind, «same-part» as samePart, «same-parts» as sameParts};
+ghost use Rattle.layout.specs.Value.{«same-kind» as sameKind};
+ghost use Rattle.values.specs.Value.{«equal-values» as equalValues};
+ghost use Rattle.values.specs.Alike.{«same-part» as samePart, «same-parts» as sameParts};
 ghost use Rattle.values.specs.Alike.{Near, first, next};
 ghost use Rattle.values.specs.Alike.{«member-at» as memberAt, «members-from» as membersFrom, members, like, likes};
 ghost use Rattle.values.specs.Alike.{«same-members» as sameMembers, «same-at» as sameAt};
@@ -213,7 +212,7 @@ pub(crate) fn is_same_nested(a: &[u8], b: &[u8], allowance: u32) -> bool
 
 // Whether two records have equal values; one that is not readable has none.
 pub fn is_same_value(a: &[u8], b: &[u8]) -> bool
-    ensures { λ r. ⌜ T r ↔ EqualValues (now (a .entry)) (now (b .entry)) ⌝ }
+    ensures { λ r. ⌜ r ≡ equalValues (now (a .entry)) (now (b .entry)) ⌝ }
 {
     if let Check::Refused(_) = check_record(a) {
         return false;
