@@ -65,7 +65,8 @@ of-object test (extension b) = false
 of-object test (array us) = false
 of-object test (object ns) = test ns
 
--- The first member of the name `n` with a value that passes is taken out, and `rest` asked of those that are left.
+-- The first member of the name `n` with a value that passes is taken out, and `rest` asked of those that are left; no where there is
+-- none.
 abbrev pub without : Bytes → (Tree → Bool) → (Members → Bool) → Members → Bool
 without n value rest empty = false
 without n value rest (member m u ns) =
