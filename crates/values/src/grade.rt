@@ -36,7 +36,9 @@ pub fn grade_record(candidate: &[u8], expected: &[u8]) -> Grade
         return Grade::Right;
     }
     // Sound records of other bytes have other values, and no members need be searched for.
-    if is_sound_where_readable(candidate, DEPTH_LIMIT) & is_sound_where_readable(expected, DEPTH_LIMIT) {
+    if is_sound_where_readable(candidate, DEPTH_LIMIT)
+        & is_sound_where_readable(expected, DEPTH_LIMIT)
+    {
         return Grade::OtherValue;
     }
     if is_same_nested(candidate, expected, DEPTH_LIMIT) {
