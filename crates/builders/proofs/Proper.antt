@@ -1,5 +1,5 @@
 -- Proper values, those that an account can have: texts and numbers as a record's, and no name twice in an object, in whatever order its
--- members stand. An equal value is one too, and so is the tree of a sound record.
+-- members stand. An equal value is one too.
 use Prim.Native.Nat.{ℕ}
 use native.Mathlib.Omega.{arith}
 use mathlib.Core.Path.{_≡_, refl}
@@ -13,14 +13,13 @@ use Rattle.layout.specs.Number.{listed}
 use Rattle.layout.specs.Tree.{Tree, null, boolean, number, string, extension, array, object, Items, none, item, Members, empty, member, names}
 use Rattle.layout.specs.Encode.{Part, entry-word, entries, payloads, record-of, name-parts, item-parts, member-parts, payload, part, scalar, encode}
 use Rattle.layout.specs.Limits.{Valid, ValidItems, ValidMembers}
-use Rattle.layout.specs.Sound.{Sound, SoundItems, SoundMembers}
 use Rattle.layout.specs.Value.{Taken, Same, SameItems, SameMembers}
 use Rattle.layout.proofs.Words.{octets-left, octets-right, octets-append}
 use Rattle.layout.proofs.Decoding.{payloads-append}
 use Rattle.layout.proofs.Values.{In, taken-in, same-names}
 use Rattle.layout.proofs.Sames.{same-members-sym}
 use Rattle.builders.specs.Order.{distinct}
-use Rattle.builders.proofs.InOrders.{not-has, has-not, distinct-cons, rising-distinct}
+use Rattle.builders.proofs.InOrders.{not-has, has-not, distinct-cons}
 
 abbrev mutual
   pub Proper : Tree → Type 0
@@ -40,45 +39,15 @@ abbrev mutual
   ProperMembers empty = Unit {0}
   ProperMembers (member n t ms) = (T (utf8 n) × Octets n) × Proper t × ProperMembers ms
 
--- ---- the tree of a sound record
-
 pub distinct-with : (n : Bytes) (ns : List Bytes) → (In n ns → ⊥) → distinct ns ≡ true → distinct (n ∷ ns) ≡ true
 unfolding distinct
 distinct-with n ns h d = rw (not-has n ns h) d
 
--- What stands behind the header and the table.
-octets-payloads : (w : ℕ) (ps : List Part) → Octets (record-of w ps) → Octets (payloads ps)
-octets-payloads w ps o = octets-right (entries ps) (payloads ps) (octets-right (be32 w) (entries ps ++ payloads ps) o)
-
-mutual
-  pub sound-proper : (t : Tree) → Valid t → Sound t → Octets (payload t) → Proper t
-  sound-proper null v s o = tt
-  sound-proper (boolean x) v s o = tt
-  sound-proper (number b) v s o = (v, o)
-  sound-proper (string b) v s o = (v, o)
-  sound-proper (extension b) v s o = o
-  sound-proper (array ts) v s o = proper-items ts v s (octets-payloads _ (item-parts ts) o)
-  sound-proper (object ms) v s o =
-      let ps = name-parts (names ms) in
-      let q : Octets (payloads ps ++ payloads (member-parts ms)) = rw (payloads-append ps (member-parts ms)) at (octets-payloads _ (ps ++ member-parts ms) o) in
-      (rising-distinct (names ms) (s .0), proper-members ms v (s .1) (octets-left (payloads ps) (payloads (member-parts ms)) q) (octets-right (payloads ps) (payloads (member-parts ms)) q))
-
-  proper-items : (ts : Items) → ValidItems ts → SoundItems ts → Octets (payloads (item-parts ts)) → ProperItems ts
-  proper-items none v s o = tt
-  proper-items (item t ts) v s o = (
-    sound-proper t (v .0) (s .0) (octets-left (payload t) (payloads (item-parts ts)) o),
-    proper-items ts (v .1) (s .1) (octets-right (payload t) (payloads (item-parts ts)) o),
-  )
-
-  proper-members : (ms : Members) → ValidMembers ms → SoundMembers ms → Octets (payloads (name-parts (names ms))) → Octets (payloads (member-parts ms)) → ProperMembers ms
-  proper-members empty v s o p = tt
-  proper-members (member n t ms) v s o p = (
-    (v .0, octets-left n (payloads (name-parts (names ms))) o),
-    sound-proper t (v .1) (s .0) (octets-left (payload t) (payloads (member-parts ms)) p),
-    proper-members ms (v .2) (s .1) (octets-right n (payloads (name-parts (names ms))) o) (octets-right (payload t) (payloads (member-parts ms)) p),
-  )
-
 -- ---- its record
+
+-- What stands behind the header and the table.
+pub octets-payloads : (w : ℕ) (ps : List Part) → Octets (record-of w ps) → Octets (payloads ps)
+octets-payloads w ps o = octets-right (entries ps) (payloads ps) (octets-right (be32 w) (entries ps ++ payloads ps) o)
 
 octets-be32 : (w : ℕ) → Octets (be32 w)
 unfolding be32
@@ -191,7 +160,7 @@ others-distinct n u (member m x ns) r k d =
         (λ e. ⊎-elim (λ j. inl j) (λ j. inr (others-in n u ns (e .0) (e .2) m j)) (rw (e .1) at i))
         k
 
-same-distinct : (ms ns : Members) → SameMembers ms ns → distinct (names ns) ≡ true → distinct (names ms) ≡ true
+pub same-distinct : (ms ns : Members) → SameMembers ms ns → distinct (names ns) ≡ true → distinct (names ms) ≡ true
 unfolding distinct
 same-distinct empty ns h d = refl
 same-distinct (member n t ms) ns h d =

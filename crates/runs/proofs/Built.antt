@@ -90,10 +90,10 @@ canon-turn (item (array vs) ts) (item u us) = refl
 canon-turn (item (object ms) ts) (item u us) = refl
 
 -- Build, from the pairs on.
-abbrev built : Members → Answer Tree
+abbrev pub built : Members → Answer Tree
 built ms = require (distinct (names ms)) Repeated >>= λ _. gives (object (in-order ms))
 
-build-turn : (ts us : Items) → build (array ts) (array us) ≡ (in-turn ts us >>= built)
+pub build-turn : (ts us : Items) → build (array ts) (array us) ≡ (in-turn ts us >>= built)
 unfolding build _>>=_ require
 build-turn ts us =
     rw (← pairs-in-turn ts us)

@@ -4,19 +4,18 @@ use mathlib.Core.Logic.{inl, inr, ⊎-elim}
 use mathlib.Core.Bool.{Bool, true, false, cond}
 use mathlib.Core.Option.{Option, none as nothing, some}
 use Rattle.layout.specs.Bytes.{Bytes}
-use Rattle.layout.specs.Answer.{gives}
 use Rattle.layout.specs.Tree.{Tree, null, boolean, number, string, extension, array, object, Items, none, item, Members, empty, member, names}
 use Rattle.builders.specs.Order.{in-order, find, distinct}
 use Rattle.builders.proofs.InOrders.{in-order-rising, rising-distinct, has-not, distinct-cons}
 use Rattle.edits.specs.Find.{_then_}
-use Rattle.edits.specs.Strip.{is-null as null-tree, stripped, stripped-items, stripped-members, strip}
+use Rattle.edits.specs.Strip.{is-null as null-tree, stripped, stripped-items, stripped-members}
 use Rattle.edits.proofs.Deletes.{find-first, find-later, equal-or-not, find-unique, not-in}
-use Rattle.edits.proofs.Strips.{strip-finds, strip-of-sound}
+use Rattle.edits.proofs.Strips.{strip-finds}
 use Rattle.runs.specs.Plain.{is-null, plain-strip, strip-items, strip-members}
 use Rattle.runs.proofs.Named.{by-test}
 use Rattle.builders.proofs.Proper.{Proper, ProperItems, ProperMembers, Fewer, fewer-in, fewer-distinct}
 use Rattle.builders.specs.Canon.{canon, canon-items, canon-members, canon-found}
-use Rattle.builders.proofs.Canons.{canon-find, canon-sound}
+use Rattle.builders.proofs.Canons.{canon-find}
 
 null-canon : (t : Tree) → null-tree (canon t) ≡ is-null t
 null-canon null = refl
@@ -27,7 +26,7 @@ null-canon (extension b) = refl
 null-canon (array ts) = refl
 null-canon (object ms) = refl
 
-strip-fewer : (ms : Members) → Fewer (names (strip-members ms)) (names ms)
+pub strip-fewer : (ms : Members) → Fewer (names (strip-members ms)) (names ms)
 strip-fewer empty = refl
 strip-fewer (member n t ms) =
     by-test (is-null t) (λ (a : Members). Fewer (names a) (names (member n t ms))) _ _
@@ -96,9 +95,6 @@ mutual
       (λ (e : x ≡ n). rw (e, find-first n t ms, null-canon t, this) (last (is-null t) (plain-strip t)))
       (λ h. rw (find-later x n t ms h) others)
       (equal-or-not x n)
-
-pub strip-canon : (t : Tree) → Proper t → strip (canon t) ≡ gives (canon (plain-strip t))
-strip-canon t p = strip-of-sound (canon t) (canon-sound t) ∙ ap gives (stripped-canon t p)
 
 mutual
   pub strip-proper : (t : Tree) → Proper t → Proper (plain-strip t)

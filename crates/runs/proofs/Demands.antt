@@ -1,230 +1,180 @@
--- Demand 3, proved: the statement is specs/Demand.antt.
+-- Demand 3, proved: the statement is specs/Demand.antt. A call on sound records yields the account's value, by demand 2, and its result
+-- is sound again; so the shelf goes on holding sound records of the account's values.
 use Prim.Native.Nat.{ℕ, zero, suc, _<_}
 use native.Mathlib.Omega.{arith}
 use mathlib.Core.Path.{_≡_, refl, ap, ap₂, sym, _∙_}
 use mathlib.Core.Logic.{_↔_}
 use mathlib.Core.List.{List, [], _∷_, _++_}
+use lib.Dec.{T}
 use lib.ListN.{length, drop, getD}
 use lib.Seq.{take-append-seam}
-use Rattle.layout.specs.Bytes.{Bytes, Octets}
+use Rattle.layout.specs.Bytes.{Bytes}
+use Rattle.layout.specs.Answer.{gives}
 use Rattle.layout.specs.Tree.{Tree, null}
-use Rattle.layout.specs.Encode.{encode}
 use Rattle.layout.specs.Read.{read}
-use Rattle.layout.specs.Limits.{depth, record-length}
+use Rattle.layout.specs.Sound.{Sound}
 use Rattle.layout.specs.Value.{Same}
-use Rattle.layout.specs.Ended.{Outcome, ending, filled}
-use Rattle.layout.specs.declared.ending.Ending.the-variants.{Done}
+use Rattle.layout.specs.Ended.{Outcome, result, ending, filled}
 use Rattle.layout.proofs.Answers.{gives-inj}
-use Rattle.layout.proofs.Decoding.{read-sound}
-use Rattle.layout.proofs.Readables.{length-encode}
+use Rattle.layout.proofs.Values.{sound-bytes}
+use Rattle.layout.proofs.Sames.{same-sym, same-trans}
+use Rattle.builders.specs.Build.{append, build}
+use Rattle.builders.proofs.Results.{result-made, append-keeps, append-sound, build-keeps, build-sound}
+use Rattle.edits.proofs.PathResults.{get-made, delete-made}
+use Rattle.edits.proofs.OperatorResults.{SoundRecord, concat-made-sound, strip-made-sound}
 use Rattle.runs.specs.declared.call.Edit.{Edit}
 use Rattle.runs.specs.declared.call.Edit.the-variants.{Get, Delete, Concat, Strip, Append, Build}
-use Rattle.runs.specs.Call.{Call, There}
-use Rattle.runs.specs.Run.{outcome-on, shelved, after, run, endings, Takes}
-use Rattle.runs.specs.Account.{request, requests, Entry, value, absence, refusal, entry-on, entry-ending, added, account, account-endings}
-use Rattle.runs.specs.Demand.{SoundWith, AllSoundWith, Start, records-after, values-after, EndedAlike, HasItsValue, EqualAlike, Demand-3}
-use Rattle.builders.proofs.Proper.{Proper, sound-proper, encoded-octets, proper-octets, same-proper}
-use Rattle.builders.specs.Canon.{canon}
-use Rattle.builders.proofs.Canons.{canon-sound, same-canon, canon-proper, canon-unique, same-canons, canon-depth, canon-length}
-use Rattle.runs.proofs.Agrees.{Good, record-read, in-bytes, GoodEntry, OfRight, agree, agree-good}
-
--- ---- shelves
-
--- The sound records of values.
-abbrev records : List Tree → List Bytes
-records [] = []
-records (t ∷ values) = encode (canon t) ∷ records values
-
-abbrev AllGood : List Tree → Type 0
-AllGood [] = Unit {0}
-AllGood (t ∷ values) = Good t × AllGood values
-
-records-append : (values others : List Tree) → records (values ++ others) ≡ records values ++ records others
-records-append [] others = refl
-records-append (t ∷ values) others = ap (λ (s : List Bytes). encode (canon t) ∷ s) (records-append values others)
-
-good-append : (values others : List Tree) → AllGood values → AllGood others → AllGood (values ++ others)
-good-append [] others g h = h
-good-append (t ∷ values) others g h = (g .0, good-append values others (g .1) h)
-
-record-at : (values : List Tree) (i : ℕ) → i < length (records values) → getD (records values) i [] ≡ encode (canon (getD values i null))
-record-at [] i h = let w : ⊥ = omega arith in absurd w
-record-at (t ∷ values) zero h = refl
-record-at (t ∷ values) (suc i) h = record-at values i (omega arith)
-
-good-at : (values : List Tree) (i : ℕ) → AllGood values → i < length (records values) → Good (getD values i null)
-good-at [] i g h = let w : ⊥ = omega arith in absurd w
-good-at (t ∷ values) zero g h = g .0
-good-at (t ∷ values) (suc i) g h = good-at values i (g .1) (omega arith)
-
--- ---- a call
-
-module _ (values : List Tree) (g : AllGood values) where
-  left-there : (e : Edit) (i j : ℕ) → There e i j (length (records values)) → i < length (records values)
-  left-there Get i j h = h
-  left-there Delete i j h = h
-  left-there Concat i j h = h .0
-  left-there Strip i j h = h
-  left-there Append i j h = h .0
-  left-there Build i j h = h .0
-
-  right-there : (e : Edit) (i j : ℕ) → There e i j (length (records values))
-      → OfRight e (Good (getD values j null) × (getD (records values) j [] ≡ encode (canon (getD values j null))))
-  right-there Get i j h = tt
-  right-there Delete i j h = tt
-  right-there Concat i j h = (good-at values j g (h .1), record-at values j (h .1))
-  right-there Strip i j h = tt
-  right-there Append i j h = (good-at values j g (h .1), record-at values j (h .1))
-  right-there Build i j h = (good-at values j g (h .1), record-at values j (h .1))
-
-  module _ (c : Call) (h : There (c .edit) (c .left) (c .right) (length (records values))) where
-    outcome-is : outcome-on c (records values) ≡ in-bytes (entry-on (request c) values)
-    outcome-is =
-        let l = left-there (c .edit) (c .left) (c .right) h in
-        rw (record-at values (c .left) l)
-        (agree (getD values (c .left) null) (getD values (c .right) null) (getD (records values) (c .right) []) (c .path) (length (c .buffer))
-        (good-at values (c .left) g l) (c .edit) (right-there (c .edit) (c .left) (c .right) h))
-
-    entry-good : GoodEntry (entry-on (request c) values)
-    entry-good =
-        agree-good (getD values (c .left) null) (getD values (c .right) null) (getD (records values) (c .right) []) (c .path) (length (c .buffer))
-        (good-at values (c .left) g (left-there (c .edit) (c .left) (c .right) h)) (c .edit) (right-there (c .edit) (c .left) (c .right) h)
-
-ending-is : (e : Entry) → GoodEntry e → ending (in-bytes e) ≡ entry-ending e
-ending-is (value t) g = ap Done (length-encode (canon t) ∙ canon-length t (g .proper))
-ending-is absence g = refl
-ending-is (refusal r) g = refl
-
--- A result joins the shelf as the account's value joins the values.
-shelf-is : (e : Entry) (buffer : Bytes) (values : List Tree)
-    → shelved (ending (in-bytes e)) (filled (in-bytes e) buffer) (records values) ≡ records (added e values)
-shelf-is (value t) buffer values =
-    rw (take-append-seam (encode (canon t)) (drop (length (encode (canon t))) buffer)) (sym (records-append values (t ∷ [])))
-shelf-is absence buffer values = refl
-shelf-is (refusal r) buffer values = refl
-
-added-good : (e : Entry) (values : List Tree) → GoodEntry e → AllGood values → AllGood (added e values)
-added-good (value t) values h g = good-append values (t ∷ []) g (h, tt)
-added-good absence values h g = g
-added-good (refusal r) values h g = g
-
--- ---- a run
-
-record Ran (cs : List Call) (values : List Tree) : Type 0 where
-  shelf : run cs (records values) ≡ records (account (requests cs) values)
-  ended : endings cs (records values) ≡ account-endings (requests cs) values
-  good : AllGood (account (requests cs) values)
-
-ran : (cs : List Call) (values : List Tree) → AllGood values → Takes cs (records values) → Ran cs values
-ran [] values g h = record { shelf = refl; ended = refl; good = g }
-ran (c ∷ cs) values g h =
-    let o = outcome-is values g c (h .0) in
-    let k = entry-good values g c (h .0) in
-    let e = entry-on (request c) values in
-    let next : after c (records values) ≡ records (added e values) =
-    ap (λ (o : Outcome). shelved (ending o) (filled o (c .buffer)) (records values)) o ∙ shelf-is e (c .buffer) values in
-    let r = ran cs (added e values) (added-good e values k g) (rw next at (h .1)) in
-    record {
-      shelf = ap (run cs) next ∙ r .shelf;
-      ended = ap₂ _∷_ (ap ending o ∙ ending-is e k) (ap (endings cs) next ∙ r .ended);
-      good = r .good;
-    }
+use Rattle.runs.specs.Call.{Call, outcome, takes-two, There}
+use Rattle.runs.specs.Account.{request, requests, Entry, value, absence, refusal, entry-on, added, account, account-endings}
+use Rattle.runs.specs.Demand2.{ReadsAs, OnceWith, Yields}
+use Rattle.runs.specs.Run.{Shelf, outcome-on, shelved, after, run, endings, Takes}
+use Rattle.runs.specs.Demand.{SoundWith, AllSoundWith, Start, after-run, EndedAlike, HasItsValue, EqualAlike, Demand-3}
+use Rattle.runs.proofs.Onces.{sound-once}
+use Rattle.runs.proofs.Yields.{demand-2, ends-alike}
 
 -- ---- sound records
 
--- A sound record with a value is the one of the value.
-record-of : (b : Bytes) (v : Tree) → SoundWith b v → (b ≡ encode (canon v)) × Good v
-record-of b v s =
-    let r = read-sound b (s .tree) (s .octets) (s .reads) in
-    let o : Octets (encode (s .tree)) = rw (r .0 .bytes) (s .octets) in
-    let p : Proper v = same-proper v (s .tree) (s .same) (sound-proper (s .tree) (r .0 .valid) (s .sound) (encoded-octets (s .tree) o)) in
-    let c : canon v ≡ s .tree = canon-unique v (s .tree) p (s .sound) (s .same) in (
-      sym (r .0 .bytes) ∙ ap encode (sym c),
-      record {
-        proper = p;
-        deep = omega (arith, canon-depth v p, ap depth c, r .0 .deep);
-        long = omega (arith, canon-length v p, ap record-length c, length-encode (s .tree), ap length (r .0 .bytes), r .1);
-      },
+sound-once-with : (b : Bytes) (v : Tree) → SoundWith b v → OnceWith b v
+sound-once-with b v s = record { reads-as = s .reads-as; once = sound-once (s .reads-as .tree) (s .sound) }
+
+sound-record : (b : Bytes) (v : Tree) → SoundWith b v → SoundRecord b
+sound-record b v s = (s .reads-as .tree, s .reads-as .reads, s .sound)
+
+-- A record is sound by any tree that it reads as.
+sound-as : (b : Bytes) (t : Tree) → SoundRecord b → read b ≡ gives t → Sound t
+sound-as b t s e = rw (gives-inj (sym (s .1) ∙ e)) at (s .2)
+
+-- What an edit makes of sound records is sound.
+module _ (left right path b : Bytes) (room : ℕ) (t u : Tree) (h : SoundWith left t) where
+  sound-result : (e : Edit) → (T (takes-two e) → SoundWith right u) → outcome e left right path room ≡ result b → SoundRecord b
+  unfolding outcome
+  sound-result Get k e =
+      let m = get-made left path b room (h .reads-as .octets) e in
+      (m .made, m .reads, m .stays-sound (sound-as left (m .tree) (sound-record left t h) (m .target-reads)))
+  sound-result Delete k e =
+      let m = delete-made left path b room (h .reads-as .octets) e in
+      (m .made, m .reads, m .stays-sound (sound-as left (m .tree) (sound-record left t h) (m .target-reads)))
+  sound-result Concat k e =
+      concat-made-sound left right b room (h .reads-as .octets) (k tt .reads-as .octets) e
+      (sound-record left t h) (sound-record right u (k tt))
+  sound-result Strip k e = strip-made-sound left b room (h .reads-as .octets) e
+  sound-result Append k e =
+      let m = result-made append append-keeps left right b room (h .reads-as .octets) (k tt .reads-as .octets) e in
+      let l = sound-as left (m .left) (sound-record left t h) (m .left-reads) in
+      let r = sound-as right (m .right) (sound-record right u (k tt)) (m .right-reads) in
+      (m .tree, m .reads, append-sound (m .left) (m .right) (m .tree) l r (m .edited))
+  sound-result Build k e =
+      let m = result-made build build-keeps left right b room (h .reads-as .octets) (k tt .reads-as .octets) e in
+      let r = sound-as right (m .right) (sound-record right u (k tt)) (m .right-reads) in
+      (m .tree, m .reads, build-sound (m .left) (m .right) (m .tree) r (m .edited))
+
+-- Equal bytes exactly where the values are equal.
+equal-bytes : (a b : Bytes) (v w : Tree) → SoundWith a v → SoundWith b w → (a ≡ b) ↔ Same v w
+equal-bytes a b v w s r =
+    let t = s .reads-as .tree in
+    let u = r .reads-as .tree in
+    let k = sound-bytes a b t u (s .reads-as .octets) (r .reads-as .octets) (s .reads-as .reads) (r .reads-as .reads) (s .sound) (r .sound) in (
+      λ e. same-trans v t w (s .reads-as .same) (same-trans t u w (k .1 e) (same-sym w u (r .reads-as .same))),
+      λ e. k .0 (same-trans t v u (same-sym v t (s .reads-as .same)) (same-trans v w u e (r .reads-as .same))),
     )
 
-shelf-of : (shelf : List Bytes) (values : List Tree) → AllSoundWith shelf values → (shelf ≡ records values) × AllGood values
-shelf-of [] [] h = (refl, tt)
-shelf-of [] (v ∷ values) h = absurd h
-shelf-of (b ∷ shelf) [] h = absurd h
-shelf-of (b ∷ shelf) (v ∷ values) h =
-    let s = record-of b v (h .0) in
-    let r = shelf-of shelf values (h .1) in
-    (ap₂ _∷_ (s .0) (r .0), (s .1, r .1))
+-- ---- shelves
 
-all-sound : (values : List Tree) → AllGood values → AllSoundWith (records values) values
-all-sound [] g = tt
-all-sound (v ∷ values) g = (
-  record {
-    octets = proper-octets (canon v) (canon-proper v (g .0 .proper));
-    tree = canon v;
-    reads = record-read v (g .0);
-    sound = canon-sound v;
-    same = same-canon v (g .0 .proper);
-  },
-  all-sound values (g .1),
-)
+at-place : (shelf : Shelf) (values : List Tree) (i : ℕ) → AllSoundWith shelf values → i < length shelf
+    → SoundWith (getD shelf i []) (getD values i null)
+at-place [] values i s h = let w : ⊥ = omega arith in absurd w
+at-place (b ∷ shelf) [] i s h = absurd s
+at-place (b ∷ shelf) (v ∷ values) zero s h = s .0
+at-place (b ∷ shelf) (v ∷ values) (suc i) s h = at-place shelf values i (s .1) (omega arith)
 
--- Of good values: equal bytes exactly where the values are equal.
-good-bytes : (t u : Tree) → Good t → Good u → (encode (canon t) ≡ encode (canon u)) ↔ Same t u
-good-bytes t u g h =
-    let s = same-canons t u (g .proper) (h .proper) in (
-      λ e. s .1 (gives-inj (sym (record-read t g) ∙ ap read e ∙ record-read u h)),
-      λ k. ap encode (s .0 k),
-    )
+all-append : (shelf others : Shelf) (values more : List Tree) → AllSoundWith shelf values → AllSoundWith others more
+    → AllSoundWith (shelf ++ others) (values ++ more)
+all-append [] others [] more s r = r
+all-append [] others (v ∷ values) more s r = absurd s
+all-append (b ∷ shelf) others [] more s r = absurd s
+all-append (b ∷ shelf) others (v ∷ values) more s r = (s .0, all-append shelf others values more (s .1) r)
 
--- ---- the two lists
+-- ---- a call
 
-record After (s : Start) : Type 0 where
-  shelf : records-after s ≡ records (values-after s)
-  ended : EndedAlike s
-  good : AllGood (values-after s)
+-- A result joins the shelf as the account's value joins the values.
+joins : (o : Outcome) (e : Entry) (buffer : Bytes) (shelf : Shelf) (values : List Tree) → Yields o e
+    → ((b : Bytes) → o ≡ result b → SoundRecord b) → AllSoundWith shelf values
+    → AllSoundWith (shelved (ending o) (filled o buffer) shelf) (added e values)
+joins o (value v) buffer shelf values y h s =
+    let b = y .0 in
+    let r = y .2 .reads-as in
+    let one : SoundWith b v = record { reads-as = r; sound = sound-as b (r .tree) (h b (y .1)) (r .reads) } in
+    rw (y .1, take-append-seam b (drop (length b) buffer)) (all-append shelf (b ∷ []) values (v ∷ []) s (one, tt))
+joins o absence buffer shelf values y h s = rw y s
+joins o (refusal r) buffer shelf values y h s = rw y s
 
-after-of : (s : Start) → After s
-after-of s =
-    let k = shelf-of (s .shelf) (s .values) (s .all-sound) in
-    let r = ran (s .calls) (s .values) (k .1) (rw (k .0) at (s .takes)) in
+module _ (shelf : Shelf) (values : List Tree) (s : AllSoundWith shelf values) (c : Call)
+    (h : There (c .edit) (c .left) (c .right) (length shelf)) where
+  left-there : SoundWith (getD shelf (c .left) []) (getD values (c .left) null)
+  left-there = at-place shelf values (c .left) s (h .0)
+
+  right-there : T (takes-two (c .edit)) → SoundWith (getD shelf (c .right) []) (getD values (c .right) null)
+  right-there k = at-place shelf values (c .right) s (h .1 k)
+
+  call-yields : Yields (outcome-on c shelf) (entry-on (request c) values)
+  call-yields =
+      demand-2 .each-yields (c .edit) (getD shelf (c .left) []) (getD shelf (c .right) []) (c .path) (length (c .buffer))
+      (getD values (c .left) null) (getD values (c .right) null) (sound-once-with _ _ left-there) (λ k. sound-once-with _ _ (right-there k))
+
+  after-sound : AllSoundWith (after c shelf) (added (entry-on (request c) values) values)
+  after-sound =
+      joins (outcome-on c shelf) (entry-on (request c) values) (c .buffer) shelf values call-yields
+      (λ b e.
+      sound-result (getD shelf (c .left) []) (getD shelf (c .right) []) (c .path) b (length (c .buffer))
+      (getD values (c .left) null) (getD values (c .right) null) left-there (c .edit) right-there e)
+      s
+
+-- ---- a list of calls
+
+record Ran (cs : List Call) (shelf : Shelf) (values : List Tree) : Type 0 where
+  ended : endings cs shelf ≡ account-endings (requests cs) values
+  sound : AllSoundWith (run cs shelf) (account (requests cs) values)
+
+ran : (cs : List Call) (shelf : Shelf) (values : List Tree) → AllSoundWith shelf values → Takes cs shelf → Ran cs shelf values
+ran [] shelf values s h = record { ended = refl; sound = s }
+ran (c ∷ cs) shelf values s h =
+    let e = entry-on (request c) values in
+    let r = ran cs (after c shelf) (added e values) (after-sound shelf values s c (h .0)) (h .1) in
     record {
-      shelf = ap (run (s .calls)) (k .0) ∙ r .shelf;
-      ended = ap (endings (s .calls)) (k .0) ∙ r .ended;
-      good = r .good;
+      ended = ap₂ _∷_ (ends-alike (outcome-on c shelf) e (call-yields shelf values s c (h .0))) (r .ended);
+      sound = r .sound;
     }
 
-has-value : (s : Start) → After s → HasItsValue s
-has-value s a = rw (a .shelf) (all-sound (values-after s) (a .good))
+after-of : (s : Start) → Ran (s .calls) (s .shelf) (s .values)
+after-of s = ran (s .calls) (s .shelf) (s .values) (s .all-sound) (s .takes)
 
-equal-alike : (values : List Tree) → AllGood values → EqualAlike (records values) values
-equal-alike values g i j hi hj =
-    rw (record-at values i hi, record-at values j hj)
-    (good-bytes (getD values i null) (getD values j null) (good-at values i g hi) (good-at values j g hj))
+-- ---- two lists
+
+equal-alike : (shelf : Shelf) (values : List Tree) → AllSoundWith shelf values → EqualAlike shelf values
+equal-alike shelf values s i j hi hj = equal-bytes _ _ _ _ (at-place shelf values i s hi) (at-place shelf values j s hj)
 
 pub demand-3 : Demand-3
 demand-3 p q =
-    let a = after-of p in
-    let b = after-of q in
+    let a = after-run p in
+    let b = after-run q in
+    let s = after-of p .sound in
+    let r = after-of q .sound in
     record {
-      ends-first = a .ended;
-      ends-second = b .ended;
-      values-first = has-value p a;
-      values-second = has-value q b;
-      equal =
-          rw (a .shelf, b .shelf, ← records-append (values-after p) (values-after q))
-          (equal-alike (values-after p ++ values-after q) (good-append (values-after p) (values-after q) (a .good) (b .good)));
+      ends-first = after-of p .ended;
+      ends-second = after-of q .ended;
+      values-first = s;
+      values-second = r;
+      equal = equal-alike (a .records ++ b .records) (a .values ++ b .values) (all-append (a .records) (b .records) (a .values) (b .values) s r);
     }
 
 -- The order in which the account has the members of a value means nothing: however the values of a starting shelf are written, the
 -- same calls lead to equal values at each place.
-pub any-order : (p q : Start) → p .calls ≡ q .calls → p .shelf ≡ q .shelf → (i : ℕ) → i < length (records-after p)
-    → Same (getD (values-after p) i null) (getD (values-after q) i null)
+pub any-order : (p q : Start) → p .calls ≡ q .calls → p .shelf ≡ q .shelf → (i : ℕ) → i < length (after-run p .records)
+    → Same (getD (after-run p .values) i null) (getD (after-run q .values) i null)
 any-order p q c s i h =
-    let a = after-of p in
-    let b = after-of q in
-    let e : records (values-after p) ≡ records (values-after q) = sym (a .shelf) ∙ ap₂ run c s ∙ b .shelf in
-    let hp : i < length (records (values-after p)) = rw (a .shelf) at h in
-    let hq : i < length (records (values-after q)) = rw e at hp in
-    good-bytes (getD (values-after p) i null) (getD (values-after q) i null) (good-at (values-after p) i (a .good) hp) (good-at (values-after q) i (b .good) hq) .0
-    (sym (record-at (values-after p) i hp) ∙ ap (λ (x : List Bytes). getD x i []) e ∙ record-at (values-after q) i hq)
+    let a = after-run p in
+    let b = after-run q in
+    let e : a .records ≡ b .records = ap₂ run c s in
+    let hq : i < length (b .records) = rw e at h in
+    equal-bytes _ _ _ _ (at-place (a .records) (a .values) i (after-of p .sound) h) (at-place (b .records) (b .values) i (after-of q .sound) hq) .0
+    (ap (λ (x : Shelf). getD x i []) e)

@@ -31,7 +31,7 @@ canon-item (item t ts) zero = refl
 canon-item (item t ts) (suc i) = canon-item ts i
 
 -- An index counted back from the end.
-back-number : (k n : ℕ) → item-number (index (negsuc k)) n ≡ place (negsuc k) n
+pub back-number : (k n : ℕ) → item-number (index (negsuc k)) n ≡ place (negsuc k) n
 unfolding place
 back-number k n = go (ltb n (suc k)) (ltb k n) (ltb→lt n (suc k)) (nltb→le n (suc k)) (ltb→lt k n) (nltb→le k n)
   where

@@ -42,7 +42,7 @@ find-lacked x rs (member n t ls) h =
     (λ k. rw (find-later x n t (lacked rs ls) k, find-later x n t ls k) (find-lacked x rs ls h))
     (equal-or-not x n))
 
-overlay-finds : (x : Bytes) (ls rs : Members) → find x (together rs (lacked rs ls)) ≡ or-else (find x rs) (find x ls)
+pub overlay-finds : (x : Bytes) (ls rs : Members) → find x (together rs (lacked rs ls)) ≡ or-else (find x rs) (find x ls)
 overlay-finds x ls rs = find-together x rs (lacked rs ls) ∙ go (find x rs) (find-lacked x rs ls)
   where
     go : (o : Option Tree) → (o ≡ nothing → find x (lacked rs ls) ≡ find x ls) → or-else o (find x (lacked rs ls)) ≡ or-else o (find x ls)

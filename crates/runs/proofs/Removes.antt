@@ -46,7 +46,7 @@ leave-other f n x (member m t ms) h =
         (equal-or-not x m)
 
 -- A name that finds nothing leaves all.
-leave-missing : (f : Tree → Option Tree) (n : Bytes) (ms : Members) → find n ms ≡ nothing → leave-named f n ms ≡ ms
+pub leave-missing : (f : Tree → Option Tree) (n : Bytes) (ms : Members) → find n ms ≡ nothing → leave-named f n ms ≡ ms
 leave-missing f n empty e = refl
 leave-missing f n (member m t ms) e =
     by-name n m (λ (a : Members). a ≡ member m t ms) _ _
@@ -175,7 +175,7 @@ leave-same f s (object ms) c p e g = ap object (leave-kept f (member-name s) ms 
 -- ---- paths
 
 -- A path that finds nothing leaves the value.
-plain-missing : (p : List Step) (t : Tree) → Proper t → plain-look-up p t ≡ nothing → plain-delete p t ≡ t
+pub plain-missing : (p : List Step) (t : Tree) → Proper t → plain-look-up p t ≡ nothing → plain-delete p t ≡ t
 plain-missing [] t h e = nothing-some (sym e)
 plain-missing (s ∷ p) t h e = go (taken s t) refl (taken-proper s t h) e (λ c k m. rest-same p c m (plain-missing p c k m))
   where
@@ -215,7 +215,7 @@ delete-canon (s ∷ p) t h = whether (plain-look-up (s ∷ p) t) refl (delete-ca
 
 -- ---- what is left is proper
 
-leave-fewer : (f : Tree → Option Tree) (n : Bytes) (ms : Members) → Fewer (names (leave-named f n ms)) (names ms)
+pub leave-fewer : (f : Tree → Option Tree) (n : Bytes) (ms : Members) → Fewer (names (leave-named f n ms)) (names ms)
 leave-fewer f n empty = refl
 leave-fewer f n (member m t ms) =
     by-name n m (λ (a : Members). Fewer (names a) (names (member m t ms))) _ _

@@ -1,110 +1,31 @@
 -- Worked runs: what the statement of demand 3 says of them. Two lists reach the same bytes by different edits, with absent and
 -- refused calls on the way, though the account writes the members of the one and the other value in another order; two others
--- differ in the side that comes last.
-use Prim.Native.Nat.{ℕ, _<_}
+-- differ in the side that comes last; and at the edges 6, 8, 9, one place named twice, and no call at all.
+use Prim.Native.Nat.{ℕ, zero, suc, _+_}
 use native.Mathlib.Omega.{arith}
 use mathlib.Core.Path.{_≡_, refl, ap}
-use mathlib.Core.Bool.{Bool, true, false, _&&_}
-use mathlib.Core.List.{[], _∷_}
-use lib.Dec.{T, ltb, ltb→lt}
-use lib.ListN.{getD, replicate}
-use Rattle.layout.specs.Bytes.{Bytes, Octets, be32}
-use Rattle.layout.specs.Answer.{gives}
+use mathlib.Core.List.{[], _∷_, _++_}
+use lib.ListN.{length, getD, replicate}
+use Rattle.layout.specs.Bytes.{Bytes, be32}
 use Rattle.layout.specs.Order.{order, same-bytes}
-use Rattle.layout.specs.Tree.{Tree, boolean, number, string, array, object, none, item, empty, member}
+use Rattle.layout.specs.Tree.{Tree, array, none, item}
 use Rattle.layout.specs.Read.{read}
 use Rattle.layout.specs.Sound.{Sound}
 use Rattle.layout.specs.Value.{Same}
-use Rattle.layout.specs.declared.refusal.Refusal.the-variants.{Kind, Buffer}
+use Rattle.layout.specs.declared.refusal.Refusal.the-variants.{Path, Kind, Repeated, Result, Buffer}
 use Rattle.layout.specs.declared.ending.Ending.the-variants.{Done, Absent, Refused}
-use Rattle.layout.proofs.Values.{same-refl}
 use Rattle.builders.specs.Order.{has}
 use Rattle.runs.specs.declared.call.Edit.{Edit}
-use Rattle.runs.specs.declared.call.Edit.the-variants.{Get, Concat, Strip, Append, Build}
+use Rattle.runs.specs.declared.call.Edit.the-variants.{Get, Delete, Concat, Strip, Append, Build}
 use Rattle.runs.specs.Call.{Call, outcome}
-use Rattle.runs.specs.Run.{endings}
 use Rattle.runs.specs.Account.{edited}
-use Rattle.runs.specs.Demand.{SoundWith, Start, records-after, values-after}
+use Rattle.runs.specs.Demand.{SoundWith, Start, after-run}
+use Rattle.runs.specs.Seen.{Seen, History, after-seen}
 use Rattle.runs.proofs.Demands.{demand-3}
-
--- ---- records and their values
-
-abbrev below-256 : Bytes → Bool
-below-256 [] = true
-below-256 (x ∷ b) = ltb x 256 && below-256 b
-
-octets : (b : Bytes) → T (below-256 b) → Octets b
-octets [] h = tt
-octets (x ∷ b) h = go (ltb x 256) (ltb→lt x 256) (octets b) h
-  where
-    go : (t : Bool) → (T t → x < 256) → (T (below-256 b) → Octets b) → T (t && below-256 b) → Octets (x ∷ b)
-    go true f g h = (f tt, g h)
-    go false f g h = absurd h
-
--- A record with the value that it reads as.
-sound-with : (b : Bytes) (t : Tree) → T (below-256 b) → read b ≡ gives t → Sound t → SoundWith b t
-sound-with b t o e s = record { octets = octets b o; tree = t; reads = e; sound = s; same = same-refl t }
-
--- {"a":1}, {"a":true} and {"b":true}.
-abbrev one : Bytes
-one = 0x40 ∷ 0 ∷ 0 ∷ 1 ∷ 0x10 ∷ 0 ∷ 0 ∷ 1 ∷ 0x20 ∷ 0 ∷ 0 ∷ 2 ∷ 0x61 ∷ 0x50 ∷ 1 ∷ []
-
-abbrev one-value : Tree
-one-value = object (member (0x61 ∷ []) (number (0x50 ∷ 1 ∷ [])) empty)
-
-one-sound : SoundWith one one-value
-unfolding read
-one-sound = sound-with one one-value tt refl (tt, (tt, tt))
-
-abbrev true-a : Bytes
-true-a = 0x40 ∷ 0 ∷ 0 ∷ 1 ∷ 0x10 ∷ 0 ∷ 0 ∷ 1 ∷ 0x40 ∷ 0 ∷ 0 ∷ 0 ∷ 0x61 ∷ []
-
-abbrev true-a-value : Tree
-true-a-value = object (member (0x61 ∷ []) (boolean true) empty)
-
-true-a-sound : SoundWith true-a true-a-value
-unfolding read
-true-a-sound = sound-with true-a true-a-value tt refl (tt, (tt, tt))
-
-abbrev true-b : Bytes
-true-b = 0x40 ∷ 0 ∷ 0 ∷ 1 ∷ 0x10 ∷ 0 ∷ 0 ∷ 1 ∷ 0x40 ∷ 0 ∷ 0 ∷ 0 ∷ 0x62 ∷ []
-
-abbrev true-b-value : Tree
-true-b-value = object (member (0x62 ∷ []) (boolean true) empty)
-
-true-b-sound : SoundWith true-b true-b-value
-unfolding read
-true-b-sound = sound-with true-b true-b-value tt refl (tt, (tt, tt))
-
--- ["a","b"] and [1,true].
-abbrev name-list : Bytes
-name-list = 0x80 ∷ 0 ∷ 0 ∷ 2 ∷ 0x10 ∷ 0 ∷ 0 ∷ 1 ∷ 0x10 ∷ 0 ∷ 0 ∷ 1 ∷ 0x61 ∷ 0x62 ∷ []
-
-abbrev name-list-value : Tree
-name-list-value = array (item (string (0x61 ∷ [])) (item (string (0x62 ∷ [])) none))
-
-name-list-sound : SoundWith name-list name-list-value
-unfolding read
-name-list-sound = sound-with name-list name-list-value tt refl (tt, (tt, tt))
-
-abbrev value-list : Bytes
-value-list = 0x80 ∷ 0 ∷ 0 ∷ 2 ∷ 0x20 ∷ 0 ∷ 0 ∷ 2 ∷ 0x40 ∷ 0 ∷ 0 ∷ 0 ∷ 0x50 ∷ 1 ∷ []
-
-abbrev value-list-value : Tree
-value-list-value = array (item (number (0x50 ∷ 1 ∷ [])) (item (boolean true) none))
-
-value-list-sound : SoundWith value-list value-list-value
-unfolding read
-value-list-sound = sound-with value-list value-list-value tt refl (tt, (tt, tt))
-
--- {"a":1,"b":true}.
-abbrev both : Bytes
-both =
-    0x40 ∷ 0 ∷ 0 ∷ 2 ∷ 0x10 ∷ 0 ∷ 0 ∷ 1 ∷ 0x10 ∷ 0 ∷ 0 ∷ 1 ∷ 0x20 ∷ 0 ∷ 0 ∷ 2 ∷ 0x40 ∷ 0 ∷ 0 ∷ 0 ∷ 0x61 ∷ 0x62 ∷ 0x50 ∷ 1 ∷ []
-
--- The path of the name "c".
-abbrev name-c : Bytes
-name-c = 0x80 ∷ 0 ∷ 0 ∷ 1 ∷ 0x10 ∷ 0 ∷ 0 ∷ 1 ∷ 0x63 ∷ []
+use Rattle.runs.proofs.Histories.{demand-3-seen}
+use Rattle.runs.proofs.Samples.{one, one-value, one-sound, true-a, true-a-value, true-a-sound, true-b, true-b-value, true-b-sound}
+use Rattle.runs.proofs.Samples.{both, a-and-b, b-and-a, both-sound, name-list, name-list-value, name-list-sound, name-a, name-c}
+use Rattle.runs.proofs.Samples.{twice-a, twice-a-value, twice-a-sound, value-list, value-list-value, value-list-sound, sound-with}
 
 -- A call with a buffer of 24 bytes of 255, which is what {"a":1,"b":true} takes, and one with a byte less.
 abbrev call : Edit → ℕ → ℕ → Bytes → Call
@@ -125,22 +46,19 @@ overlaid =
       values = one-value ∷ true-b-value ∷ [];
       some-record = omega arith;
       all-sound = (one-sound, (true-b-sound, tt));
-      takes = ((omega arith, omega arith), (omega arith, (omega arith, tt)));
+      takes = ((omega arith, λ _. omega arith), ((omega arith, λ k. absurd k), ((omega arith, λ k. absurd k), tt)));
     }
 
-overlaid-endings : endings (overlaid .calls) (overlaid .shelf) ≡ Done 24 ∷ Absent ∷ Done 24 ∷ []
+overlaid-endings : after-run overlaid .ended ≡ Done 24 ∷ Absent ∷ Done 24 ∷ []
 unfolding overlaid
 overlaid-endings = refl
 
-overlaid-records : records-after overlaid ≡ one ∷ true-b ∷ both ∷ both ∷ []
+overlaid-records : after-run overlaid .records ≡ one ∷ true-b ∷ both ∷ both ∷ []
 unfolding overlaid
 overlaid-records = refl
 
 -- The account has the right's member first.
-abbrev b-and-a : Tree
-b-and-a = object (member (0x62 ∷ []) (boolean true) (member (0x61 ∷ []) (number (0x50 ∷ 1 ∷ [])) empty))
-
-overlaid-values : values-after overlaid ≡ one-value ∷ true-b-value ∷ b-and-a ∷ b-and-a ∷ []
+overlaid-values : after-run overlaid .values ≡ one-value ∷ true-b-value ∷ b-and-a ∷ b-and-a ∷ []
 unfolding overlaid edited
 overlaid-values = refl
 
@@ -154,22 +72,19 @@ built =
       values = name-list-value ∷ value-list-value ∷ [];
       some-record = omega arith;
       all-sound = (name-list-sound, (value-list-sound, tt));
-      takes = ((omega arith, omega arith), ((omega arith, omega arith), ((omega arith, omega arith), tt)));
+      takes = ((omega arith, λ _. omega arith), ((omega arith, λ _. omega arith), ((omega arith, λ _. omega arith), tt)));
     }
 
-built-endings : endings (built .calls) (built .shelf) ≡ Refused Buffer ∷ Done 24 ∷ Refused Kind ∷ []
+built-endings : after-run built .ended ≡ Refused Buffer ∷ Done 24 ∷ Refused Kind ∷ []
 unfolding built
 built-endings = refl
 
-built-records : records-after built ≡ name-list ∷ value-list ∷ both ∷ []
+built-records : after-run built .records ≡ name-list ∷ value-list ∷ both ∷ []
 unfolding built
 built-records = refl
 
 -- The account has the names in turn.
-abbrev a-and-b : Tree
-a-and-b = object (member (0x61 ∷ []) (number (0x50 ∷ 1 ∷ [])) (member (0x62 ∷ []) (boolean true) empty))
-
-built-values : values-after built ≡ name-list-value ∷ value-list-value ∷ a-and-b ∷ []
+built-values : after-run built .values ≡ name-list-value ∷ value-list-value ∷ a-and-b ∷ []
 unfolding built edited
 built-values = refl
 
@@ -190,7 +105,7 @@ one-last =
       values = one-value ∷ true-a-value ∷ [];
       some-record = omega arith;
       all-sound = (one-sound, (true-a-sound, tt));
-      takes = ((omega arith, omega arith), tt);
+      takes = ((omega arith, λ _. omega arith), tt);
     }
 
 true-last : Start
@@ -202,14 +117,14 @@ true-last =
       values = one-value ∷ true-a-value ∷ [];
       some-record = omega arith;
       all-sound = (one-sound, (true-a-sound, tt));
-      takes = ((omega arith, omega arith), tt);
+      takes = ((omega arith, λ _. omega arith), tt);
     }
 
-one-last-records : records-after one-last ≡ one ∷ true-a ∷ one ∷ []
+one-last-records : after-run one-last .records ≡ one ∷ true-a ∷ one ∷ []
 unfolding one-last
 one-last-records = refl
 
-true-last-records : records-after true-last ≡ one ∷ true-a ∷ true-a ∷ []
+true-last-records : after-run true-last .records ≡ one ∷ true-a ∷ true-a ∷ []
 unfolding true-last
 true-last-records = refl
 
@@ -220,3 +135,139 @@ other-bytes e = let z : _≡_ {A = ℕ} 0x20 0x40 = ap (λ (b : Bytes). getD b 8
 other-value : Same one-value true-a-value → ⊥
 unfolding one-last true-last edited
 other-value h = other-bytes (demand-3 one-last true-last .equal 2 5 (omega arith) (omega arith) .1 h)
+
+-- ---- at the edges
+
+-- From {"a":1,"b":true}, whose value is given in the other order, and ["a","a"]: "a" is deleted; a path of no bytes is 6; the object is
+-- overlaid with itself; and ["a","a"] as names, with itself as values, is 8.
+edges : Start
+unfolding outcome be32 order same-bytes has
+edges =
+    record {
+      calls = call Delete 0 0 name-a ∷ call Get 0 0 [] ∷ call Concat 0 0 [] ∷ call Build 1 1 [] ∷ [];
+      shelf = both ∷ twice-a ∷ [];
+      values = b-and-a ∷ twice-a-value ∷ [];
+      some-record = omega arith;
+      all-sound = (both-sound, (twice-a-sound, tt));
+      takes = (
+        (omega arith, λ k. absurd k),
+        ((omega arith, λ k. absurd k), ((omega arith, λ _. omega arith), ((omega arith, λ _. omega arith), tt))),
+      );
+    }
+
+edges-endings : after-run edges .ended ≡ Done 13 ∷ Refused Path ∷ Done 24 ∷ Refused Repeated ∷ []
+unfolding edges
+edges-endings = refl
+
+edges-records : after-run edges .records ≡ both ∷ twice-a ∷ true-b ∷ both ∷ []
+unfolding edges
+edges-records = refl
+
+edges-values : after-run edges .values ≡ b-and-a ∷ twice-a-value ∷ true-b-value ∷ b-and-a ∷ []
+unfolding edges edited
+edges-values = refl
+
+-- An array in an array, and so on: at 64 levels nothing can be put around it. 9 comes before 10, though the buffer is short too.
+abbrev nested : ℕ → Bytes
+nested zero = 0x80 ∷ 0 ∷ 0 ∷ 0 ∷ []
+nested (suc k) = 0x80 ∷ 0 ∷ 0 ∷ 1 ∷ be32 (0x50000000 + length (nested k)) ++ nested k
+
+abbrev nested-value : ℕ → Tree
+nested-value zero = array none
+nested-value (suc k) = array (item (nested-value k) none)
+
+nested-tree-sound : (k : ℕ) → Sound (nested-value k)
+nested-tree-sound zero = tt
+nested-tree-sound (suc k) = (nested-tree-sound k, tt)
+
+nested-sound : SoundWith (nested 63) (nested-value 63)
+unfolding read be32
+nested-sound = sound-with (nested 63) (nested-value 63) tt refl (nested-tree-sound 63)
+
+deepest : Start
+unfolding outcome be32
+deepest =
+    record {
+      calls = call Append 0 0 [] ∷ [];
+      shelf = nested 63 ∷ [];
+      values = nested-value 63 ∷ [];
+      some-record = omega arith;
+      all-sound = (nested-sound, tt);
+      takes = ((omega arith, λ _. omega arith), tt);
+    }
+
+deepest-endings : after-run deepest .ended ≡ Refused Result ∷ []
+unfolding deepest
+deepest-endings = refl
+
+deepest-records : after-run deepest .records ≡ nested 63 ∷ []
+unfolding deepest
+deepest-records = refl
+
+deepest-values : after-run deepest .values ≡ nested-value 63 ∷ []
+unfolding deepest edited
+deepest-values = refl
+
+-- No call: the shelf stays, and so do the values.
+idle : Start
+idle =
+    record {
+      calls = [];
+      shelf = one ∷ [];
+      values = one-value ∷ [];
+      some-record = omega arith;
+      all-sound = (one-sound, tt);
+      takes = tt;
+    }
+
+idle-endings : after-run idle .ended ≡ []
+unfolding idle
+idle-endings = refl
+
+idle-records : after-run idle .records ≡ one ∷ []
+unfolding idle
+idle-records = refl
+
+idle-values : after-run idle .values ≡ one-value ∷ []
+unfolding idle
+idle-values = refl
+
+-- ---- what was seen
+
+-- The first list again, as it was seen, in a buffer of 26 bytes: 24 of them are filled; the absent look-up changed none.
+abbrev lent : Bytes
+lent = replicate 26 255
+
+abbrev seen-call : Edit → ℕ → ℕ → Bytes → Call
+seen-call e left right path = record { edit = e; left = left; right = right; path = path; buffer = lent }
+
+seen-overlaid : History
+unfolding outcome be32 order same-bytes has
+seen-overlaid =
+    record {
+      seen =
+          record { call = seen-call Concat 0 1 []; answer = Done 24; behind = both ++ 255 ∷ 255 ∷ [] }
+          ∷ record { call = seen-call Get 2 0 name-c; answer = Absent; behind = lent }
+          ∷ [];
+      shelf = one ∷ true-b ∷ [];
+      values = one-value ∷ true-b-value ∷ [];
+      some-record = omega arith;
+      all-sound = (one-sound, (true-b-sound, tt));
+      kept = (
+        record { there = (omega arith, λ _. omega arith); promise = record { answer = refl; bytes = refl } },
+        (record { there = (omega arith, λ k. absurd k); promise = record { answer = refl; bytes = refl } }, tt),
+      );
+    }
+
+seen-records : after-seen seen-overlaid .records ≡ one ∷ true-b ∷ both ∷ []
+unfolding seen-overlaid
+seen-records = refl
+
+seen-values : after-seen seen-overlaid .values ≡ one-value ∷ true-b-value ∷ b-and-a ∷ []
+unfolding seen-overlaid edited
+seen-values = refl
+
+-- So the record that was seen has the account's value.
+seen-value : SoundWith both b-and-a
+unfolding seen-overlaid edited
+seen-value = demand-3-seen seen-overlaid seen-overlaid .values-first .1 .1 .0

@@ -1,6 +1,8 @@
 -- A call of a run: document 01, "A call names its records by their places on the shelf, one place twice if it likes, and brings any
 -- bytes as path and a result buffer of its own, of any length."
 use Prim.Native.Nat.{ℕ, _<_}
+use mathlib.Core.Bool.{Bool, true, false}
+use lib.Dec.{T}
 use Rattle.layout.specs.Bytes.{Bytes}
 use Rattle.layout.specs.Ended.{Outcome}
 use Rattle.builders.specs.Build.{append, build, on-two}
@@ -30,11 +32,15 @@ outcome Strip left right path room = on-one strip left room
 outcome Append left right path room = on-two append left right room
 outcome Build left right path room = on-two build left right room
 
+-- Whether an edit takes two records; one that does not takes the left one alone.
+abbrev pub takes-two : Edit → Bool
+takes-two Get = false
+takes-two Delete = false
+takes-two Concat = true
+takes-two Strip = false
+takes-two Append = true
+takes-two Build = true
+
 -- "A call takes any records then on its shelf": the places that it names are there, on a shelf of `n` records.
 abbrev pub There : Edit → ℕ → ℕ → ℕ → Type 0
-There Get left right n = left < n
-There Delete left right n = left < n
-There Concat left right n = (left < n) × (right < n)
-There Strip left right n = left < n
-There Append left right n = (left < n) × (right < n)
-There Build left right n = (left < n) × (right < n)
+There e left right n = (left < n) × (T (takes-two e) → right < n)

@@ -1,6 +1,9 @@
--- The definitions of runs, in reading order: what the calls do, the plain account beside it, and what holds of the two.
+-- The definitions of runs, in reading order: what a call does and the plain edits and account beside it, with demand 2 of one call; then
+-- runs of calls, with demand 3 of two lists of them, and the same of what is observed.
 pub mod Call
-pub mod Run
 pub mod Plain
 pub mod Account
+pub mod Demand2
+pub mod Run
 pub mod Demand
+pub mod Seen
