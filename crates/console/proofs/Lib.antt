@@ -1,2 +1,3 @@
 -- The laws of the console.
+pub mod Numbers
 pub mod Outlines

@@ -1,26 +1,18 @@
--- The laws of an outline: a readable record is short, what a step of a walk has found lies in the slice, and a negative number can
--- be turned around.
-use Prim.Native.Nat.{ℕ, _+_, _≤_, _<_}
+-- The laws of an outline: a readable record is short, and what a step of a walk has found lies in the slice.
+use Prim.Native.Nat.{ℕ, _+_, _≤_}
 use mathlib.Core.Path.{_≡_, refl, sym, _∙_}
 use mathlib.Core.Bool.{Bool, true, false, not, cond}
 use native.Mathlib.Omega.{arith}
-use borrow.Author.Tests.{ltb-true, leb-true, leb-false}
+use borrow.Author.Tests.{leb-true, leb-false}
 use lib.Dec.{eqb, leb}
-use lib.IntN.{ℤ, pos, negsuc, natAbs, _-ℤ_}
 use lib.ListN.{length}
-use lib.Signed.{ltZ}
-use mir.Syntax.{w64}
-use mir.Val.{Fits, SFits, toZ, ofZ}
-use mir.ValLaws.{toZ-ofZ}
 use Rattle.layout.specs.Bytes.{Bytes, inside, word-at}
 use Rattle.layout.specs.Entry.{length-of, entry-good}
-use Rattle.layout.specs.Number.{pattern}
 use Rattle.layout.specs.Read.{read}
 use Rattle.layout.specs.Check.{checked}
 use Rattle.layout.specs.Walk.{item-of, array-step, member-step, object-step}
 use Rattle.layout.proofs.Fields.{inside-le}
 use Rattle.layout.proofs.Checks.{read-long}
-use Rattle.layout.proofs.Patterns.{pattern-high}
 use Rattle.layout.specs.declared.refusal.Refusal.the-variants.{Short, Layout}
 use Rattle.layout.specs.declared.check.Check.{Check}
 use Rattle.layout.specs.declared.check.Check.the-variants.{Readable}
@@ -104,18 +96,3 @@ value-inside s w r m n hr q =
     (record { key = item-of k (w .«key_offset»); val = item-of v (w .«val_offset») }) m _ n e
     in
     rw (← t .1) (inside-le s (w .«val_offset») (length-of v) true (sym (t .0)) refl)
-
--- ---- signed numbers
-
-below-pattern : (z : ℤ) → SFits w64 z → ltZ z (pos 0) ≡ true → 0 < pattern z
-unfolding pattern
-below-pattern (pos k) f q = absurd (let h : k < 0 = ltb-true k 0 q in omega arith)
-below-pattern (negsuc k) f q = omega (arith, f .sfits)
-
--- A negative number turned around at −1 leaves room for one more.
-pub turned-more : (v : ℤ) (fits : SFits w64 v) → ltZ (toZ w64 (ofZ w64 v)) (pos 0) ≡ true
-    → Fits w64 (natAbs (toZ w64 (ofZ w64 (negsuc 0 -ℤ toZ w64 (ofZ w64 v)))) + 1)
-turned-more v fits q =
-    let p = below-pattern v fits (rw (toZ-ofZ w64 v fits) at q) in
-    let h = pattern-high v fits q in
-    record { fits = omega arith }

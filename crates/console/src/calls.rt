@@ -1,12 +1,16 @@
 // The calls of the console.
 use crate::grade::answer_grade;
+use crate::grade::answer_same;
 use crate::hex::RECORD_ROOM;
 use crate::hex::decode;
+use crate::make::answer_make;
+use crate::make::answer_number;
 use crate::run::answer_run;
 use crate::say::say;
 use crate::say::say_fault;
 use crate::say::say_refused;
 use crate::show::show_record;
+use crate::step::answer_step;
 use crate::text::Taken;
 use crate::text::count_arguments;
 use crate::text::trim;
@@ -106,12 +110,25 @@ fn answer_other(word: &[u8], rest: &[u8]) {
     if is_same_bytes(word, b"grade") {
         return answer_grade(rest);
     }
+    if is_same_bytes(word, b"same") {
+        return answer_same(rest);
+    }
+    if is_same_bytes(word, b"make") {
+        return answer_make(rest);
+    }
+    if is_same_bytes(word, b"number") {
+        return answer_number(rest);
+    }
+    if is_same_bytes(word, b"step") {
+        return answer_step(rest);
+    }
     if is_same_bytes(word, b"run") {
         return answer_run(rest);
     }
     say(
-        b"? there is no such call; there are check, sound, show, get, delete, concat, strip, append, build, grade and run\n",
+        b"? there is no such call; there are check, sound, show, get, delete, concat, strip, append, ",
     );
+    say(b"build, grade, same, make, number, step and run\n");
 }
 
 // The answer to a line, which comes without its end.

@@ -12,22 +12,36 @@
 //   grade CANDIDATE ; EXPECTED
 //                      right, other bytes, same value, other value, or damaged N WORDS: whether two records are the same, or have
 //                      one value
+//   same R ; R         same, other, or refused N WORDS: whether two records have one value
+//   make i N, make u N, make f BITS, make d VALUE SCALE
+//                      result HEX, or refused 10 WORDS: the payload of a signed number, of an unsigned one, of a float by its
+//                      bits, or of a decimal
+//   number PAYLOAD     signed N, unsigned N, float BITS, decimal VALUE SCALE, wide BYTES, nan, infinity, -infinity, or
+//                      refused 4 WORDS: the number that a payload stands for
+//   step array JENTRY ITEM LEFT ; SLICE
+//                      item KIND PLACE LENGTH then JENTRY ITEM LEFT, end, or refused N WORDS: a step in any bytes of a walk
+//                      that is given by its places and by how many items are left, and the walk behind it
+//   step object KEY_JENTRY VAL_JENTRY KEY VAL LEFT ; SLICE
+//                      member PLACE LENGTH KIND PLACE LENGTH then KEY_JENTRY VAL_JENTRY KEY VAL LEFT, end, or
+//                      refused N WORDS: the same for an object, where the name's place and length stand first
 //   run R ; R : CALL : CALL
 //                      ENDING : ENDING : shelf R ; R ; R: the calls one after the other, with places for records; run.rt says more
 //
-// A record stands in hexadecimal, and so does a path, which is one; spaces in it are ignored, and an empty one is -. Behind the
-// records of a call that gives a result may stand one more argument, as in `append A ; R ; 100`: the length of the result's
-// buffer in decimal, 65,536 where it is left out. An empty line and a line that starts with # are copied. A line that is none of
-// these gets `? WHY`, and the next one is answered as ever.
+// A record stands in hexadecimal, and so do a path, which is one, a payload and a slice; spaces in it are ignored, and an empty
+// one is -. Behind the arguments of a call that gives a result may stand one more, as in `append A ; R ; 100`: the length of the
+// result's buffer in decimal; where it is left out, one that serves, of 65,536 bytes at most. An empty line and a line that starts
+// with # are copied. A line that is none of these gets `? WHY`, and the next one is answered as ever.
 mod calls;
 mod decimal;
 mod grade;
 mod hex;
+mod make;
 mod run;
 mod say;
 mod shelf;
 mod show;
 mod spell;
+mod step;
 mod text;
 mod writing;
 
@@ -39,7 +53,7 @@ ghost use Prim.Native.Nat.{_+_, _≤_};
 ghost use lib.ListN.{length};
 
 // The longest line, its end included: two records with spaces between their groups have less.
-const LINE_LIMIT: usize = 524_288;
+pub(crate) const LINE_LIMIT: usize = 524_288;
 
 // How often the program reads at most. It ends with its input long before.
 const READS: u64 = 0x1_0000_0000_0000;

@@ -12,7 +12,7 @@ const SPELLED: usize = 2048;
 const LETTERS: usize = 2 * SPELLED;
 
 // The letters of 64 bits.
-const BITS_LETTERS: usize = 16;
+pub(crate) const BITS_LETTERS: usize = 16;
 
 pub(crate) fn say(text: &[u8]) {
     io::write_all(1, text);
@@ -74,6 +74,31 @@ fn say_why(fault: Fault) {
         ),
         Fault::Full => say(b"there is no room on the shelf\n"),
         Fault::TooMany => say(b"a run has no room for another call\n"),
+        Fault::NoMaker => say(
+            b"make takes i, u, f or d: i NUMBER, u NUMBER, f BITS or d NUMBER SCALE, and the buffer's length if you like\n",
+        ),
+        Fault::NotInt => say(
+            b"make i takes one number in decimal, from -9223372036854775808 to 9223372036854775807\n",
+        ),
+        Fault::NotUint => say(
+            b"make u takes one number in decimal, from 0 to 18446744073709551615\n",
+        ),
+        Fault::NotBits => say(
+            b"make f takes the bits of one float, 16 hexadecimal digits with no spaces\n",
+        ),
+        Fault::NotScaled => say(
+            b"make d takes a number in decimal, from -9223372036854775808 to 9223372036854775807, and a scale from 0 to 255\n",
+        ),
+        Fault::NoWalk => say(
+            b"step takes a walk and a slice: array JENTRY ITEM LEFT ; SLICE or object KEY_JENTRY VAL_JENTRY KEY VAL LEFT ; SLICE\n",
+        ),
+        Fault::NotArrayWalk => say(
+            b"step array takes JENTRY ITEM LEFT, three numbers in decimal, from 0 to 18446744073709551615\n",
+        ),
+        Fault::NotObjectWalk => say(
+            b"step object takes KEY_JENTRY VAL_JENTRY KEY VAL LEFT, five numbers in decimal, from 0 to 18446744073709551615\n",
+        ),
+        Fault::NoSlice => say(b"the slice is missing; an empty one is -\n"),
     }
 }
 

@@ -58,7 +58,7 @@ pub(crate) fn say_text(text: &[u8]) {
 // ---- numbers
 
 // The least number has no positive counterpart: a negative one is turned around at −1, and what that takes is added without a sign.
-fn say_signed(v: i64) {
+pub(crate) fn say_signed(v: i64) {
     if v < 0 {
         say(b"-");
         return say_decimal((-1 - v) as u64 + 1);
@@ -101,7 +101,7 @@ fn say_wide_decimal(bytes: usize) {
 
 // By layout's reading of the payload, which never refuses one of a readable record.
 fn say_number_item(payload: &[u8]) {
-    say(b"number ");
+    say(b" ");
     match Number::decode(payload) {
         Number::Nan => say(b"NaN"),
         Number::Infinity => say(b"infinity"),
@@ -117,25 +117,41 @@ fn say_number_item(payload: &[u8]) {
 
 // ---- items
 
+// The word of each kind.
+pub(crate) fn say_kind(kind: Kind) {
+    match kind {
+        Kind::Null => say(b"null"),
+        Kind::String => say(b"string"),
+        Kind::Number => say(b"number"),
+        Kind::False => say(b"false"),
+        Kind::True => say(b"true"),
+        Kind::Container => say(b"container"),
+        Kind::Extension => say(b"extension"),
+    }
+}
+
 fn say_string(payload: &[u8]) {
-    say(b"string ");
+    say(b" ");
     say_text(payload);
 }
 
 fn say_extension(payload: &[u8]) {
-    say(b"extension ");
+    say(b" ");
     say_bytes(payload);
+}
+
+// What stands behind the word of a kind that does not say all.
+fn say_payload(kind: Kind, payload: &[u8]) {
+    match kind {
+        Kind::String => say_string(payload),
+        Kind::Number => say_number_item(payload),
+        Kind::Extension => say_extension(payload),
+        _ => {}
+    }
 }
 
 // An item that is no container.
 pub(crate) fn say_leaf(kind: Kind, payload: &[u8]) {
-    match kind {
-        Kind::Null => say(b"null"),
-        Kind::String => say_string(payload),
-        Kind::Number => say_number_item(payload),
-        Kind::False => say(b"false"),
-        Kind::True => say(b"true"),
-        Kind::Container => {}
-        Kind::Extension => say_extension(payload),
-    }
+    say_kind(kind);
+    say_payload(kind, payload);
 }

@@ -17,6 +17,15 @@ pub(crate) enum Fault {
     TwoPlaces,
     Full,
     TooMany,
+    NoMaker,
+    NotInt,
+    NotUint,
+    NotBits,
+    NotScaled,
+    NoWalk,
+    NotArrayWalk,
+    NotObjectWalk,
+    NoSlice,
 }
 
 // An argument as it was taken: how many bytes it spells, or is the length of.
@@ -79,6 +88,51 @@ pub(crate) fn word_end(text: &[u8]) -> usize
         i += 1;
     }
     i
+}
+
+// How many words a text has, with one space or more between them.
+pub(crate) fn count_words(text: &[u8]) -> usize {
+    let mut n: usize = 0;
+    let mut apart = true;
+    let mut i = 0;
+    while i < text.len() {
+        let space = is_space(text[i]);
+        if apart & !space {
+            n += 1;
+        }
+        apart = space;
+        i += 1;
+    }
+    n
+}
+
+// The place where a word starts, of which the first is number 0, and the text's end where there are fewer.
+fn word_start(text: &[u8], number: usize) -> usize
+    ensures { λ r. ⌜ r ≤ length (now (text .entry)) ⌝ }
+{
+    let mut n: usize = 0;
+    let mut apart = true;
+    let mut i = 0;
+    while i < text.len() {
+        let space = is_space(text[i]);
+        let starts = apart & !space;
+        if starts & (n == number) {
+            return i;
+        }
+        if starts {
+            n += 1;
+        }
+        apart = space;
+        i += 1;
+    }
+    i
+}
+
+// The word of a number, and none where there are fewer.
+pub(crate) fn word(text: &[u8], number: usize) -> &[u8] {
+    let start = word_start(text, number);
+    let rest = slice(text, start, text.len() - start);
+    slice(rest, 0, word_end(rest))
 }
 
 // What stands between the arguments of a call, and between the calls of a run.

@@ -1,6 +1,6 @@
 -- `console::spell::say_signed` meets its contract.
 use Rattle.layout.proofs.Patterns.{turned-fits, turned-cast, pattern-cast}
-use Rattle.console.proofs.Outlines.{turned-more}
+use Rattle.console.proofs.Numbers.{turned-more}
 use borrow.Author.Needs.{needs}
 use Rattle.console.proofs.spell.say_signed.Statement.{statement}
 use Rattle.console.proofs.spell.say_signed.Tie as tie
