@@ -85,7 +85,7 @@ fn above_zero(size: Decimal) -> Signed {
     Signed::Number(n as i64)
 }
 
-// The least number has no positive counterpart: a size is turned around at −1, which is one less of it.
+// The number so far below zero. The least one has no positive counterpart, so that one less is turned around at −1.
 fn negated(n: u64) -> i64
     requires { ⌜ (0 < n) × (n ≤ 2 ^ 63) ⌝ }
 {
@@ -105,6 +105,7 @@ fn below_zero(size: Decimal) -> Signed {
     Signed::Number(negated(n))
 }
 
+// A number with a - in front where it is below zero.
 pub(crate) fn read_signed(text: &[u8]) -> Signed {
     if byte(text, 0) == b'-' {
         return below_zero(read_decimal(slice(text, 1, text.len())));
@@ -114,13 +115,12 @@ pub(crate) fn read_signed(text: &[u8]) -> Signed {
 
 // ---- arguments
 
-// The argument behind the records of a call that takes as many, where there is one. From the longest result on every length
-// serves alike.
-pub(crate) fn take_length(text: &[u8], records: usize) -> Taken {
-    if count_arguments(text) <= records {
+// The buffer's length: the argument behind so many others, where there is one. From the longest result on every length serves alike.
+pub(crate) fn take_length(text: &[u8], others: usize) -> Taken {
+    if count_arguments(text) <= others {
         return Taken::Length(RESULT_ROOM);
     }
-    match read_decimal(trim(argument(text, records))) {
+    match read_decimal(trim(argument(text, others))) {
         Decimal::Number(n) => Taken::Length(least(n as usize, RESULT_ROOM)),
         Decimal::Over => Taken::Length(RESULT_ROOM),
         Decimal::Other => Taken::Wrong(Fault::NotDecimal),
