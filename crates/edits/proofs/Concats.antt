@@ -89,7 +89,7 @@ concat-gives ls rs v e =
 
 -- ---- what a name finds
 
-find-follow : (n : Bytes) (rs ls : Members) → find n (follow rs ls) ≡ or-else (find n rs) (find n ls)
+pub find-follow : (n : Bytes) (rs ls : Members) → find n (follow rs ls) ≡ or-else (find n rs) (find n ls)
 find-follow n empty ls = refl
 find-follow n (member m t rs) ls = first (order n m) (find-follow n rs ls)
   where

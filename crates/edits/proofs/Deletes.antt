@@ -1,5 +1,5 @@
 -- What a change leaves as it was, and what it changes: the members and the items that delete writes anew.
-use Prim.Native.Nat.{ℕ, zero, suc, _-_, _<_, _≤_}
+use Prim.Native.Nat.{ℕ, zero, suc, _<_, _≤_}
 use native.Mathlib.Omega.{arith}
 use mathlib.Core.Path.{_≡_, refl, ap, sym, _∙_}
 use mathlib.Core.Logic.{_⊎_, inl, inr, ⊎-elim}
@@ -18,7 +18,7 @@ use Rattle.builders.proofs.Orderings.{order-cases, by-order, order-refl}
 use Rattle.builders.proofs.InOrders.{unlike, rising-cons, in-order-rising, find-in-order, has-not, distinct-cons}
 use Rattle.builders.proofs.Proper.{distinct-with}
 use Rattle.edits.specs.Keypath.{Step, name, index}
-use Rattle.edits.specs.Find.{_then_, place, step-place, item-at}
+use Rattle.edits.specs.Find.{_then_, step-place, item-at}
 use Rattle.edits.specs.Delete.{kept-member, change-item, change-member}
 use Rattle.edits.proofs.Finds.{place-lt}
 

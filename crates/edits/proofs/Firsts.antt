@@ -10,12 +10,13 @@ use Rattle.layout.specs.Tree.{Tree, object, Members, empty, member, names}
 use Rattle.layout.specs.Sound.{Rising}
 use Rattle.layout.proofs.Values.{In}
 use Rattle.builders.specs.Order.{in-order, follow, find}
-use Rattle.builders.proofs.InOrders.{in-order-rising, find-in-order}
+use Rattle.builders.proofs.InOrders.{in-order-rising, or-else, find-in-order}
 use Rattle.edits.specs.Keypath.{Step}
 use Rattle.edits.specs.Find.{_then_, step-name, look-up}
 use Rattle.edits.specs.Delete.{change-member, delete}
-use Rattle.edits.proofs.Deletes.{some-inj, nothing-some, by-equal, find-first, find-later, find-other}
+use Rattle.edits.proofs.Deletes.{some-inj, nothing-some, by-equal, find-first, find-later, not-in, find-other}
 use Rattle.edits.proofs.Meanings.{deleted-found, deleted-within, look-up-behind}
+use Rattle.edits.proofs.Concats.{find-follow}
 
 -- The members before the first that has a name, and those behind it.
 pub record First (n : Bytes) (v : Tree) (ms : Members) : Type 0 where
@@ -42,9 +43,7 @@ first-of n v (member m t ms) e =
     record { front = empty; back = ms; whole = rw (w, q); new = λ i. i })
 
 find-behind : (n : Bytes) (front back : Members) → (In n (names front) → ⊥) → find n (follow front back) ≡ find n back
-find-behind n empty back h = refl
-find-behind n (member m t front) back h =
-    find-later n m t (follow front back) (λ q. h (inl q)) ∙ find-behind n front back (λ i. h (inr i))
+find-behind n front back h = find-follow n front back ∙ ap (λ (o : Option Tree). or-else o (find n back)) (not-in n front h)
 
 change-behind : (o : Option Tree) (n : Bytes) (front back : Members) → (In n (names front) → ⊥)
     → change-member o n (follow front back) ≡ follow front (change-member o n back)

@@ -9,9 +9,9 @@ pub mod Deletes
 pub mod Findings
 pub mod Kept
 pub mod Meanings
-pub mod Firsts
 pub mod Strips
 pub mod Concats
+pub mod Firsts
 pub mod KeypathCases
 pub mod Rows
 pub mod Splits

@@ -1,7 +1,8 @@
--- Object build on values, as on sound trees.
+-- Object build on values: the plain build of two values, and build of trees of equal values, give equal values or the same number.
 use Prim.Native.Nat.{suc}
 use native.Mathlib.Omega.{arith}
 use mathlib.Core.Path.{_≡_, refl, ap, sym, _∙_}
+use mathlib.Core.Logic.{inl}
 use mathlib.Core.Bool.{Bool, true, false, not}
 use mathlib.Core.List.{List, _∷_}
 use lib.Dec.{T, eqb, eqb→eq, eqb·suc-suc}
@@ -10,6 +11,7 @@ use Rattle.layout.specs.Bytes.{Bytes, Octets}
 use Rattle.layout.specs.Answer.{Answer, gives, refused, _>>=_, require}
 use Rattle.layout.specs.Text.{utf8}
 use Rattle.layout.specs.Tree.{Tree, null, boolean, number, string, extension, array, object, Items, none, item, Members, empty, member, names, pair}
+use Rattle.layout.specs.Value.{Same, SameItems, SameMembers}
 use Rattle.layout.specs.declared.refusal.Refusal.{Refusal}
 use Rattle.layout.specs.declared.refusal.Refusal.the-variants.{Kind, Repeated}
 use Rattle.layout.proofs.Answers.{from-bind, from-require, gives-inj, refused-gives}
@@ -18,12 +20,10 @@ use Rattle.builders.specs.Order.{in-order, distinct}
 use Rattle.builders.specs.Build.{texts-of, count, build}
 use Rattle.builders.proofs.Builds.{count-item-parts}
 use Rattle.builders.proofs.Results.{is-true, count-texts}
+use Rattle.builders.proofs.Proper.{Proper, ProperItems, ProperMembers}
 use Rattle.runs.specs.Plain.{repeats, array-items, string-text, in-turn, plain-build}
 use Rattle.runs.proofs.Named.{repeats-is}
-use Rattle.builders.proofs.Proper.{Proper, ProperItems, ProperMembers}
-use Rattle.builders.specs.Canon.{canon, canon-items, canon-members}
-use Rattle.builders.proofs.Canons.{canon-names}
-use Rattle.runs.proofs.Overlaid.{canon-answer}
+use Rattle.runs.proofs.Alikes.{SameAnswer, finds-same, anew-same}
 
 -- The names, the test of the counts, the pairs: what build does before it looks for a repeated name.
 abbrev pairs : Answer (List Bytes) → Bool → Items → Answer Members
@@ -71,29 +71,38 @@ pairs-in-turn (item (extension b) ts) (item u us) = refl
 pairs-in-turn (item (array vs) ts) (item u us) = refl
 pairs-in-turn (item (object ms) ts) (item u us) = refl
 
-canon-turn : (ts us : Items) → in-turn (canon-items ts) (canon-items us) ≡ (in-turn ts us >>= λ ms. gives (canon-members ms))
+-- Two lists of members from equal values: the same names with equal values, or the same number.
+abbrev SameTurn : Answer Members → Answer Members → Type 0
+SameTurn (gives ms) (gives ns) = (names ns ≡ names ms) × SameMembers ms ns
+SameTurn (gives ms) (refused r) = ⊥
+SameTurn (refused q) (gives ns) = ⊥
+SameTurn (refused q) (refused r) = q ≡ r
+
+turn-same : (ts us ts′ us′ : Items) → SameItems ts ts′ → SameItems us us′ → SameTurn (in-turn ts us) (in-turn ts′ us′)
 unfolding _>>=_
-canon-turn none none = refl
-canon-turn none (item u us) = refl
-canon-turn (item t ts) none = refl
-canon-turn (item null ts) (item u us) = refl
-canon-turn (item (boolean x) ts) (item u us) = refl
-canon-turn (item (number b) ts) (item u us) = refl
-canon-turn (item (string b) ts) (item u us) = rw (canon-turn ts us) (go (in-turn ts us))
+turn-same none none ts′ us′ h k = rw (h, k) (refl, refl)
+turn-same none (item u us) ts′ us′ h k = rw (h, k .2) refl
+turn-same (item t ts) none ts′ us′ h k = rw (h .2, k) refl
+turn-same (item null ts) (item u us) ts′ us′ h k = rw (h .2, h .3, k .2) refl
+turn-same (item (boolean x) ts) (item u us) ts′ us′ h k = rw (h .2, h .3, k .2) refl
+turn-same (item (number b) ts) (item u us) ts′ us′ h k = rw (h .2, h .3, k .2) refl
+turn-same (item (string b) ts) (item u us) ts′ us′ h k =
+    rw (h .2, h .3, k .2) (go (in-turn ts us) (in-turn (h .1) (k .1)) (turn-same ts us (h .1) (k .1) (h .4) (k .4)))
   where
-    go : (m : Answer Members) → ((m >>= λ ms. gives (canon-members ms)) >>= λ ms. gives (member b (canon u) ms))
-        ≡ ((m >>= λ ms. gives (member b u ms)) >>= λ ms. gives (canon-members ms))
-    go (gives ms) = refl
-    go (refused r) = refl
-canon-turn (item (extension b) ts) (item u us) = refl
-canon-turn (item (array vs) ts) (item u us) = refl
-canon-turn (item (object ms) ts) (item u us) = refl
+    go : (m n : Answer Members) → SameTurn m n → SameTurn (m >>= λ ms. gives (member b u ms)) (n >>= λ ms. gives (member b (k .0) ms))
+    go (gives ms) (gives ns) w = (ap (λ (x : List Bytes). b ∷ x) (w .0), (k .0, ns, inl (refl, refl, refl), k .3, w .1))
+    go (gives ms) (refused r) w = absurd w
+    go (refused q) (gives ns) w = absurd w
+    go (refused q) (refused r) w = w
+turn-same (item (extension b) ts) (item u us) ts′ us′ h k = rw (h .2, h .3, k .2) refl
+turn-same (item (array vs) ts) (item u us) ts′ us′ h k = rw (h .2, h .3 .1, k .2) refl
+turn-same (item (object ms) ts) (item u us) ts′ us′ h k = rw (h .2, h .3 .1, k .2) refl
 
 -- Build, from the pairs on.
-abbrev pub built : Members → Answer Tree
+abbrev built : Members → Answer Tree
 built ms = require (distinct (names ms)) Repeated >>= λ _. gives (object (in-order ms))
 
-pub build-turn : (ts us : Items) → build (array ts) (array us) ≡ (in-turn ts us >>= built)
+build-turn : (ts us : Items) → build (array ts) (array us) ≡ (in-turn ts us >>= built)
 unfolding build _>>=_ require
 build-turn ts us =
     rw (← pairs-in-turn ts us)
@@ -106,33 +115,38 @@ build-turn ts us =
     go (gives ns) false h = refl
     go (gives ns) true h = rw (h ns refl tt) refl
 
-arrays-canon : (ts us : Items) → build (canon (array ts)) (canon (array us)) ≡ canon-answer (plain-build (array ts) (array us))
+arrays-same : (ts us ts′ us′ : Items) → SameItems ts ts′ → SameItems us us′
+    → SameAnswer (plain-build (array ts) (array us)) (build (array ts′) (array us′))
 unfolding plain-build _>>=_ require
-arrays-canon ts us = build-turn (canon-items ts) (canon-items us) ∙ rw (canon-turn ts us) (go (in-turn ts us))
+arrays-same ts us ts′ us′ h k = rw (build-turn ts′ us′) (go (in-turn ts us) (in-turn ts′ us′) (turn-same ts us ts′ us′ h k))
   where
-    test : (ms : Members) (d : Bool) → (require d Repeated >>= λ _. gives (object (in-order (canon-members ms)))) ≡ canon-answer (require d Repeated >>= λ _. gives (object ms))
-    test ms true = refl
-    test ms false = refl
+    test : (ms ns : Members) (d : Bool) → distinct (names ms) ≡ d → SameMembers ms ns
+        → SameAnswer (require d Repeated >>= λ _. gives (object ms)) (require d Repeated >>= λ _. gives (object (in-order ns)))
+    test ms ns true e w = anew-same ms ns e (finds-same ms ns w e)
+    test ms ns false e w = refl
 
-    go : (m : Answer Members) → ((m >>= λ ms. gives (canon-members ms)) >>= built) ≡ canon-answer (m >>= λ ms. require (not (repeats ms)) Repeated >>= λ _. gives (object ms))
-    go (refused r) = refl
-    go (gives ms) = rw (canon-names ms, repeats-is ms) (test ms (distinct (names ms)))
+    go : (m n : Answer Members) → SameTurn m n
+        → SameAnswer (m >>= λ ms. require (not (repeats ms)) Repeated >>= λ _. gives (object ms)) (n >>= built)
+    go (gives ms) (gives ns) w = rw (repeats-is ms, w .0) (test ms ns (distinct (names ms)) refl (w .1))
+    go (gives ms) (refused r) w = absurd w
+    go (refused q) (gives ns) w = absurd w
+    go (refused q) (refused r) w = w
 
-pub build-canon : (t u : Tree) → build (canon t) (canon u) ≡ canon-answer (plain-build t u)
+pub build-same : (t u t′ u′ : Tree) → Same t t′ → Same u u′ → SameAnswer (plain-build t u) (build t′ u′)
 unfolding build plain-build _>>=_
-build-canon null u = refl
-build-canon (boolean x) u = refl
-build-canon (number b) u = refl
-build-canon (string b) u = refl
-build-canon (extension b) u = refl
-build-canon (object ms) u = refl
-build-canon (array ts) null = refl
-build-canon (array ts) (boolean x) = refl
-build-canon (array ts) (number b) = refl
-build-canon (array ts) (string b) = refl
-build-canon (array ts) (extension b) = refl
-build-canon (array ts) (object ms) = refl
-build-canon (array ts) (array us) = arrays-canon ts us
+build-same null u t′ u′ h k = rw h refl
+build-same (boolean x) u t′ u′ h k = rw h refl
+build-same (number b) u t′ u′ h k = rw h refl
+build-same (string b) u t′ u′ h k = rw h refl
+build-same (extension b) u t′ u′ h k = rw h refl
+build-same (object ms) u t′ u′ h k = rw (h .1) refl
+build-same (array ts) null t′ u′ h k = rw (h .1, k) refl
+build-same (array ts) (boolean x) t′ u′ h k = rw (h .1, k) refl
+build-same (array ts) (number b) t′ u′ h k = rw (h .1, k) refl
+build-same (array ts) (string b) t′ u′ h k = rw (h .1, k) refl
+build-same (array ts) (extension b) t′ u′ h k = rw (h .1, k) refl
+build-same (array ts) (object ms) t′ u′ h k = rw (h .1, k .1) refl
+build-same (array ts) (array us) t′ u′ h k = rw (h .1, k .1) (arrays-same ts us (h .0) (k .0) (h .2) (k .2))
 
 -- ---- the result is proper
 

@@ -26,9 +26,9 @@ use Rattle.runs.specs.declared.call.Edit.{Edit}
 use Rattle.runs.specs.declared.call.Edit.the-variants.{Get, Delete, Concat, Strip, Append, Build}
 use Rattle.runs.specs.Call.{Call, outcome, takes-two, There}
 use Rattle.runs.specs.Account.{request, requests, Entry, value, absence, refusal, entry-on, added, account, account-endings}
-use Rattle.runs.specs.Demand2.{ReadsAs, OnceWith, Yields}
+use Rattle.runs.specs.Demand2.{OnceWith, Yields}
 use Rattle.runs.specs.Run.{Shelf, outcome-on, shelved, after, run, endings, Takes}
-use Rattle.runs.specs.Demand.{SoundWith, AllSoundWith, Start, after-run, EndedAlike, HasItsValue, EqualAlike, Demand-3}
+use Rattle.runs.specs.Demand.{SoundWith, AllSoundWith, Start, after-run, EqualAlike, Demand-3}
 use Rattle.runs.proofs.Onces.{sound-once}
 use Rattle.runs.proofs.Yields.{demand-2, ends-alike}
 

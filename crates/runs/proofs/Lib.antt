@@ -1,12 +1,12 @@
 -- The laws of runs.
 pub mod Named
 pub mod Onces
+pub mod Alikes
 pub mod Looks
 pub mod Removes
 pub mod Overlaid
 pub mod Cleaned
 pub mod Built
-pub mod Unsorted
 pub mod Yields
 pub mod Demands
 pub mod Histories

@@ -1,7 +1,7 @@
--- Look-up on values: what a path finds in a value is, in its sound tree, what look-up finds there.
+-- Look-up on values: what a path finds in a value, and what look-up finds in a tree of equal value, are equal values.
 use Prim.Native.Nat.{ℕ, zero, suc, _-_, _<_, _≤_}
 use native.Mathlib.Omega.{arith}
-use mathlib.Core.Path.{_≡_, refl, ap, sym, _∙_}
+use mathlib.Core.Path.{_≡_, refl, ap, sym, _∙_, subst₂}
 use mathlib.Core.Bool.{Bool, true, false, not, cond}
 use mathlib.Core.List.{List, [], _∷_}
 use mathlib.Core.Option.{Option, none as nothing, some}
@@ -9,29 +9,33 @@ use lib.Dec.{T, ltb, ltb→lt, nltb→le}
 use lib.IntN.{pos, negsuc}
 use Rattle.layout.specs.Bytes.{Bytes}
 use Rattle.layout.specs.Tree.{Tree, null, boolean, number, string, extension, array, object, Items, none, item, Members, empty, member}
+use Rattle.layout.specs.Value.{Same, SameItems}
 use Rattle.builders.specs.Build.{count}
+use Rattle.builders.proofs.Proper.{Proper, ProperItems, ProperMembers}
 use Rattle.edits.specs.Keypath.{Step, name, index}
 use Rattle.edits.specs.Find.{_then_, place, step-place, step-name, item-at, step-into, look-up}
-use Rattle.edits.proofs.Deletes.{item-past, some-inj}
+use Rattle.edits.proofs.Deletes.{nothing-some, item-past}
 use Rattle.runs.specs.Plain.{member-name, named, from-zero, item-number, how-many, numbered, taken, inward, plain-look-up}
 use Rattle.runs.proofs.Named.{by-name, named-find}
-use Rattle.builders.proofs.Proper.{Proper, ProperItems, ProperMembers}
-use Rattle.builders.specs.Canon.{canon, canon-items, canon-found}
-use Rattle.builders.proofs.Canons.{canon-find}
+use Rattle.runs.proofs.Alikes.{SameFound, finds-same}
 
--- ---- arrays
+-- ---- steps: what a step takes is what it steps into
 
-pub canon-count : (ts : Items) → count (canon-items ts) ≡ how-many ts
-canon-count none = refl
-canon-count (item t ts) = ap suc (canon-count ts)
+same-count : (ts : Items) → count ts ≡ how-many ts
+same-count none = refl
+same-count (item t ts) = ap suc (same-count ts)
 
-canon-item : (ts : Items) (i : ℕ) → item-at (canon-items ts) i ≡ canon-found (numbered (some i) ts)
-canon-item none i = refl
-canon-item (item t ts) zero = refl
-canon-item (item t ts) (suc i) = canon-item ts i
+same-item : (ts : Items) (i : ℕ) → item-at ts i ≡ numbered (some i) ts
+same-item none i = refl
+same-item (item t ts) zero = refl
+same-item (item t ts) (suc i) = same-item ts i
+
+item-found : (o : Option ℕ) (ts : Items) → (o then item-at ts) ≡ numbered o ts
+item-found nothing ts = refl
+item-found (some i) ts = same-item ts i
 
 -- An index counted back from the end.
-pub back-number : (k n : ℕ) → item-number (index (negsuc k)) n ≡ place (negsuc k) n
+back-number : (k n : ℕ) → item-number (index (negsuc k)) n ≡ place (negsuc k) n
 unfolding place
 back-number k n = go (ltb n (suc k)) (ltb k n) (ltb→lt n (suc k)) (nltb→le n (suc k)) (ltb→lt k n) (nltb→le k n)
   where
@@ -42,59 +46,42 @@ back-number k n = go (ltb n (suc k)) (ltb k n) (ltb→lt n (suc k)) (nltb→le n
     go false true f g h j = refl
     go false false f g h j = let w : ⊥ = omega (arith, g tt, j tt) in absurd w
 
--- What a step finds in an array, by the number of the item.
-pub numbered-step : (s : Step) (us : Items) (i : ℕ) → item-number s (count us) ≡ some i → i < count us → step-place s (count us) ≡ some i
+-- The place that a step means is the account's number.
+pub place-number : (s : Step) (n i : ℕ) → step-place s n ≡ some i → item-number s n ≡ some i
 unfolding place
-numbered-step (name b) us i e l = e
-numbered-step (index (pos k)) us i e l =
-    let q : k ≡ i = some-inj e in go (ltb k (count us)) (nltb→le k (count us)) q
+place-number (name b) n i e = e
+place-number (index (pos k)) n i e = go (ltb k n) e
   where
-    go : (a : Bool) → (T (not a) → count us ≤ k) → k ≡ i → cond a (some k) nothing ≡ some i
-    go true f q = ap some q
-    go false f q = let w : ⊥ = omega (arith, f tt) in absurd w
-numbered-step (index (negsuc k)) us i e l = sym (back-number k (count us)) ∙ e
+    go : (a : Bool) → cond a (some k) nothing ≡ some i → some k ≡ some i
+    go true e = e
+    go false e = nothing-some e
+place-number (index (negsuc k)) n i e = back-number k n ∙ e
 
-at-canon : (o : Option ℕ) (ts : Items) → (o then item-at (canon-items ts)) ≡ canon-found (numbered o ts)
-at-canon nothing ts = refl
-at-canon (some i) ts = canon-item ts i
-
-step-array : (s : Step) (ts : Items) → (step-place s (count (canon-items ts)) then item-at (canon-items ts)) ≡ canon-found (numbered (item-number s (how-many ts)) ts)
+array-plain : (s : Step) (ts : Items) → (step-place s (count ts) then item-at ts) ≡ numbered (item-number s (how-many ts)) ts
 unfolding place
-step-array (name b) ts = refl
-step-array (index (pos k)) ts = go (ltb k (count (canon-items ts))) (nltb→le k (count (canon-items ts)))
+array-plain (name b) ts = refl
+array-plain (index (pos k)) ts = go (ltb k (count ts)) (nltb→le k (count ts))
   where
-    go : (a : Bool) → (T (not a) → count (canon-items ts) ≤ k)
-        → (cond a (some k) nothing then item-at (canon-items ts)) ≡ canon-found (numbered (some k) ts)
-    go true f = canon-item ts k
-    go false f = sym (item-past (canon-items ts) k (f tt)) ∙ canon-item ts k
-step-array (index (negsuc k)) ts =
-    ap (λ (n : ℕ). place (negsuc k) n then item-at (canon-items ts)) (canon-count ts)
-    ∙ ap (λ (o : Option ℕ). o then item-at (canon-items ts)) (sym (back-number k (how-many ts)))
-    ∙ at-canon (item-number (index (negsuc k)) (how-many ts)) ts
-
--- ---- steps and paths
+    go : (a : Bool) → (T (not a) → count ts ≤ k) → (cond a (some k) nothing then item-at ts) ≡ numbered (some k) ts
+    go true f = same-item ts k
+    go false f = sym (item-past ts k (f tt)) ∙ same-item ts k
+array-plain (index (negsuc k)) ts =
+    ap (λ (n : ℕ). place (negsuc k) n then item-at ts) (same-count ts)
+    ∙ ap (λ (o : Option ℕ). o then item-at ts) (sym (back-number k (how-many ts)))
+    ∙ item-found (item-number (index (negsuc k)) (how-many ts)) ts
 
 pub same-name : (s : Step) → step-name s ≡ member-name s
 same-name (name b) = refl
 same-name (index z) = refl
 
-pub step-canon : (s : Step) (t : Tree) → step-into s (canon t) ≡ canon-found (taken s t)
-step-canon s null = refl
-step-canon s (boolean x) = refl
-step-canon s (number b) = refl
-step-canon s (string b) = refl
-step-canon s (extension b) = refl
-step-canon s (array ts) = step-array s ts
-step-canon s (object ms) = canon-find (step-name s) ms ∙ ap canon-found (sym (named-find (step-name s) ms) ∙ ap (λ (n : Bytes). named n ms) (same-name s))
-
-pub look-up-canon : (p : List Step) (t : Tree) → look-up p (canon t) ≡ canon-found (plain-look-up p t)
-look-up-canon [] t = refl
-look-up-canon (s ∷ p) t = ap (λ (o : Option Tree). o then look-up p) (step-canon s t) ∙ go (taken s t) (look-up-canon p)
-  where
-    go : (o : Option Tree) → ((c : Tree) → look-up p (canon c) ≡ canon-found (plain-look-up p c))
-        → (canon-found o then look-up p) ≡ canon-found (inward o (plain-look-up p))
-    go nothing h = refl
-    go (some c) h = h c
+pub step-plain : (s : Step) (t : Tree) → step-into s t ≡ taken s t
+step-plain s null = refl
+step-plain s (boolean x) = refl
+step-plain s (number b) = refl
+step-plain s (string b) = refl
+step-plain s (extension b) = refl
+step-plain s (array ts) = array-plain s ts
+step-plain s (object ms) = sym (named-find (step-name s) ms) ∙ ap (λ (n : Bytes). named n ms) (same-name s)
 
 -- ---- what is found is proper
 
@@ -128,3 +115,43 @@ look-up-proper (s ∷ p) t h = go (taken s t) (taken-proper s t h) (look-up-prop
     go : (o : Option Tree) → ProperFound o → ((c : Tree) → Proper c → ProperFound (plain-look-up p c)) → ProperFound (inward o (plain-look-up p))
     go nothing k h = tt
     go (some c) k h = h c k
+
+-- ---- equal values
+
+how-many-same : (ts us : Items) → SameItems ts us → how-many us ≡ how-many ts
+how-many-same none us h = rw h refl
+how-many-same (item t ts) us h = rw (h .2) (ap suc (how-many-same ts (h .1) (h .4)))
+
+pub count-same : (ts us : Items) → SameItems ts us → count us ≡ how-many ts
+count-same ts us h = same-count us ∙ how-many-same ts us h
+
+numbered-same : (o : Option ℕ) (ts us : Items) → SameItems ts us → SameFound (numbered o ts) (numbered o us)
+numbered-same nothing ts us h = tt
+numbered-same (some i) none us h = rw h tt
+numbered-same (some zero) (item t ts) us h = rw (h .2) (h .3)
+numbered-same (some (suc i)) (item t ts) us h = rw (h .2) (numbered-same (some i) ts (h .1) (h .4))
+
+taken-same : (s : Step) (t u : Tree) → Same t u → Proper t → SameFound (taken s t) (taken s u)
+taken-same s null u h p = rw h tt
+taken-same s (boolean x) u h p = rw h tt
+taken-same s (number b) u h p = rw h tt
+taken-same s (string b) u h p = rw h tt
+taken-same s (extension b) u h p = rw h tt
+taken-same s (array ts) u h p = rw (h .1, how-many-same ts (h .0) (h .2)) (numbered-same (item-number s (how-many ts)) ts (h .0) (h .2))
+taken-same s (object ms) u h p =
+    let n = member-name s in
+    rw (h .1) (subst₂ SameFound (sym (named-find n ms)) (sym (named-find n (h .0))) (finds-same ms (h .0) (h .2) (p .0) n))
+
+pub step-same : (s : Step) (t u : Tree) → Same t u → Proper t → SameFound (taken s t) (step-into s u)
+step-same s t u h p = rw (step-plain s u) (taken-same s t u h p)
+
+pub look-up-same : (p : List Step) (t u : Tree) → Same t u → Proper t → SameFound (plain-look-up p t) (look-up p u)
+look-up-same [] t u h k = h
+look-up-same (s ∷ p) t u h k = go (taken s t) (step-into s u) (step-same s t u h k) (taken-proper s t k) (look-up-same p)
+  where
+    go : (o o′ : Option Tree) → SameFound o o′ → ProperFound o → ((c c′ : Tree) → Same c c′ → Proper c → SameFound (plain-look-up p c) (look-up p c′))
+        → SameFound (inward o (plain-look-up p)) (o′ then look-up p)
+    go nothing nothing e q f = tt
+    go nothing (some c′) e q f = absurd e
+    go (some c) nothing e q f = absurd e
+    go (some c) (some c′) e q f = f c c′ e q

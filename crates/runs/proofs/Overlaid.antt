@@ -1,34 +1,32 @@
--- Concat and append on values, as on sound trees.
+-- Concat and append on values: the plain edit of two values, and the edit of trees of equal values, give equal values or the same number.
 use mathlib.Core.Path.{_≡_, refl, ap, sym, _∙_}
 use mathlib.Core.Logic.{_⊎_, inl, inr, ⊎-elim}
 use mathlib.Core.Bool.{true}
 use mathlib.Core.Option.{Option, none as nothing, some}
 use Rattle.layout.specs.Bytes.{Bytes}
-use Rattle.layout.specs.Answer.{Answer, gives, refused, _>>=_}
+use Rattle.layout.specs.Answer.{gives, _>>=_}
 use Rattle.layout.specs.Tree.{Tree, null, boolean, number, string, extension, array, object, Items, none, item, Members, empty, member, names}
+use Rattle.layout.specs.Value.{Same, SameItems, SameMembers}
 use Rattle.layout.proofs.Answers.{gives-inj, refused-gives}
 use Rattle.layout.proofs.Values.{In}
+use Rattle.layout.proofs.Sames.{same-members-sym}
 use Rattle.builders.specs.Order.{in-order, follow, find, distinct}
 use Rattle.builders.specs.Build.{join, append}
-use Rattle.builders.proofs.InOrders.{in-order-rising, or-else, rising-distinct, has-not, distinct-cons}
+use Rattle.builders.proofs.InOrders.{or-else, has-not, distinct-cons}
+use Rattle.builders.proofs.Proper.{Proper, ProperItems, ProperMembers, distinct-with, same-distinct, Fewer, fewer-distinct}
 use Rattle.edits.specs.Concat.{as-items, members-in, concat}
-use Rattle.edits.proofs.Deletes.{false-true, find-first, find-later, equal-or-not, find-unique, nothing-some}
-use Rattle.edits.proofs.Concats.{concat-given, concat-items, concat-find}
+use Rattle.edits.proofs.Deletes.{false-true, find-first, find-later, equal-or-not, nothing-some}
+use Rattle.edits.proofs.Concats.{find-follow, concat-given, concat-items}
 use Rattle.runs.specs.Plain.{has-name, together, lacked, items-then, giving, members-of, objects-or, plain-concat, plain-append}
 use Rattle.runs.proofs.Named.{by-test, has-named, missing-name}
-use Rattle.builders.proofs.Proper.{Proper, ProperItems, ProperMembers, distinct-with, Fewer, fewer-distinct}
-use Rattle.builders.specs.Canon.{canon, canon-items, canon-members, canon-found}
-use Rattle.builders.proofs.Canons.{canon-find}
+use Rattle.runs.proofs.Alikes.{SameFound, SameAnswer, finds-same, anew-same}
 
 -- ---- two objects
 
-find-together : (x : Bytes) (rs ms : Members) → find x (together rs ms) ≡ or-else (find x rs) (find x ms)
-find-together x empty ms = refl
-find-together x (member n t rs) ms =
-    ⊎-elim
-    (λ (e : x ≡ n). rw (e, find-first n t (together rs ms), find-first n t rs))
-    (λ h. rw (find-later x n t (together rs ms) h, find-later x n t rs h) (find-together x rs ms))
-    (equal-or-not x n)
+-- What each name finds in the right's members and those of the left that it lacks.
+together-follow : (rs ms : Members) → together rs ms ≡ follow rs ms
+together-follow empty ms = refl
+together-follow (member n t rs) ms = ap (member n t) (together-follow rs ms)
 
 -- A name that the right lacks finds what it found on the left.
 find-lacked : (x : Bytes) (rs ls : Members) → find x rs ≡ nothing → find x (lacked rs ls) ≡ find x ls
@@ -42,108 +40,14 @@ find-lacked x rs (member n t ls) h =
     (λ k. rw (find-later x n t (lacked rs ls) k, find-later x n t ls k) (find-lacked x rs ls h))
     (equal-or-not x n))
 
-pub overlay-finds : (x : Bytes) (ls rs : Members) → find x (together rs (lacked rs ls)) ≡ or-else (find x rs) (find x ls)
-overlay-finds x ls rs = find-together x rs (lacked rs ls) ∙ go (find x rs) (find-lacked x rs ls)
+overlay-finds : (x : Bytes) (ls rs : Members) → find x (together rs (lacked rs ls)) ≡ or-else (find x rs) (find x ls)
+overlay-finds x ls rs = ap (find x) (together-follow rs (lacked rs ls)) ∙ find-follow x rs (lacked rs ls) ∙ go (find x rs) (find-lacked x rs ls)
   where
     go : (o : Option Tree) → (o ≡ nothing → find x (lacked rs ls) ≡ find x ls) → or-else o (find x (lacked rs ls)) ≡ or-else o (find x ls)
     go nothing f = f refl
     go (some t) f = refl
 
-canon-or : (a b : Option Tree) → canon-found (or-else a b) ≡ or-else (canon-found a) (canon-found b)
-canon-or nothing b = refl
-canon-or (some t) b = refl
-
-objects-canon : (ls rs : Members) → concat (canon (object ls)) (canon (object rs)) ≡ gives (canon (object (together rs (lacked rs ls))))
-objects-canon ls rs = given ∙ ap (λ (a : Members). gives (object a)) same
-  where
-    given : concat (canon (object ls)) (canon (object rs)) ≡ gives (object (in-order (follow (in-order (canon-members rs)) (in-order (canon-members ls)))))
-    given = concat-given (in-order (canon-members ls)) (in-order (canon-members rs)) (rising-distinct (names (in-order (canon-members rs))) (in-order-rising (canon-members rs)))
-
-    same : in-order (follow (in-order (canon-members rs)) (in-order (canon-members ls))) ≡ in-order (canon-members (together rs (lacked rs ls)))
-    same =
-        find-unique _ _ (in-order-rising (follow (in-order (canon-members rs)) (in-order (canon-members ls)))) (in-order-rising (canon-members (together rs (lacked rs ls))))
-        (λ x.
-        concat-find (in-order (canon-members ls)) (in-order (canon-members rs)) _ given x
-        ∙ rw (canon-find x rs, canon-find x ls, ← canon-or (find x rs) (find x ls), ← overlay-finds x ls rs) (sym (canon-find x (together rs (lacked rs ls)))))
-
--- ---- any other pair
-
-canon-then : (ts us : Items) → canon-items (items-then ts us) ≡ join (canon-items ts) (canon-items us)
-canon-then none us = refl
-canon-then (item t ts) us = ap (item (canon t)) (canon-then ts us)
-
-canon-giving : (t : Tree) → canon-items (giving t) ≡ as-items (canon t)
-canon-giving null = refl
-canon-giving (boolean x) = refl
-canon-giving (number b) = refl
-canon-giving (string b) = refl
-canon-giving (extension b) = refl
-canon-giving (array ts) = refl
-canon-giving (object ms) = refl
-
-no-members : (t : Tree) → members-of t ≡ nothing → members-in (canon t) ≡ nothing
-no-members null e = refl
-no-members (boolean x) e = refl
-no-members (number b) e = refl
-no-members (string b) e = refl
-no-members (extension b) e = refl
-no-members (array ts) e = refl
-no-members (object ms) e = nothing-some (sym e)
-
-an-object : (t : Tree) (ms : Members) → members-of t ≡ some ms → t ≡ object ms
-an-object null ms e = nothing-some e
-an-object (boolean x) ms e = nothing-some e
-an-object (number b) ms e = nothing-some e
-an-object (string b) ms e = nothing-some e
-an-object (extension b) ms e = nothing-some e
-an-object (array ts) ms e = nothing-some e
-an-object (object ns) ms e = cc
-
-pub concat-canon : (t u : Tree) → concat (canon t) (canon u) ≡ gives (canon (plain-concat t u))
-concat-canon t u = go (members-of t) (members-of u) refl refl
-  where
-    items : (members-of t ≡ nothing) ⊎ (members-of u ≡ nothing) → concat (canon t) (canon u) ≡ gives (canon (array (items-then (giving t) (giving u))))
-    items h =
-        concat-items (canon t) (canon u) (⊎-elim (λ a. inl (no-members t a)) (λ b. inr (no-members u b)) h)
-        ∙ ap (λ (a : Items). gives (array a)) (sym (canon-then (giving t) (giving u) ∙ rw (canon-giving t, canon-giving u)))
-
-    go : (a b : Option Members) → members-of t ≡ a → members-of u ≡ b
-        → concat (canon t) (canon u) ≡ gives (canon (objects-or (array (items-then (giving t) (giving u))) a b))
-    go nothing b e f = items (inl e)
-    go (some ls) nothing e f = items (inr f)
-    go (some ls) (some rs) e f = rw (an-object t ls e, an-object u rs f) (objects-canon ls rs)
-
--- ---- append
-
-abbrev pub canon-answer : Answer Tree → Answer Tree
-canon-answer (gives t) = gives (canon t)
-canon-answer (refused r) = refused r
-
-pub append-canon : (t u : Tree) → append (canon t) (canon u) ≡ canon-answer (plain-append t u)
-unfolding append plain-append _>>=_
-append-canon null u = refl
-append-canon (boolean x) u = refl
-append-canon (number b) u = refl
-append-canon (string b) u = refl
-append-canon (extension b) u = refl
-append-canon (array ts) u = ap (λ (a : Items). gives (array a)) (sym (canon-then ts (item u none)))
-append-canon (object ms) u = refl
-
--- ---- the results are proper
-
-then-proper : (ts us : Items) → ProperItems ts → ProperItems us → ProperItems (items-then ts us)
-then-proper none us p q = q
-then-proper (item t ts) us p q = (p .0, then-proper ts us (p .1) q)
-
-giving-proper : (t : Tree) → Proper t → ProperItems (giving t)
-giving-proper null p = (p, tt)
-giving-proper (boolean x) p = (p, tt)
-giving-proper (number b) p = (p, tt)
-giving-proper (string b) p = (p, tt)
-giving-proper (extension b) p = (p, tt)
-giving-proper (array ts) p = p
-giving-proper (object ms) p = (p, tt)
-
+-- They are proper, as both objects are.
 lacked-fewer : (rs ls : Members) → Fewer (names (lacked rs ls)) (names ls)
 lacked-fewer rs empty = refl
 lacked-fewer rs (member n t ls) =
@@ -190,6 +94,108 @@ overlay-proper ls rs p q = (
   together-distinct rs (lacked rs ls) (q .0) (fewer-distinct (names (lacked rs ls)) (names ls) (lacked-fewer rs ls) (p .0)) (lacked-new rs ls),
   together-proper rs (lacked rs ls) (q .1) (lacked-proper rs ls (p .1)),
 )
+
+-- Equal values on either side.
+or-same : (a b a′ b′ : Option Tree) → SameFound a a′ → SameFound b b′ → SameFound (or-else a b) (or-else a′ b′)
+or-same nothing b nothing b′ h k = k
+or-same nothing b (some w) b′ h k = absurd h
+or-same (some v) b nothing b′ h k = absurd h
+or-same (some v) b (some w) b′ h k = h
+
+objects-same : (ls rs ls′ rs′ : Members) → SameMembers ls ls′ → SameMembers rs rs′ → Proper (object ls) → Proper (object rs)
+    → SameAnswer (gives (object (together rs (lacked rs ls)))) (concat (object ls′) (object rs′))
+objects-same ls rs ls′ rs′ h k p q =
+    rw given
+    (anew-same (together rs (lacked rs ls)) (follow rs′ ls′) (overlay-proper ls rs p q .0)
+    (λ x.
+    rw (overlay-finds x ls rs, find-follow x rs′ ls′)
+    (or-same (find x rs) (find x ls) (find x rs′) (find x ls′) (finds-same rs rs′ k (q .0) x) (finds-same ls ls′ h (p .0) x))))
+  where
+    given : concat (object ls′) (object rs′) ≡ gives (object (in-order (follow rs′ ls′)))
+    given = concat-given ls′ rs′ (same-distinct rs′ rs (same-members-sym rs rs′ k) (q .0))
+
+-- ---- any other pair
+
+then-same : (ts us ts′ us′ : Items) → SameItems ts ts′ → SameItems us us′ → SameItems (items-then ts us) (join ts′ us′)
+then-same none us ts′ us′ h k = rw h k
+then-same (item t ts) us ts′ us′ h k = rw (h .2) (h .0, join (h .1) us′, refl, h .3, then-same ts us (h .1) us′ (h .4) k)
+
+giving-same : (t u : Tree) → Same t u → SameItems (giving t) (as-items u)
+giving-same null u h = rw h (null, none, refl, refl, refl)
+giving-same (boolean x) u h = rw h (boolean x, none, refl, refl, refl)
+giving-same (number b) u h = rw h (number b, none, refl, refl, refl)
+giving-same (string b) u h = rw h (string b, none, refl, refl, refl)
+giving-same (extension b) u h = rw h (extension b, none, refl, refl, refl)
+giving-same (array ts) u h = rw (h .1) (h .2)
+giving-same (object ms) u h = rw (h .1) (object (h .0), none, refl, (h .0, refl, h .2), refl)
+
+no-members : (t u : Tree) → Same t u → members-of t ≡ nothing → members-in u ≡ nothing
+no-members null u h e = rw h refl
+no-members (boolean x) u h e = rw h refl
+no-members (number b) u h e = rw h refl
+no-members (string b) u h e = rw h refl
+no-members (extension b) u h e = rw h refl
+no-members (array ts) u h e = rw (h .1) refl
+no-members (object ms) u h e = nothing-some (sym e)
+
+an-object : (t : Tree) (ms : Members) → members-of t ≡ some ms → t ≡ object ms
+an-object null ms e = nothing-some e
+an-object (boolean x) ms e = nothing-some e
+an-object (number b) ms e = nothing-some e
+an-object (string b) ms e = nothing-some e
+an-object (extension b) ms e = nothing-some e
+an-object (array ts) ms e = nothing-some e
+an-object (object ns) ms e = cc
+
+module _ (t u t′ u′ : Tree) (h : Same t t′) (k : Same u u′) where
+  pub concat-same : Proper t → Proper u → SameAnswer (gives (plain-concat t u)) (concat t′ u′)
+  concat-same p q = go (members-of t) (members-of u) refl refl
+    where
+      both : (ls rs : Members) → t ≡ object ls → u ≡ object rs → SameAnswer (gives (object (together rs (lacked rs ls)))) (concat t′ u′)
+      both ls rs e f =
+          let l : Same (object ls) t′ = rw e at h in
+          let r : Same (object rs) u′ = rw f at k in
+          rw (l .1, r .1) (objects-same ls rs (l .0) (r .0) (l .2) (r .2) (rw e at p) (rw f at q))
+
+      items : (members-of t ≡ nothing) ⊎ (members-of u ≡ nothing)
+          → SameAnswer (gives (array (items-then (giving t) (giving u)))) (concat t′ u′)
+      items w =
+          rw (concat-items t′ u′ (⊎-elim (λ a. inl (no-members t t′ h a)) (λ b. inr (no-members u u′ k b)) w))
+          (_, refl, then-same (giving t) (giving u) (as-items t′) (as-items u′) (giving-same t t′ h) (giving-same u u′ k))
+
+      go : (a b : Option Members) → members-of t ≡ a → members-of u ≡ b
+          → SameAnswer (gives (objects-or (array (items-then (giving t) (giving u))) a b)) (concat t′ u′)
+      go nothing b e f = items (inl e)
+      go (some ls) nothing e f = items (inr f)
+      go (some ls) (some rs) e f = both ls rs (an-object t ls e) (an-object u rs f)
+
+-- ---- append
+
+pub append-same : (t u t′ u′ : Tree) → Same t t′ → Same u u′ → SameAnswer (plain-append t u) (append t′ u′)
+unfolding append plain-append _>>=_
+append-same null u t′ u′ h k = rw h refl
+append-same (boolean x) u t′ u′ h k = rw h refl
+append-same (number b) u t′ u′ h k = rw h refl
+append-same (string b) u t′ u′ h k = rw h refl
+append-same (extension b) u t′ u′ h k = rw h refl
+append-same (array ts) u t′ u′ h k =
+    rw (h .1) (_, refl, then-same ts (item u none) (h .0) (item u′ none) (h .2) (u′, none, refl, k, refl))
+append-same (object ms) u t′ u′ h k = rw (h .1) refl
+
+-- ---- the results are proper
+
+then-proper : (ts us : Items) → ProperItems ts → ProperItems us → ProperItems (items-then ts us)
+then-proper none us p q = q
+then-proper (item t ts) us p q = (p .0, then-proper ts us (p .1) q)
+
+giving-proper : (t : Tree) → Proper t → ProperItems (giving t)
+giving-proper null p = (p, tt)
+giving-proper (boolean x) p = (p, tt)
+giving-proper (number b) p = (p, tt)
+giving-proper (string b) p = (p, tt)
+giving-proper (extension b) p = (p, tt)
+giving-proper (array ts) p = p
+giving-proper (object ms) p = (p, tt)
 
 pub concat-proper : (t u : Tree) → Proper t → Proper u → Proper (plain-concat t u)
 concat-proper t u p q = go (members-of t) (members-of u) refl refl

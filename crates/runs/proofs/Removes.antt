@@ -1,27 +1,28 @@
--- Delete on values: the value without what the path finds is, in its sound tree, what delete leaves there.
-use Prim.Native.Nat.{ℕ, zero, suc, _<_}
-use native.Mathlib.Omega.{arith}
-use mathlib.Core.Path.{_≡_, refl, ap, sym, _∙_}
-use mathlib.Core.Logic.{_⊎_, inl, inr, ⊎-elim}
+-- Delete on values: the value without what the path finds, and what delete leaves of a tree of equal value, are equal values.
+use Prim.Native.Nat.{ℕ, zero, suc}
+use mathlib.Core.Path.{_≡_, refl, ap, sym, _∙_, subst₂}
+use mathlib.Core.Logic.{inl, inr, ⊎-elim}
 use mathlib.Core.Bool.{true}
 use mathlib.Core.List.{List, [], _∷_}
 use mathlib.Core.Option.{Option, none as nothing, some}
 use Rattle.layout.specs.Bytes.{Bytes}
 use Rattle.layout.specs.Tree.{Tree, null, boolean, number, string, extension, array, object, Items, none, item, Members, empty, member, names}
-use Rattle.builders.specs.Order.{in-order, find, distinct}
+use Rattle.layout.specs.Value.{Same, SameItems, SameMembers}
+use Rattle.layout.proofs.Sames.{same-members-sym}
+use Rattle.builders.specs.Order.{find, distinct}
 use Rattle.builders.specs.Build.{count}
-use Rattle.builders.proofs.InOrders.{in-order-rising, rising-distinct, find-in-order, has-not, distinct-cons}
+use Rattle.builders.proofs.InOrders.{has-not, distinct-cons}
+use Rattle.builders.proofs.Proper.{Proper, ProperItems, ProperMembers, same-distinct, Fewer, fewer-distinct}
 use Rattle.edits.specs.Keypath.{Step}
-use Rattle.edits.specs.Find.{_then_, step-place}
-use Rattle.edits.specs.Delete.{kept-item, change-item, change-at, change-member, anew, remains, or-same, delete}
-use Rattle.edits.proofs.Deletes.{some-inj, nothing-some, equal-or-not, find-first, find-later, not-in, find-other, find-changed, find-gone, find-unique}
+use Rattle.edits.specs.Find.{_then_, step-place, step-name, item-at, step-into, look-up}
+use Rattle.edits.specs.Delete.{kept-item, change-item, change-member, anew, remains, or-same, delete}
+use Rattle.edits.proofs.Deletes.{some-inj, nothing-some, then-some, equal-or-not, find-first, find-later, not-in, find-other, find-changed, find-gone}
 use Rattle.edits.proofs.Meanings.{deleted-missing, deleted-found}
-use Rattle.runs.specs.Plain.{member-name, item-number, how-many, numbered, taken, inward, plain-look-up, left-member, left-item, leave-named, leave-numbered, leave, rest, plain-delete}
+use Rattle.runs.specs.Plain.{member-name, item-number, how-many, numbered, taken, inward, plain-look-up}
+use Rattle.runs.specs.Plain.{left-member, left-item, leave-named, leave-numbered, leave, rest, plain-delete}
 use Rattle.runs.proofs.Named.{by-name, named-find}
-use Rattle.builders.proofs.Proper.{Proper, ProperItems, ProperMembers, Fewer, fewer-distinct}
-use Rattle.builders.specs.Canon.{canon, canon-items, canon-members, canon-found}
-use Rattle.builders.proofs.Canons.{canon-find}
-use Rattle.runs.proofs.Looks.{canon-count, numbered-step, same-name, step-canon, look-up-canon, ProperFound, taken-proper}
+use Rattle.runs.proofs.Alikes.{SameFound, some-same, none-same, finds-same, anew-same}
+use Rattle.runs.proofs.Looks.{count-same, place-number, same-name, ProperFound, taken-proper, step-same, look-up-same}
 
 -- ---- members
 
@@ -46,7 +47,7 @@ leave-other f n x (member m t ms) h =
         (equal-or-not x m)
 
 -- A name that finds nothing leaves all.
-pub leave-missing : (f : Tree → Option Tree) (n : Bytes) (ms : Members) → find n ms ≡ nothing → leave-named f n ms ≡ ms
+leave-missing : (f : Tree → Option Tree) (n : Bytes) (ms : Members) → find n ms ≡ nothing → leave-named f n ms ≡ ms
 leave-missing f n empty e = refl
 leave-missing f n (member m t ms) e =
     by-name n m (λ (a : Members). a ≡ member m t ms) _ _
@@ -83,43 +84,18 @@ leave-kept f n (member m t ms) c d e g =
     rw (leave-missing f n ms gone, same, g))
     (λ h. ap (member m t) (leave-kept f n ms c (k .1) (sym (find-later n m t ms h) ∙ e) g))
 
--- An object, with what is left of a member.
-leave-members : (f : Tree → Option Tree) (n : Bytes) (ms : Members) (c : Tree) → distinct (names ms) ≡ true → find n ms ≡ some c
-    → in-order (canon-members (leave-named f n ms)) ≡ in-order (change-member (canon-found (f c)) n (in-order (canon-members ms)))
-leave-members f n ms c d e =
-    find-unique _ _ (in-order-rising (canon-members (leave-named f n ms))) (in-order-rising (change-member (canon-found (f c)) n (in-order (canon-members ms))))
-    (λ x. canon-find x (leave-named f n ms) ∙ ⊎-elim (λ q. here x q) (λ h. there x h) (equal-or-not x n)
-    ∙ sym (find-in-order x (change-member (canon-found (f c)) n (in-order (canon-members ms)))))
+leave-fewer : (f : Tree → Option Tree) (n : Bytes) (ms : Members) → Fewer (names (leave-named f n ms)) (names ms)
+leave-fewer f n empty = refl
+leave-fewer f n (member m t ms) =
+    by-name n m (λ (a : Members). Fewer (names a) (names (member m t ms))) _ _
+    (λ _. here (f t) (leave-fewer f n ms))
+    (λ _. inr (names (leave-named f n ms), refl, leave-fewer f n ms))
   where
-    left-here : (o : Option Tree) → o ≡ find n (change-member o n (in-order (canon-members ms)))
-    left-here nothing =
-        let ns = in-order (canon-members ms) in
-        sym (find-gone n ns (rising-distinct (names ns) (in-order-rising (canon-members ms))))
-    left-here (some u) = sym (find-changed n u (in-order (canon-members ms)) (canon c) (canon-find n ms ∙ ap canon-found e))
-
-    here : (x : Bytes) → x ≡ n → canon-found (find x (leave-named f n ms)) ≡ find x (change-member (canon-found (f c)) n (in-order (canon-members ms)))
-    here x q = rw q (ap canon-found (leave-here f n ms c d e) ∙ left-here (canon-found (f c)))
-
-    there : (x : Bytes) → (x ≡ n → ⊥) → canon-found (find x (leave-named f n ms)) ≡ find x (change-member (canon-found (f c)) n (in-order (canon-members ms)))
-    there x h =
-        ap canon-found (leave-other f n x ms h) ∙ sym (canon-find x ms) ∙ sym (find-other (canon-found (f c)) n x (in-order (canon-members ms)) h)
+    here : (o : Option Tree) → Fewer (names (leave-named f n ms)) (names ms) → Fewer (names (left-member m o (leave-named f n ms))) (names (member m t ms))
+    here nothing k = inl k
+    here (some u) k = inr (names (leave-named f n ms), refl, k)
 
 -- ---- items
-
-numbered-below : (i : ℕ) (ts : Items) (c : Tree) → numbered (some i) ts ≡ some c → i < how-many ts
-numbered-below i none c e = nothing-some e
-numbered-below zero (item t ts) c e = omega arith
-numbered-below (suc i) (item t ts) c e = omega (arith, numbered-below i ts c e)
-
-leave-items : (f : Tree → Option Tree) (i : ℕ) (ts : Items) (c : Tree) → numbered (some i) ts ≡ some c
-    → canon-items (leave-numbered f (some i) ts) ≡ change-item (canon-found (f c)) i (canon-items ts)
-leave-items f i none c e = refl
-leave-items f zero (item t ts) c e = rw (some-inj e) (here (f c))
-  where
-    here : (o : Option Tree) → canon-items (left-item o ts) ≡ kept-item (canon-found o) (canon-items ts)
-    here nothing = refl
-    here (some u) = refl
-leave-items f (suc i) (item t ts) c e = ap (item (canon t)) (leave-items f i ts c e)
 
 -- A number that finds nothing leaves all, and so does what is left as it is.
 leave-no-item : (f : Tree → Option Tree) (o : Option ℕ) (ts : Items) → numbered o ts ≡ nothing → leave-numbered f o ts ≡ ts
@@ -134,25 +110,7 @@ leave-same-item f (some i) none c e g = refl
 leave-same-item f (some zero) (item t ts) c e g = rw (some-inj e, g)
 leave-same-item f (some (suc i)) (item t ts) c e g = ap (item t) (leave-same-item f (some i) ts c e g)
 
-leave-array : (f : Tree → Option Tree) (s : Step) (ts : Items) (c : Tree) (o : Option ℕ) → item-number s (how-many ts) ≡ o → numbered o ts ≡ some c
-    → canon-items (leave-numbered f o ts) ≡ change-at (canon-found (f c)) (step-place s (count (canon-items ts))) (canon-items ts)
-leave-array f s ts c nothing q e = nothing-some e
-leave-array f s ts c (some i) q e =
-    let at : step-place s (count (canon-items ts)) ≡ some i =
-    numbered-step s (canon-items ts) i (ap (item-number s) (canon-count ts) ∙ q) (omega (arith, canon-count ts, numbered-below i ts c e)) in
-    rw at (leave-items f i ts c e)
-
--- ---- one step
-
-leave-canon : (f : Tree → Option Tree) (s : Step) (t c : Tree) → Proper t → taken s t ≡ some c → canon (leave f s t) ≡ anew (canon-found (f c)) s (canon t)
-leave-canon f s null c p e = nothing-some e
-leave-canon f s (boolean x) c p e = nothing-some e
-leave-canon f s (number b) c p e = nothing-some e
-leave-canon f s (string b) c p e = nothing-some e
-leave-canon f s (extension b) c p e = nothing-some e
-leave-canon f s (array ts) c p e = ap array (leave-array f s ts c (item-number s (how-many ts)) refl e)
-leave-canon f s (object ms) c p e =
-    rw (same-name s) (ap object (leave-members f (member-name s) ms c (p .0) (sym (named-find (member-name s) ms) ∙ e)))
+-- ---- a step that finds nothing, or leaves what it finds
 
 leave-none : (f : Tree → Option Tree) (s : Step) (t : Tree) → taken s t ≡ nothing → leave f s t ≡ t
 leave-none f s null e = refl
@@ -172,10 +130,63 @@ leave-same f s (extension b) c p e g = refl
 leave-same f s (array ts) c p e g = ap array (leave-same-item f (item-number s (how-many ts)) ts c e g)
 leave-same f s (object ms) c p e g = ap object (leave-kept f (member-name s) ms c (p .0) (sym (named-find (member-name s) ms) ∙ e) g)
 
+-- ---- one step
+
+-- What is left of the item that is found, on both sides.
+items-left : (v w : Option Tree) (ts us : Items) → SameFound v w → SameItems ts us → SameItems (left-item v ts) (kept-item w us)
+items-left nothing nothing ts us k h = h
+items-left nothing (some w) ts us k h = absurd k
+items-left (some v) nothing ts us k h = absurd k
+items-left (some v) (some w) ts us k h = (w, us, refl, k, h)
+
+-- The name of the member that is changed finds what is left of it.
+change-here : (o : Option Tree) (n : Bytes) (ns : Members) (c : Tree) → distinct (names ns) ≡ true → find n ns ≡ some c
+    → find n (change-member o n ns) ≡ o
+change-here nothing n ns c d e = find-gone n ns d
+change-here (some u) n ns c d e = find-changed n u ns c e
+
+module _ (f : Tree → Option Tree) (o : Option Tree) (c : Tree) (k : SameFound (f c) o) where
+  leave-members : (n : Bytes) (ms ns : Members) (c′ : Tree) → SameMembers ms ns → distinct (names ms) ≡ true → find n ms ≡ some c
+      → find n ns ≡ some c′ → (x : Bytes) → SameFound (find x (leave-named f n ms)) (find x (change-member o n ns))
+  leave-members n ms ns c′ h d e e′ x =
+      let d′ = same-distinct ns ms (same-members-sym ms ns h) d in
+      ⊎-elim
+      (λ (q : x ≡ n). rw (q, leave-here f n ms c d e, change-here o n ns c′ d′ e′) k)
+      (λ w. subst₂ SameFound (sym (leave-other f n x ms w)) (sym (find-other o n x ns w)) (finds-same ms ns h d x))
+      (equal-or-not x n)
+
+  leave-items : (i : ℕ) (ts us : Items) → SameItems ts us → numbered (some i) ts ≡ some c
+      → SameItems (leave-numbered f (some i) ts) (change-item o i us)
+  leave-items i none us h e = nothing-some e
+  leave-items zero (item t ts) us h e = rw (h .2, some-inj e) (items-left (f c) o ts (h .1) k (h .4))
+  leave-items (suc i) (item t ts) us h e = rw (h .2) (h .0, change-item o i (h .1), refl, h .3, leave-items i ts (h .1) (h .4) e)
+
+  leave-same-value : (s : Step) (t u c′ : Tree) → Same t u → Proper t → taken s t ≡ some c → step-into s u ≡ some c′
+      → Same (leave f s t) (anew o s u)
+  leave-same-value s null u c′ h p e e′ = nothing-some e
+  leave-same-value s (boolean x) u c′ h p e e′ = nothing-some e
+  leave-same-value s (number b) u c′ h p e e′ = nothing-some e
+  leave-same-value s (string b) u c′ h p e e′ = nothing-some e
+  leave-same-value s (extension b) u c′ h p e e′ = nothing-some e
+  leave-same-value s (array ts) u c′ h p e e′ =
+      let us = h .0 in
+      let g = then-some (step-place s (count us)) (item-at us) c′ (rw (h .1) at e′) in
+      let i = g .0 in
+      let n : item-number s (how-many ts) ≡ some i = ap (item-number s) (sym (count-same ts us (h .2))) ∙ place-number s (count us) i (g .1) in
+      rw (h .1, g .1, n) (change-item o i us, refl, leave-items i ts us (h .2) (ap (λ (o : Option ℕ). numbered o ts) (sym n) ∙ e))
+  leave-same-value s (object ms) u c′ h p e e′ =
+      let n = member-name s in
+      let ns = h .0 in
+      let found : find (step-name s) ns ≡ some c′ = rw (h .1) at e′ in
+      rw (h .1, same-name s)
+      (anew-same (leave-named f n ms) (change-member o n ns)
+      (fewer-distinct (names (leave-named f n ms)) (names ms) (leave-fewer f n ms) (p .0))
+      (leave-members n ms ns c′ (h .2) (p .0) (sym (named-find n ms) ∙ e) (ap (λ (x : Bytes). find x ns) (sym (same-name s)) ∙ found)))
+
 -- ---- paths
 
 -- A path that finds nothing leaves the value.
-pub plain-missing : (p : List Step) (t : Tree) → Proper t → plain-look-up p t ≡ nothing → plain-delete p t ≡ t
+plain-missing : (p : List Step) (t : Tree) → Proper t → plain-look-up p t ≡ nothing → plain-delete p t ≡ t
 plain-missing [] t h e = nothing-some (sym e)
 plain-missing (s ∷ p) t h e = go (taken s t) refl (taken-proper s t h) e (λ c k m. rest-same p c m (plain-missing p c k m))
   where
@@ -189,42 +200,32 @@ plain-missing (s ∷ p) t h e = go (taken s t) refl (taken-proper s t h) e (λ c
     go (some c) q k m f = leave-same (rest p) s t c h q (f c k m)
 
 -- What is left where the path finds something.
-rest-canon : (p : List Step) (t v : Tree) → plain-look-up p t ≡ some v → canon (plain-delete p t) ≡ delete p (canon t)
-    → canon-found (rest p t) ≡ remains p (canon t)
-rest-canon [] t v e q = refl
-rest-canon (s ∷ p) t v e q =
-    ap some q ∙ ap (λ (o : Option Tree). some (or-same (canon t) (o then λ _. remains (s ∷ p) (canon t)))) (look-up-canon (s ∷ p) t ∙ ap canon-found e)
+rest-same : (p : List Step) (c c′ v : Tree) → look-up p c′ ≡ some v → Same (plain-delete p c) (delete p c′)
+    → SameFound (rest p c) (remains p c′)
+rest-same [] c c′ v e h = tt
+rest-same (s ∷ p) c c′ v e h =
+    let is : delete (s ∷ p) c′ ≡ anew (step-into s c′ then remains p) s c′ =
+    ap (λ (o : Option Tree). or-same c′ (o then λ _. remains (s ∷ p) c′)) e in
+    rw is at h
 
-pub delete-canon : (p : List Step) (t : Tree) → Proper t → canon (plain-delete p t) ≡ delete p (canon t)
-delete-canon [] t h = refl
-delete-canon (s ∷ p) t h = whether (plain-look-up (s ∷ p) t) refl (delete-canon p)
+pub delete-same : (p : List Step) (t u : Tree) → Same t u → Proper t → Same (plain-delete p t) (delete p u)
+delete-same [] t u h k = h
+delete-same (s ∷ p) t u h k = whether (look-up (s ∷ p) u) refl (look-up-same (s ∷ p) t u h k) (delete-same p)
   where
-    found : (v : Tree) (o : Option Tree) → taken s t ≡ o → ProperFound o → inward o (plain-look-up p) ≡ some v
-        → ((c : Tree) → Proper c → canon (plain-delete p c) ≡ delete p (canon c)) → canon (leave (rest p) s t) ≡ delete (s ∷ p) (canon t)
-    found v nothing q k e f = nothing-some e
-    found v (some c) q k e f =
-        leave-canon (rest p) s t c h q
-        ∙ ap (λ (o : Option Tree). anew o s (canon t)) (rest-canon p c v e (f c k))
-        ∙ sym (deleted-found s p (canon t) (canon c) (canon v) (step-canon s t ∙ ap canon-found q) (look-up-canon p c ∙ ap canon-found e))
-
-    whether : (o : Option Tree) → plain-look-up (s ∷ p) t ≡ o → ((c : Tree) → Proper c → canon (plain-delete p c) ≡ delete p (canon c))
-        → canon (plain-delete (s ∷ p) t) ≡ delete (s ∷ p) (canon t)
-    whether nothing e f =
-        ap canon (plain-missing (s ∷ p) t h e) ∙ sym (deleted-missing (s ∷ p) (canon t) (look-up-canon (s ∷ p) t ∙ ap canon-found e))
-    whether (some v) e f = found v (taken s t) refl (taken-proper s t h) e f
+    whether : (o : Option Tree) → look-up (s ∷ p) u ≡ o → SameFound (plain-look-up (s ∷ p) t) o
+        → ((c c′ : Tree) → Same c c′ → Proper c → Same (plain-delete p c) (delete p c′))
+        → Same (plain-delete (s ∷ p) t) (delete (s ∷ p) u)
+    whether nothing e q f = rw (deleted-missing (s ∷ p) u e, plain-missing (s ∷ p) t k (none-same (plain-look-up (s ∷ p) t) q)) h
+    whether (some v) e q f =
+        let g = then-some (step-into s u) (look-up p) v e in
+        let c′ = g .0 in
+        let w = some-same (taken s t) c′ (rw (g .1) at (step-same s t u h k)) in
+        let c = w .0 in
+        let proper : ProperFound (some c) = rw (w .1) at (taken-proper s t k) in
+        rw (deleted-found s p u c′ v (g .1) (g .2))
+        (leave-same-value (rest p) (remains p c′) c (rest-same p c c′ v (g .2) (f c c′ (w .2) proper)) s t u c′ h k (w .1) (g .1))
 
 -- ---- what is left is proper
-
-pub leave-fewer : (f : Tree → Option Tree) (n : Bytes) (ms : Members) → Fewer (names (leave-named f n ms)) (names ms)
-leave-fewer f n empty = refl
-leave-fewer f n (member m t ms) =
-    by-name n m (λ (a : Members). Fewer (names a) (names (member m t ms))) _ _
-    (λ _. here (f t) (leave-fewer f n ms))
-    (λ _. inr (names (leave-named f n ms), refl, leave-fewer f n ms))
-  where
-    here : (o : Option Tree) → Fewer (names (leave-named f n ms)) (names ms) → Fewer (names (left-member m o (leave-named f n ms))) (names (member m t ms))
-    here nothing k = inl k
-    here (some u) k = inr (names (leave-named f n ms), refl, k)
 
 module _ (f : Tree → Option Tree) (keeps : (t : Tree) → Proper t → ProperFound (f t)) where
   leave-members-proper : (n : Bytes) (ms : Members) → ProperMembers ms → ProperMembers (leave-named f n ms)

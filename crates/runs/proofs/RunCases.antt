@@ -20,7 +20,7 @@ use Rattle.runs.specs.declared.call.Edit.the-variants.{Get, Delete, Conc
 use Rattle.runs.specs.Call.{Call, outcome}
 use Rattle.runs.specs.Account.{edited}
 use Rattle.runs.specs.Demand.{SoundWith, Start, after-run}
-use Rattle.runs.specs.Seen.{Seen, History, after-seen}
+use Rattle.runs.specs.Seen.{History, after-seen}
 use Rattle.runs.proofs.Demands.{demand-3}
 use Rattle.runs.proofs.Histories.{demand-3-seen}
 use Rattle.runs.proofs.Samples.{one, one-value, one-sound, true-a, true-a-value, true-a-sound, true-b, true-b-value, true-b-sound}

@@ -1,8 +1,8 @@
--- Demand 2, proved: the statement is specs/Demand2.antt. An edit gives a tree with the value of the plain edit on the tree that was read
--- (Unsorted.antt), and the plain edits do not see the order of members: on equal values they give equal values.
+-- Demand 2, proved: the statement is specs/Demand2.antt. For each edit there is a law that the plain edit of a value, and the edit of a tree
+-- of equal value, give equal values: `look-up-same`, `delete-same`, `concat-same`, `stripped-same`, `append-same` and `build-same`.
 use Prim.Native.Nat.{ℕ, _<_, _≤_}
 use native.Mathlib.Omega.{arith}
-use mathlib.Core.Path.{_≡_, refl, ap, ap₂, sym, _∙_}
+use mathlib.Core.Path.{_≡_, refl, ap, sym, _∙_}
 use mathlib.Core.Bool.{Bool, true, false, not, cond, _&&_, _||_}
 use mathlib.Core.List.{List}
 use mathlib.Core.Option.{Option, none as nothing, some}
@@ -23,13 +23,13 @@ use Rattle.layout.specs.declared.refusal.Refusal.the-variants.{Kind, Result, Bu
 use Rattle.layout.specs.declared.ending.Ending.{Ending}
 use Rattle.layout.specs.declared.ending.Ending.the-variants.{Done}
 use Rattle.layout.specs.Pipeline.{within, found, written}
-use Rattle.layout.proofs.Answers.{gives-inj, refused-gives}
+use Rattle.layout.proofs.Answers.{gives-inj}
 use Rattle.layout.proofs.Decoding.{read-sound}
 use Rattle.layout.proofs.Encoding.{read-encode}
 use Rattle.layout.proofs.Readables.{length-encode}
-use Rattle.layout.proofs.Sames.{same-sym, same-trans}
+use Rattle.layout.proofs.Sames.{same-sym}
 use Rattle.builders.specs.Build.{append, build}
-use Rattle.builders.specs.Canon.{canon, canon-found}
+use Rattle.builders.specs.Canon.{canon}
 use Rattle.builders.proofs.Results.{on-two-is, within-is}
 use Rattle.builders.proofs.Proper.{Proper, proper-valid, proper-octets, encoded-octets, same-proper}
 use Rattle.builders.proofs.Canons.{canon-depth, canon-length, same-canons}
@@ -39,7 +39,6 @@ use Rattle.edits.specs.Delete.{delete, deletable}
 use Rattle.edits.specs.Path.{get-by, delete-by}
 use Rattle.edits.specs.Concat.{concat}
 use Rattle.edits.specs.Strip.{stripped, strip}
-use Rattle.edits.proofs.Deletes.{some-inj, nothing-some}
 use Rattle.edits.proofs.Kept.{NoMore, look-up-kept, delete-kept}
 use Rattle.edits.proofs.Lookups.{get-is}
 use Rattle.edits.proofs.Strips.{strip-shrinks}
@@ -52,12 +51,12 @@ use Rattle.runs.specs.Plain.{plain-look-up, plain-delete, no-delete, pla
 use Rattle.runs.specs.Account.{Entry, value, absence as absent, refusal as refuse, fitting, entered, edited, entry-ending}
 use Rattle.runs.specs.Demand2.{OnceWith, Yields, Demand-2, SeenAs, Demand-2-seen}
 use Rattle.runs.proofs.Onces.{once-proper, proper-once}
-use Rattle.runs.proofs.Looks.{look-up-canon, ProperFound, look-up-proper}
-use Rattle.runs.proofs.Removes.{delete-canon, delete-proper}
-use Rattle.runs.proofs.Overlaid.{concat-canon, concat-proper, canon-answer, append-canon, append-proper}
-use Rattle.runs.proofs.Cleaned.{stripped-canon, strip-proper}
-use Rattle.runs.proofs.Built.{build-canon, build-proper}
-use Rattle.runs.proofs.Unsorted.{look-up-plain, delete-plain, SameAnswer, concat-plain, stripped-plain, strip-plain, append-plain, build-plain}
+use Rattle.runs.proofs.Alikes.{SameFound, SameAnswer}
+use Rattle.runs.proofs.Looks.{ProperFound, look-up-proper, look-up-same}
+use Rattle.runs.proofs.Removes.{delete-proper, delete-same}
+use Rattle.runs.proofs.Overlaid.{concat-proper, concat-same, append-proper, append-same}
+use Rattle.runs.proofs.Cleaned.{strip-proper, stripped-same, strip-proper-given}
+use Rattle.runs.proofs.Built.{build-proper, build-same}
 
 -- ---- values and their records
 
@@ -82,9 +81,6 @@ has-of b v h =
       deep = r .0 .deep;
       long = omega (arith, length-encode t, ap length (r .0 .bytes), r .1);
     }
-
-canons : (v t : Tree) → Has v t → canon v ≡ canon t
-canons v t h = same-canons v t (h .proper) (h .proper-tree) .0 (h .same)
 
 -- Equal values have records of one length and depth.
 module _ (v w : Tree) (p : Proper v) (s : Same v w) where
@@ -152,6 +148,16 @@ module _ (v w : Tree) (p : Proper v) (s : Same v w) (room : ℕ) where
 
 -- ---- the edits of one record
 
+-- Of equal values both are of a kind that delete takes, or neither.
+no-delete-same : (t u : Tree) → Same t u → no-delete u ≡ no-delete t
+no-delete-same null u h = rw h refl
+no-delete-same (boolean x) u h = rw h refl
+no-delete-same (number b) u h = rw h refl
+no-delete-same (string b) u h = rw h refl
+no-delete-same (extension b) u h = rw h refl
+no-delete-same (array ts) u h = rw (h .1) refl
+no-delete-same (object ms) u h = rw (h .1) refl
+
 module _ (t t′ : Tree) (h : Has t t′) (room : ℕ) where
   -- A tree that is no more than the record's.
   yields-no-more : (v w : Tree) → Proper v → Same v w → NoMore w t′ → Yields (into room (encode w)) (fitting room v)
@@ -161,48 +167,23 @@ module _ (t t′ : Tree) (h : Has t t′) (room : ℕ) where
   unfolding edited _>>=_
   yields-get u path = go (path-of path)
     where
-      finds : (p : List Step) (o o′ : Option Tree) → look-up p t′ ≡ o′ → canon-found o ≡ canon-found o′ → ProperFound o → ProperFound o′
+      finds : (p : List Step) (o o′ : Option Tree) → look-up p t′ ≡ o′ → SameFound o o′ → ProperFound o
           → Yields (found room (gives o′)) (entered room (gives o))
-      finds p nothing nothing f e q r = refl
-      finds p nothing (some w) f e q r = nothing-some e
-      finds p (some v) nothing f e q r = nothing-some (sym e)
-      finds p (some v) (some w) f e q r = yields-no-more v w q (same-canons v w q r .1 (some-inj e)) (look-up-kept p t′ w f)
-
-      canons-found : (p : List Step) → canon-found (plain-look-up p t) ≡ canon-found (plain-look-up p t′)
-      canons-found p = sym (look-up-canon p t) ∙ ap (look-up p) (canons t t′ h) ∙ look-up-canon p t′
+      finds p nothing nothing f e q = refl
+      finds p nothing (some w) f e q = absurd e
+      finds p (some v) nothing f e q = absurd e
+      finds p (some v) (some w) f e q = yields-no-more v w q e (look-up-kept p t′ w f)
 
       go : (m : Answer (List Step)) → Yields (found room (m >>= λ p. get-by p t′)) (entered room (m >>= λ p. gives (plain-look-up p t)))
       go (refused r) = refl
       go (gives p) =
-          rw (get-is p t′, look-up-plain p t′)
-          (finds p (plain-look-up p t) (plain-look-up p t′) (look-up-plain p t′) (canons-found p)
-          (look-up-proper p t (h .proper)) (look-up-proper p t′ (h .proper-tree)))
-
-  same-deleted : (p : List Step) → Same (plain-delete p t) (delete p t′)
-  same-deleted p =
-      let e : canon (plain-delete p t) ≡ canon (plain-delete p t′) =
-      delete-canon p t (h .proper) ∙ ap (delete p) (canons t t′ h) ∙ sym (delete-canon p t′ (h .proper-tree)) in
-      same-trans (plain-delete p t) (plain-delete p t′) (delete p t′)
-      (same-canons (plain-delete p t) (plain-delete p t′) (delete-proper p t (h .proper)) (delete-proper p t′ (h .proper-tree)) .1 e)
-      (delete-plain p t′ (h .proper-tree))
-
-  -- Both are of a kind that delete takes, or neither.
-  one-kind : no-delete t ≡ no-delete t′
-  one-kind = sym (kind-canon t) ∙ ap no-delete (canons t t′ h) ∙ kind-canon t′
-    where
-      kind-canon : (t : Tree) → no-delete (canon t) ≡ no-delete t
-      kind-canon null = refl
-      kind-canon (boolean x) = refl
-      kind-canon (number b) = refl
-      kind-canon (string b) = refl
-      kind-canon (extension b) = refl
-      kind-canon (array ts) = refl
-      kind-canon (object ms) = refl
+          rw (get-is p t′)
+          (finds p (plain-look-up p t) (look-up p t′) refl (look-up-same p t t′ (h .same) (h .proper)) (look-up-proper p t (h .proper)))
 
   yields-delete : (u : Tree) (path : Bytes)
       → Yields (found room (path-of path >>= λ p. delete-by p t′)) (entered room (edited Delete t u path))
   unfolding edited _>>=_ require delete-by
-  yields-delete u path = rw one-kind (go (path-of path))
+  yields-delete u path = rw (← no-delete-same t t′ (h .same)) (go (path-of path))
     where
       by-kind : (t′ : Tree) (p : List Step) → Yields (into room (encode (delete p t′))) (fitting room (plain-delete p t))
           → Yields (found room (deletable t′ >>= λ u. gives (some (delete p u))))
@@ -219,70 +200,45 @@ module _ (t t′ : Tree) (h : Has t t′) (room : ℕ) where
           (entered room (m >>= λ p. require (not (no-delete t′)) Kind >>= λ _. gives (some (plain-delete p t))))
       go (refused r) = refl
       go (gives p) =
-          by-kind t′ p (yields-no-more (plain-delete p t) (delete p t′) (delete-proper p t (h .proper)) (same-deleted p) (delete-kept p t′))
-
-  same-stripped : Same (plain-strip t) (stripped t′)
-  same-stripped =
-      let e : canon (plain-strip t) ≡ canon (plain-strip t′) =
-      sym (stripped-canon t (h .proper)) ∙ ap stripped (canons t t′ h) ∙ stripped-canon t′ (h .proper-tree) in
-      same-trans (plain-strip t) (plain-strip t′) (stripped t′)
-      (same-canons (plain-strip t) (plain-strip t′) (strip-proper t (h .proper)) (strip-proper t′ (h .proper-tree)) .1 e)
-      (stripped-plain t′ (h .proper-tree))
+          by-kind t′ p
+          (yields-no-more (plain-delete p t) (delete p t′) (delete-proper p t (h .proper)) (delete-same p t t′ (h .same) (h .proper)) (delete-kept p t′))
 
   yields-strip : (u : Tree) (path : Bytes) → Yields (written room (strip t′)) (entered room (edited Strip t u path))
   unfolding edited
   yields-strip u path =
-      rw (strip-plain t′ (h .proper-tree))
-      (yields-no-more (plain-strip t) (stripped t′) (strip-proper t (h .proper)) same-stripped (strip-shrinks t′))
+      rw (strip-proper-given t′ (h .proper-tree))
+      (yields-no-more (plain-strip t) (stripped t′) (strip-proper t (h .proper)) (stripped-same t t′ (h .same) (h .proper)) (strip-shrinks t′))
 
 -- ---- the edits of two records
 
-refused-inj : {q r : Refusal} → _≡_ {A = Answer Tree} (refused q) (refused r) → q ≡ r
-refused-inj e = cc
-
-refused-not : {C : Type 0} {r : Refusal} {v : Tree} → gives v ≡ refused r → C
-refused-not e = refused-gives (sym e)
-
--- The account's answer `m` on values, the same `n` on the trees that are read, and the edit's answer `a` on these.
-answer-yields : (room : ℕ) (m n a : Answer Tree) → canon-answer m ≡ canon-answer n
-    → ((v : Tree) → m ≡ gives v → Proper v) → ((v : Tree) → n ≡ gives v → Proper v) → SameAnswer n a
+-- The plain edit's answer `m` on values, and the edit's answer `a` on the trees that are read.
+answer-yields : (room : ℕ) (m a : Answer Tree) → ((v : Tree) → m ≡ gives v → Proper v) → SameAnswer m a
     → Yields (written room (a >>= λ w. within w)) (entered room (m >>= λ v. gives (some v)))
 unfolding _>>=_
-answer-yields room (gives v) (gives x) (gives w) e p q s =
-    yields-within v w (p v refl) (same-trans v x w (same-canons v x (p v refl) (q x refl) .1 (gives-inj e)) s) room
-answer-yields room (gives v) (gives x) (refused r) e p q s = absurd s
-answer-yields room (gives v) (refused r) a e p q s = refused-not e
-answer-yields room (refused r) (gives x) a e p q s = refused-gives e
-answer-yields room (refused r) (refused x) (gives w) e p q s = absurd s
-answer-yields room (refused r) (refused x) (refused y) e p q s = ap refusal (sym (refused-inj e ∙ s))
+answer-yields room (gives v) (gives w) p s = yields-within v w (p v refl) s room
+answer-yields room (gives v) (refused r) p s = absurd s
+answer-yields room (refused q) (gives w) p s = absurd s
+answer-yields room (refused q) (refused r) p s = ap refusal (sym s)
 
 module _ (t t′ u u′ : Tree) (h : Has t t′) (k : Has u u′) (room : ℕ) (path : Bytes) where
   yields-concat : Yields (written room (concat t′ u′ >>= λ w. within w)) (entered room (edited Concat t u path))
   unfolding edited _>>=_
   yields-concat =
-      answer-yields room (gives (plain-concat t u)) (gives (plain-concat t′ u′)) (concat t′ u′)
-      (sym (concat-canon t u) ∙ ap₂ concat (canons t t′ h) (canons u u′ k) ∙ concat-canon t′ u′)
+      answer-yields room (gives (plain-concat t u)) (concat t′ u′)
       (λ v e. rw (← gives-inj {x = plain-concat t u} e) (concat-proper t u (h .proper) (k .proper)))
-      (λ v e. rw (← gives-inj {x = plain-concat t′ u′} e) (concat-proper t′ u′ (h .proper-tree) (k .proper-tree)))
-      (concat-plain t′ u′ (h .proper-tree) (k .proper-tree))
+      (concat-same t u t′ u′ (h .same) (k .same) (h .proper) (k .proper))
 
   yields-append : Yields (written room (append t′ u′ >>= λ w. within w)) (entered room (edited Append t u path))
   unfolding edited
   yields-append =
-      answer-yields room (plain-append t u) (plain-append t′ u′) (append t′ u′)
-      (sym (append-canon t u) ∙ ap₂ append (canons t t′ h) (canons u u′ k) ∙ append-canon t′ u′)
-      (λ v e. append-proper t u v (h .proper) (k .proper) e)
-      (λ v e. append-proper t′ u′ v (h .proper-tree) (k .proper-tree) e)
-      (append-plain t′ u′)
+      answer-yields room (plain-append t u) (append t′ u′) (λ v e. append-proper t u v (h .proper) (k .proper) e)
+      (append-same t u t′ u′ (h .same) (k .same))
 
   yields-build : Yields (written room (build t′ u′ >>= λ w. within w)) (entered room (edited Build t u path))
   unfolding edited
   yields-build =
-      answer-yields room (plain-build t u) (plain-build t′ u′) (build t′ u′)
-      (sym (build-canon t u) ∙ ap₂ build (canons t t′ h) (canons u u′ k) ∙ build-canon t′ u′)
-      (λ v e. build-proper t u v (h .proper) (k .proper) e)
-      (λ v e. build-proper t′ u′ v (h .proper-tree) (k .proper-tree) e)
-      (build-plain t′ u′)
+      answer-yields room (plain-build t u) (build t′ u′) (λ v e. build-proper t u v (h .proper) (k .proper) e)
+      (build-same t u t′ u′ (h .same) (k .same))
 
 -- ---- any edit
 
