@@ -1,7 +1,7 @@
 -- Demand 2: "each edit yields the value described". The value described is the plain edit of Plain.antt on the values of the records,
 -- with the absence and the numbers of Account.antt. It is said of every readable record in which no object has a name twice, in
--- whatever order its names stand: document 01, "Where the manual and the Rust differ (.. a repeated name, the order of names), the
--- Rust's bytes hold". It is proved as `demand-2` of proofs/Yields.antt.
+-- whatever order its names stand; it is proved as `demand-2` of proofs/Yields.antt. Of a repeated name document 01 says "the Rust's
+-- bytes hold": what these mean is said by the laws Firsts, Concats and Strips of edits.
 use Prim.Native.Nat.{ℕ}
 use lib.Dec.{T}
 use lib.ListN.{length, take, drop}
@@ -58,20 +58,20 @@ pub record OnceWith (b : Bytes) (v : Tree) : Type 0 where
 
 -- ---- what an edit yields
 
--- What document 01 gives a call, beside what the plain edit makes of the values: where that is a value, a result, which is a record
--- with this value; where it is an absence or a number, the same.
+-- What document 01 gives a call, beside what the plain edit makes of the values. Where that is a value, the call gives a result, and
+-- the result is a readable record with this value; where it is an absence or a number, so is the call's.
 abbrev pub Yields : Outcome → Entry → Type 0
 Yields o (value v) = (b : Bytes) × (o ≡ result b) × OnceWith b v
 Yields o absence = o ≡ absent
 Yields o (refusal r) = o ≡ refuses r
 
 pub record Demand-2 : Type 0 where
-  -- Each of the six edits, on records with the values `t` and `u`, any bytes as path, and a buffer of `room` bytes. `outcome` is what
-  -- the functions promise; `edited` is the plain edit, with 6, 7, an absence and 8, and `entered` adds 9 and 10.
+  -- "Each edit", on records with the values `t` and `u`, with any bytes as path and a buffer of `room` bytes: `outcome` is what the
+  -- functions promise, `edited` the plain edit with "path, 7, absence, 8", and `entered` adds "9, 10".
   pub each-yields : (e : Edit) (left right path : Bytes) (room : ℕ) (t u : Tree)
       → OnceWith left t → (T (takes-two e) → OnceWith right u)
       → Yields (outcome e left right path room) (entered room (edited e t u path))
-  -- "Order: left record, right record, path, ..": bytes that are not readable give their own number, from 1 to 5.
+  -- "Left record, right record", and only then the rest: bytes that are not readable give their own number, from 1 to 5.
   pub left-refused : (e : Edit) (left right path : Bytes) (room : ℕ) (r : Refusal)
       → read left ≡ refused r
       → outcome e left right path room ≡ refuses r

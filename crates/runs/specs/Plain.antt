@@ -1,6 +1,6 @@
 -- The six edits on values: document 01, "Runs and their plain account", sentence by sentence. A value is written as a tree in which
 -- the members of an object stand in some order that means nothing: values are equal by layout's `Same`. Nothing here sorts, and no
--- contract cites it. Paths are read, and indexes spelled, by `path-of` and `index-text` of edits' `Path`.
+-- contract cites it. Paths are read, and indexes spelled, by `path-of` and `index-text` of edits' `Keypath`.
 use Prim.Native.Nat.{ℕ, zero, suc}
 use mathlib.Core.Bool.{Bool, true, false, not, cond, _&&_, _||_}
 use mathlib.Core.List.{List, [], _∷_}
