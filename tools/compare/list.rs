@@ -3,8 +3,9 @@
 // the reader. What kind of difference it is, is worked out from the answers, so that the list of kinds is the document itself.
 use std::collections::BTreeSet;
 
-use jsonb::{from_hex, number, read, Answer, Request};
+use jsonb::{decode_number, from_hex, number, read, Answer, Request};
 
+use crate::codec::judge_read;
 use crate::port;
 use crate::sides::{compare, Ours, Verdict};
 
@@ -43,7 +44,11 @@ impl List {
         let bytes = |text: &str| from_hex(text.trim());
         if let Some(payload) = call.strip_prefix("number ") {
             let payload = bytes(payload)?;
-            return Some((number(&payload).to_string(), checked(&number_record(&payload))));
+            let ours = checked(&number_record(&payload));
+            if let Verdict::Listed(kind) = judge_read(&payload, &decode_number(&payload), &ours) {
+                self.kinds.insert(kind);
+            }
+            return Some((number(&payload).to_string(), ours));
         }
         if let Some(record) = call.strip_prefix("read ") {
             let record = bytes(record)?;

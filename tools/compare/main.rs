@@ -2,29 +2,35 @@
 //
 //   compare list FILE              the differences that FILE, docs/DIFFERENCES.md, lists: each is put to both sides
 //   compare random FILE COUNT SEED the same, and then so many random calls
+//   compare codec FILE COUNT SEED CONSOLE
+//                                  the same, and then the number codec: numbers of every kind, so many of them random, and payloads
+//                                  to the program CONSOLE, since the functions for C have no codec
 //   compare record FOLDER COUNT SEED
 //                                  calls on readable records, and the Rust's answers to them, for tests/rust-answers
 //
 // It ends with 1 where an answer is other than it should be, and prints the call, which the console takes as it stands.
+mod codec;
 mod list;
+mod numbers;
 #[path = "../../examples/rust/jsonb.rs"]
 mod port;
 mod random;
 mod reading;
 mod recording;
 mod sides;
+mod tally;
 mod tree;
 
-use std::collections::BTreeMap;
-use std::io::IsTerminal;
 use std::process::exit;
 
+use codec::compare_codec;
 use jsonb::{Edit, Memory, Request};
 use list::List;
 use random::{some_request, Random};
 use reading::{DEPTH_LIMIT, RECORD_LIMIT};
 use recording::record_calls;
-use sides::{compare, Verdict};
+use sides::compare;
+use tally::{spaced, Answered, Tally};
 use tree::{nested, request, Tree};
 
 #[global_allocator]
@@ -32,9 +38,6 @@ static MEMORY: Memory = Memory;
 
 // The Rust recurses without a limit; the deepest of the records made here want a fraction of this.
 const STACK: usize = 1 << 28;
-
-// How many calls are shown that should not be.
-const SHOWN: usize = 10;
 
 // ---- what is too long for a line of the list
 
@@ -69,97 +72,17 @@ fn read_list(path: &str, buffer: &mut Vec<u8>) -> List {
 
 // ---- random calls
 
-/// How often a verdict was given, and the smallest request that it was given on.
-struct Tally {
-    count: usize,
-    smallest: Request,
-}
-
-fn spaced(n: usize) -> String {
-    let digits = n.to_string();
-    let mut out = String::new();
-    for (i, c) in digits.chars().enumerate() {
-        if i > 0 && (digits.len() - i) % 3 == 0 {
-            out.push(',');
-        }
-        out.push(c);
-    }
-    out
-}
-
-fn progress(done: usize, count: usize, wrong: usize) {
-    let line = format!("compare: {} of {} calls, {} wrong", spaced(done), spaced(count), spaced(wrong));
-    if std::io::stderr().is_terminal() {
-        eprint!("\r{line}{}", if done == count { "\n" } else { "" });
-    } else {
-        eprintln!("{line}");
-    }
-}
-
-fn note(tallies: &mut BTreeMap<Verdict, Tally>, verdict: Verdict, request: Request) {
-    let tally = tallies.entry(verdict).or_insert_with(|| Tally { count: 0, smallest: request.clone() });
-    tally.count += 1;
-    if request.size() < tally.smallest.size() {
-        tally.smallest = request;
-    }
-}
-
-// How much of a call is shown in the summary.
-const WIDTH: usize = 100;
-
-fn shortened(line: &str) -> String {
-    match line.get(..WIDTH) {
-        Some(start) => format!("{start}.. ({} characters)", spaced(line.len())),
-        None => line.to_string(),
-    }
-}
-
-/// One section of the summary.
-fn summarize(title: &str, tallies: &BTreeMap<Verdict, Tally>, words: impl Fn(&Verdict) -> Option<String>, with_request: bool) {
-    println!("{title}");
-    for (verdict, tally) in tallies {
-        if let Some(words) = words(verdict) {
-            println!("  {:>11}  {words}", spaced(tally.count));
-            if with_request {
-                println!("               {}", shortened(&tally.smallest.to_string()));
-            }
-        }
-    }
-}
-
-fn random_calls(list: &List, count: usize, seed: u64, buffer: &mut Vec<u8>) -> usize {
+fn random_calls(list: &List, count: usize, seed: u64, buffer: &mut Vec<u8>) -> bool {
     let mut r = Random(seed);
-    let mut tallies = BTreeMap::new();
-    let mut wrong = 0;
-    for i in 0..count {
+    let mut tally = Tally::new(list, count);
+    for _ in 0..count {
         let with_damage = r.percent(40);
         let request = some_request(&mut r, with_damage, true);
         let (ours, theirs, verdict) = compare(&request, buffer);
-        let why = match &verdict {
-            Verdict::Wrong(why) => Some(why.to_string()),
-            Verdict::Listed(kind) if !list.kinds.contains(kind) => Some(format!("on no list: {kind}")),
-            _ => None,
-        };
-        if let Some(why) = why {
-            wrong += 1;
-            if wrong <= SHOWN {
-                println!("{request}\n  the Rust: {theirs}\n  here:     {ours}\n  {why}");
-            }
-        }
-        note(&mut tallies, verdict, request);
-        if (i + 1) % count.div_ceil(10) == 0 || i + 1 == count {
-            progress(i + 1, count, wrong);
-        }
+        tally.note(Answered { call: &request, size: request.size(), theirs: &theirs, ours: &ours }, verdict);
     }
     println!("{} random calls, seed {seed}", spaced(count));
-    let alike = |v: &Verdict| if let Verdict::Alike(what) = v { Some(what.to_string()) } else { None };
-    let listed = |v: &Verdict| if let Verdict::Listed(kind) = v { Some(kind.clone()) } else { None };
-    let no_call = |v: &Verdict| if let Verdict::NoCall(why) = v { Some(why.to_string()) } else { None };
-    summarize("both sides alike:", &tallies, alike, false);
-    summarize("differences, by our number and its cause, with the smallest call met:", &tallies, listed, true);
-    summarize("no such call in the Rust:", &tallies, no_call, false);
-    println!("{} answers that are wrong or on no list", spaced(wrong));
-    wrong
+    tally.sum_up()
 }
 
 // ---- the program
@@ -172,8 +95,14 @@ fn run(arguments: &[String]) -> bool {
         ["random", path, count, seed] => {
             let (Ok(count), Ok(seed)) = (count.parse(), seed.parse()) else { return usage() };
             let list = read_list(path, &mut buffer);
-            let wrong = random_calls(&list, count, seed, &mut buffer);
-            list.wrong == 0 && wrong == 0
+            let alike = random_calls(&list, count, seed, &mut buffer);
+            list.wrong == 0 && alike
+        }
+        ["codec", path, count, seed, console] => {
+            let (Ok(count), Ok(seed)) = (count.parse(), seed.parse()) else { return usage() };
+            let mut list = read_list(path, &mut buffer);
+            let alike = compare_codec(&mut list, console, count, seed);
+            list.wrong == 0 && alike
         }
         ["record", folder, count, seed] => {
             let (Ok(count), Ok(seed)) = (count.parse(), seed.parse()) else { return usage() };
@@ -184,7 +113,8 @@ fn run(arguments: &[String]) -> bool {
 }
 
 fn usage() -> bool {
-    eprintln!("usage: compare list FILE | compare random FILE COUNT SEED | compare record FOLDER COUNT SEED");
+    eprintln!("usage: compare list FILE | compare random FILE COUNT SEED | compare codec FILE COUNT SEED CONSOLE");
+    eprintln!("     | compare record FOLDER COUNT SEED");
     false
 }
 

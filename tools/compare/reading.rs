@@ -151,7 +151,8 @@ impl Reader {
     }
 }
 
-fn is_listed(payload: &[u8]) -> bool {
+/// Whether document 01 lists a number's payload.
+pub fn is_listed(payload: &[u8]) -> bool {
     let Some((first, rest)) = payload.split_first() else {
         return false;
     };

@@ -89,7 +89,7 @@ fn cause_of(faults: &[Fault]) -> &'static str {
 }
 
 /// What the Rust did, as a row of docs/DIFFERENCES.md says it.
-fn did(theirs: &Answer) -> &'static str {
+pub fn did(theirs: &Answer) -> &'static str {
     match theirs {
         Answer::Result(_) | Answer::Absent => "the Rust answers",
         Answer::Error(_) => "the Rust has another error",
@@ -100,7 +100,7 @@ fn did(theirs: &Answer) -> &'static str {
 }
 
 /// Whether an error of the Rust's is a number's.
-fn is_number(error: &Error, number: u32) -> bool {
+pub fn is_number(error: &Error, number: u32) -> bool {
     match error {
         Error::InvalidEOF => number == 1,
         Error::InvalidJsonb => number == 2,

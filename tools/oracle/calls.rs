@@ -136,13 +136,36 @@ pub fn read(record: &[u8]) -> Answer {
     guarded(|| RawJsonb::new(record).to_value().map(|_| Answer::Result(Vec::new())))
 }
 
-/// `Number::decode` of a payload, and then `compact_encode` of what it gave.
-pub fn number(payload: &[u8]) -> Answer {
+// ---- numbers
+
+/// `Number::decode` of a payload: the number, or how else it ended.
+pub fn decode_number(payload: &[u8]) -> Result<Number, Answer> {
+    let mut decoded = None;
+    let ended = guarded(|| {
+        decoded = Some(Number::decode(payload)?);
+        Ok(Answer::Absent)
+    });
+    decoded.ok_or(ended)
+}
+
+/// `compact_encode` of a number into a buffer of so many bytes. Where it is too short the Rust has the error of its writer.
+pub fn encode_number(number: &Number, room: usize) -> Answer {
     guarded(|| {
-        let mut again = Vec::new();
-        Number::decode(payload)?.compact_encode(&mut again)?;
-        Ok(Answer::Result(again))
+        let mut buffer = vec![0; room];
+        let length = number.compact_encode(&mut buffer[..])?;
+        Ok(Answer::Result(buffer[..length].to_vec()))
     })
+}
+
+/// The longest payload, a decimal's of 256 bits: its first byte, the value and the scale.
+pub const NUMBER_ROOM: usize = 34;
+
+/// What a payload stands for, as a payload again.
+pub fn number(payload: &[u8]) -> Answer {
+    match decode_number(payload) {
+        Ok(number) => encode_number(&number, NUMBER_ROOM),
+        Err(ended) => ended,
+    }
 }
 
 // ---- paths
