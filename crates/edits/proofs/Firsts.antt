@@ -1,6 +1,7 @@
 -- What delete means in an object that may have a name more than once, said of the members before and behind the first that has it.
 -- That member goes; the name then finds the next that had it; of every other name the first member stays, and the later ones go.
--- Where no name is there twice, `deleted-name` and `deleted-member` of Meanings say more.
+-- Where no name is there twice, `deleted-name` and `deleted-member` of Meanings say more. Of an object above the item that goes,
+-- `deleted-within`, `deleted-other-name` and `deleted-in-order` there hold with repeated names too.
 use mathlib.Core.Path.{_≡_, refl, ap, sym, _∙_}
 use mathlib.Core.Logic.{inl, inr, ⊎-elim}
 use mathlib.Core.List.{List, [], _∷_, _++_}
