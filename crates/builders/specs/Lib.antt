@@ -3,7 +3,7 @@
 -- What document 01 says: all that the promises of `append` and `build_object` cite.
 pub mod Order
 pub mod Build
--- The one sound tree of a value, which no promise cites: the theorems about whole runs go by it.
+-- The one sound tree of a value, which no promise cites: theorems about equal values go by it.
 pub mod Canon
 -- Forms that follow the code, which the helpers for the crates above promise; theorems of proofs/ tie each to the definitions above.
 pub mod Room
