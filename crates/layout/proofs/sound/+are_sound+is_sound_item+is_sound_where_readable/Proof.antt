@@ -22,9 +22,9 @@ use Rattle.layout.proofs.sound.+are_sound+is_sound_item+is_sound_where_
 use Rattle.layout.proofs.sound.is_sound_item.Reads as is-sound-item
 use Rattle.layout.proofs.sound.is_sound_item.Kinds as is-sound-item-kinds
 use Rattle.layout.proofs.sound.+are_sound+is_sound_item+is_sound_where_readable.Lts-is_sound_item as is-sound-item-lts
-use Rattle.layout.proofs.sound.is_sound_where_readable.Reads as is-sound-where-readable
-use Rattle.layout.proofs.sound.is_sound_where_readable.Kinds as is-sound-where-readable-kinds
-use Rattle.layout.proofs.sound.+are_sound+is_sound_item+is_sound_where_readable.Lts-is_sound_where_readable as is-sound-where-readable-lts
+use Rattle.layout.proofs.sound.is_sound_where_readable.Reads as nested
+use Rattle.layout.proofs.sound.is_sound_where_readable.Kinds as nested-kinds
+use Rattle.layout.proofs.sound.+are_sound+is_sound_item+is_sound_where_readable.Lts-is_sound_where_readable as nested-lts
 use Rattle.layout.proofs.jentry.payload_len.Reads as payload-len-reads
 use Rattle.layout.proofs.jentry.read_jentry.Reads as read-jentry-reads
 use Rattle.layout.proofs.jentry.type_code.Reads as type-code-reads
@@ -40,8 +40,8 @@ abbrev μ-are-sound : Measures 1 are-sound-kinds.ps ℕ
 abbrev μ-is-sound-item : Measures 1 is-sound-item-kinds.ps ℕ
 μ-is-sound-item κs a = 3 * a .1 .1 .0 + 1
 
-abbrev μ-is-sound-where-readable : Measures 1 is-sound-where-readable-kinds.ps ℕ
-μ-is-sound-where-readable κs a = 3 * a .1 .0
+abbrev μ-nested : Measures 1 nested-kinds.ps ℕ
+μ-nested κs a = 3 * a .1 .0
 
 abbrev are-sound-at : ℕ → In 1 are-sound-kinds.ps
 are-sound-at t = and 1 are-sound-kinds.ps (is 1 are-sound-kinds.ps μ-are-sound t) are-sound.Pre
@@ -58,13 +58,13 @@ abbrev is-sound-item-below : ℕ → In 1 is-sound-item-kinds.ps
 is-sound-item-below t =
     and 1 is-sound-item-kinds.ps (falls 1 is-sound-item-kinds.ps _<_ μ-is-sound-item t) is-sound-item.Pre
 
-abbrev is-sound-where-readable-at : ℕ → In 1 is-sound-where-readable-kinds.ps
-is-sound-where-readable-at t =
-    and 1 is-sound-where-readable-kinds.ps (is 1 is-sound-where-readable-kinds.ps μ-is-sound-where-readable t) is-sound-where-readable.Pre
+abbrev nested-at : ℕ → In 1 nested-kinds.ps
+nested-at t =
+    and 1 nested-kinds.ps (is 1 nested-kinds.ps μ-nested t) nested.Pre
 
-abbrev is-sound-where-readable-below : ℕ → In 1 is-sound-where-readable-kinds.ps
-is-sound-where-readable-below t =
-    and 1 is-sound-where-readable-kinds.ps (falls 1 is-sound-where-readable-kinds.ps _<_ μ-is-sound-where-readable t) is-sound-where-readable.Pre
+abbrev nested-below : ℕ → In 1 nested-kinds.ps
+nested-below t =
+    and 1 nested-kinds.ps (falls 1 nested-kinds.ps _<_ μ-nested t) nested.Pre
 
 abbrev are-sound-Inv-loop : are-sound-lts.InvT-loop
 are-sound-Inv-loop s n start allowance place₀ i₀ place i =
@@ -91,11 +91,11 @@ are-sound-claims t = (
 
 -- what the functions that `is-sound-item` calls ask and give
 abbrev is-sound-item-claims : ℕ → is-sound-item-lts.Claims
-is-sound-item-claims t = (is-sound-where-readable-below t, is-sound-where-readable.Post)
+is-sound-item-claims t = (nested-below t, nested.Post)
 
--- what the functions that `is-sound-where-readable` calls ask and give
-abbrev is-sound-where-readable-claims : ℕ → is-sound-where-readable-lts.Claims
-is-sound-where-readable-claims t = (
+-- what the functions that `nested` calls ask and give
+abbrev nested-claims : ℕ → nested-lts.Claims
+nested-claims t = (
   read-header-reads.Asked,
   read-header-reads.Learnt,
   are-sound-below t,
@@ -165,65 +165,65 @@ is-sound-item-returns-2 t c = sound-other _ _ _ (c .if1 .left)
 
 -- A record by its header.
 
-is-sound-where-readable-returns : (t : ℕ) → is-sound-where-readable-lts.Need-returns (is-sound-where-readable-claims t) (is-sound-where-readable-at t) is-sound-where-readable.Post
-is-sound-where-readable-returns t c = every-none _ _ _ (c .if1 .taken)
+nested-returns : (t : ℕ) → nested-lts.Need-returns (nested-claims t) (nested-at t) nested.Post
+nested-returns t c = every-none _ _ _ (c .if1 .taken)
 
-is-sound-where-readable-mul-are-sound : (t : ℕ) → is-sound-where-readable-lts.Need-mul-are-sound (is-sound-where-readable-claims t) (is-sound-where-readable-at t) is-sound-where-readable.Post
-is-sound-where-readable-mul-are-sound t c =
+nested-mul-are-sound : (t : ℕ) → nested-lts.Need-mul-are-sound (nested-claims t) (nested-at t) nested.Post
+nested-mul-are-sound t c =
     let arm = c .before in
     let h = told-array _ _ (arm .before .before .read-header .ensures) _ (arm .n .given .1) in
     omega arith
 
-is-sound-where-readable-add-are-sound : (t : ℕ) → is-sound-where-readable-lts.Need-add-are-sound (is-sound-where-readable-claims t) (is-sound-where-readable-at t) is-sound-where-readable.Post
-is-sound-where-readable-add-are-sound t c =
+nested-add-are-sound : (t : ℕ) → nested-lts.Need-add-are-sound (nested-claims t) (nested-at t) nested.Post
+nested-add-are-sound t c =
     let arm = c .before in
     let h = told-array _ _ (arm .before .before .read-header .ensures) _ (arm .n .given .1) in
     omega arith
 
-is-sound-where-readable-are-sound-requires : (t : ℕ) → is-sound-where-readable-lts.Need-are-sound-requires (is-sound-where-readable-claims t) (is-sound-where-readable-at t) is-sound-where-readable.Post
-is-sound-where-readable-are-sound-requires t c κs =
+nested-are-sound-requires : (t : ℕ) → nested-lts.Need-are-sound-requires (nested-claims t) (nested-at t) nested.Post
+nested-are-sound-requires t c κs =
     let arm = c .before in
     let h = told-array _ _ (arm .before .before .read-header .ensures) _ (arm .n .given .1) in
     omega arith
 
-is-sound-where-readable-add-start : (t : ℕ) → is-sound-where-readable-lts.Need-add-start (is-sound-where-readable-claims t) (is-sound-where-readable-at t) is-sound-where-readable.Post
-is-sound-where-readable-add-start t c =
+nested-add-start : (t : ℕ) → nested-lts.Need-add-start (nested-claims t) (nested-at t) nested.Post
+nested-add-start t c =
     let arm = c .before in
     let h = told-object _ _ (arm .before .before .read-header .ensures) _ (arm .n2 .given .1) in
     omega arith
 
-is-sound-where-readable-mul-start : (t : ℕ) → is-sound-where-readable-lts.Need-mul-start (is-sound-where-readable-claims t) (is-sound-where-readable-at t) is-sound-where-readable.Post
-is-sound-where-readable-mul-start t c =
+nested-mul-start : (t : ℕ) → nested-lts.Need-mul-start (nested-claims t) (nested-at t) nested.Post
+nested-mul-start t c =
     let arm = c .before in
     let h = told-object _ _ (arm .before .before .read-header .ensures) _ (arm .n2 .given .1) in
     omega arith
 
-is-sound-where-readable-add-start-2 : (t : ℕ) → is-sound-where-readable-lts.Need-add-start-2 (is-sound-where-readable-claims t) (is-sound-where-readable-at t) is-sound-where-readable.Post
-is-sound-where-readable-add-start-2 t c =
+nested-add-start-2 : (t : ℕ) → nested-lts.Need-add-start-2 (nested-claims t) (nested-at t) nested.Post
+nested-add-start-2 t c =
     let arm = c .before in
     let h = told-object _ _ (arm .before .before .read-header .ensures) _ (arm .n2 .given .1) in
     omega arith
 
-is-sound-where-readable-is-rising-requires : (t : ℕ) → is-sound-where-readable-lts.Need-is-rising-requires (is-sound-where-readable-claims t) (is-sound-where-readable-at t) is-sound-where-readable.Post
-is-sound-where-readable-is-rising-requires t c κs =
+nested-is-rising-requires : (t : ℕ) → nested-lts.Need-is-rising-requires (nested-claims t) (nested-at t) nested.Post
+nested-is-rising-requires t c κs =
     let arm = c .before in
     let h = told-object _ _ (arm .before .before .read-header .ensures) _ (arm .n2 .given .1) in
     omega arith
 
-is-sound-where-readable-add-are-sound-2 : (t : ℕ) → is-sound-where-readable-lts.Need-add-are-sound-2 (is-sound-where-readable-claims t) (is-sound-where-readable-at t) is-sound-where-readable.Post
-is-sound-where-readable-add-are-sound-2 t c =
+nested-add-are-sound-2 : (t : ℕ) → nested-lts.Need-add-are-sound-2 (nested-claims t) (nested-at t) nested.Post
+nested-add-are-sound-2 t c =
     let arm = c .before .before .before in
     let h = told-object _ _ (arm .before .before .read-header .ensures) _ (arm .n2 .given .1) in
     omega arith
 
-is-sound-where-readable-are-sound-requires-2 : (t : ℕ) → is-sound-where-readable-lts.Need-are-sound-requires-2 (is-sound-where-readable-claims t) (is-sound-where-readable-at t) is-sound-where-readable.Post
-is-sound-where-readable-are-sound-requires-2 t c κs =
+nested-are-sound-requires-2 : (t : ℕ) → nested-lts.Need-are-sound-requires-2 (nested-claims t) (nested-at t) nested.Post
+nested-are-sound-requires-2 t c κs =
     let arm = c .before .before .before in
     let h = told-object _ _ (arm .before .before .read-header .ensures) _ (arm .n2 .given .1) in
     omega arith
 
-is-sound-where-readable-returns-2 : (t : ℕ) → is-sound-where-readable-lts.Need-returns-2 (is-sound-where-readable-claims t) (is-sound-where-readable-at t) is-sound-where-readable.Post
-is-sound-where-readable-returns-2 t c =
+nested-returns-2 : (t : ℕ) → nested-lts.Need-returns-2 (nested-claims t) (nested-at t) nested.Post
+nested-returns-2 t c =
     let arm = c .before .before .before .before in
     let told = arm .before .before in
     let rises = c .before .before in
@@ -233,24 +233,24 @@ is-sound-where-readable-returns-2 t c =
     (c .before .if2 .taken)
     (c .are-sound2 .ensures)
 
-is-sound-where-readable-returns-3 : (t : ℕ) → is-sound-where-readable-lts.Need-returns-3 (is-sound-where-readable-claims t) (is-sound-where-readable-at t) is-sound-where-readable.Post
-is-sound-where-readable-returns-3 t c =
+nested-returns-3 : (t : ℕ) → nested-lts.Need-returns-3 (nested-claims t) (nested-at t) nested.Post
+nested-returns-3 t c =
     let told = c .before .before in
     every-refused _ _ _ _ (told .before .if1 .left) (told .read-header .ensures) _ (c .enum-told .given .1)
 
-is-sound-where-readable-returns-4 : (t : ℕ) → is-sound-where-readable-lts.Need-returns-4 (is-sound-where-readable-claims t) (is-sound-where-readable-at t) is-sound-where-readable.Post
-is-sound-where-readable-returns-4 t c =
+nested-returns-4 : (t : ℕ) → nested-lts.Need-returns-4 (nested-claims t) (nested-at t) nested.Post
+nested-returns-4 t c =
     let told = c .before .before in
     sound-scalar _ _ _ (told .before .if1 .left) (told .read-header .ensures) _ (c .enum-told2 .given .1)
 
-is-sound-where-readable-returns-5 : (t : ℕ) → is-sound-where-readable-lts.Need-returns-5 (is-sound-where-readable-claims t) (is-sound-where-readable-at t) is-sound-where-readable.Post
-is-sound-where-readable-returns-5 t c =
+nested-returns-5 : (t : ℕ) → nested-lts.Need-returns-5 (nested-claims t) (nested-at t) nested.Post
+nested-returns-5 t c =
     let arm = c .before .before in
     let told = arm .before .before in
     every-array _ _ _ _ (told .before .if1 .left) (told .read-header .ensures) _ _ (arm .n .given .1) (c .are-sound .ensures)
 
-is-sound-where-readable-returns-6 : (t : ℕ) → is-sound-where-readable-lts.Need-returns-6 (is-sound-where-readable-claims t) (is-sound-where-readable-at t) is-sound-where-readable.Post
-is-sound-where-readable-returns-6 t c =
+nested-returns-6 : (t : ℕ) → nested-lts.Need-returns-6 (nested-claims t) (nested-at t) nested.Post
+nested-returns-6 t c =
     let arm = c .before .before .before in
     let told = arm .before .before in
     sound-misnamed _ _ _ (told .before .if1 .left) (told .read-header .ensures) _ _ (arm .n2 .given .1)
@@ -259,7 +259,7 @@ is-sound-where-readable-returns-6 t c =
 
 pub +are-sound+is-sound-item+is-sound-where-readable-spec : {M : Type 1} → statement M
 +are-sound+is-sound-item+is-sound-where-readable-spec =
-    close μ-are-sound μ-is-sound-item μ-is-sound-where-readable (λ t. are-sound-lts.spec (are-sound-claims t)
+    close μ-are-sound μ-is-sound-item μ-nested (λ t. are-sound-lts.spec (are-sound-claims t)
     (are-sound-at t)
     are-sound.Post
     are-sound-Inv-loop
@@ -284,28 +284,28 @@ pub +are-sound+is-sound-item+is-sound-where-readable-spec : {M : Type 1} → sta
     (λ c κs. search needs)
     (is-sound-item-returns t)
     (is-sound-item-returns-2 t))
-    λ t. is-sound-where-readable-lts.spec (is-sound-where-readable-claims t)
-    (is-sound-where-readable-at t)
-    is-sound-where-readable.Post
-    (is-sound-where-readable-returns t)
+    λ t. nested-lts.spec (nested-claims t)
+    (nested-at t)
+    nested.Post
+    (nested-returns t)
     (λ c κs. search needs)
     (λ c. search needs)
     (λ c. search needs)
     (λ c. search needs)
-    (is-sound-where-readable-mul-are-sound t)
-    (is-sound-where-readable-add-are-sound t)
+    (nested-mul-are-sound t)
+    (nested-add-are-sound t)
     (λ c. search needs)
-    (is-sound-where-readable-are-sound-requires t)
+    (nested-are-sound-requires t)
     (λ c. search needs)
-    (is-sound-where-readable-add-start t)
-    (is-sound-where-readable-mul-start t)
-    (is-sound-where-readable-add-start-2 t)
-    (is-sound-where-readable-is-rising-requires t)
-    (is-sound-where-readable-add-are-sound-2 t)
+    (nested-add-start t)
+    (nested-mul-start t)
+    (nested-add-start-2 t)
+    (nested-is-rising-requires t)
+    (nested-add-are-sound-2 t)
     (λ c. search needs)
-    (is-sound-where-readable-are-sound-requires-2 t)
-    (is-sound-where-readable-returns-2 t)
-    (is-sound-where-readable-returns-3 t)
-    (is-sound-where-readable-returns-4 t)
-    (is-sound-where-readable-returns-5 t)
-    (is-sound-where-readable-returns-6 t)
+    (nested-are-sound-requires-2 t)
+    (nested-returns-2 t)
+    (nested-returns-3 t)
+    (nested-returns-4 t)
+    (nested-returns-5 t)
+    (nested-returns-6 t)
