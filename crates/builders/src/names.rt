@@ -1,7 +1,7 @@
 // The names of an object, or of an array of names: n of them, the first payload at `start`.
 use layout::constants::STRING_CODE;
+use layout::jentry::jentry_at;
 use layout::jentry::payload_len;
-use layout::jentry::read_jentry;
 use layout::jentry::type_code;
 use layout::order::is_same_bytes;
 use layout::sound::is_rising;
@@ -20,7 +20,7 @@ pub fn are_strings(s: &[u8], n: usize) -> bool
 {
     let mut i = 0;
     while i < n {
-        if type_code(read_jentry(s, i)) != STRING_CODE {
+        if type_code(jentry_at(s, i)) != STRING_CODE {
             return false;
         }
         i += 1;
@@ -36,7 +36,7 @@ fn is_among(name: &[u8], s: &[u8], from: usize, n: usize, start: usize) -> bool
     let mut place = start;
     let mut i = from;
     while i < n {
-        let len = payload_len(read_jentry(s, i)) as usize;
+        let len = payload_len(jentry_at(s, i)) as usize;
         if is_same_bytes(name, slice(s, place, len)) {
             return true;
         }
@@ -57,7 +57,7 @@ pub fn is_distinct(s: &[u8], n: usize, start: usize) -> bool
     let mut place = start;
     let mut i = 0;
     while i < n {
-        let len = payload_len(read_jentry(s, i)) as usize;
+        let len = payload_len(jentry_at(s, i)) as usize;
         let next = place + len;
         if is_among(slice(s, place, len), s, i + 1, n, next) {
             return false;

@@ -17,8 +17,8 @@ use layout::constants::JENTRY_SIZE;
 use layout::constants::OBJECT_CONTAINER_TAG;
 use layout::ending::Ending;
 use layout::jentry::encoded;
+use layout::jentry::jentry_at;
 use layout::jentry::payload_len;
-use layout::jentry::read_jentry;
 use layout::order::is_same_bytes;
 use layout::parts::Cursor;
 use layout::parts::MemberAt;
@@ -337,7 +337,7 @@ fn put_deleted(s: &[u8], path: &[u8], way: Way, out: &mut [u8], at: usize, allow
     requires { ⌜ Cuts (now s) (now path) way allowance × (at ≤ 65536 * (64 - allowance)) ⌝ }
     ensures { λ r. ⌜ Stores r (now (out .entry)) (now (out .exit)) at (remainsOf (now (s .entry)) (stepsFrom (now (path .entry)) way)) ⌝ }
 {
-    let jentry = read_jentry(path, way.step.index);
+    let jentry = jentry_at(path, way.step.index);
     let text = slice(path, way.step.place, payload_len(jentry) as usize);
     let Spot::At(part) = find_step(s, jentry, text) else {
         return 0;

@@ -2,8 +2,8 @@
 use crate::keypath::KeyPath;
 use crate::keypath::key_of;
 use crate::keypath::put_index;
+use layout::jentry::jentry_at;
 use layout::jentry::payload_len;
-use layout::jentry::read_jentry;
 use layout::order::is_same_bytes;
 use layout::parts::PartAt;
 use layout::parts::first_part;
@@ -70,7 +70,7 @@ fn find_name(s: &[u8], n: usize, name: &[u8]) -> Spot
     let mut place = first.place;
     let mut i = 0;
     while i < n {
-        let len = payload_len(read_jentry(s, i)) as usize;
+        let len = payload_len(jentry_at(s, i)) as usize;
         if is_same_bytes(name, slice(s, place, len)) {
             return Spot::At(PartAt { index: i, place });
         }

@@ -4,8 +4,8 @@ use layout::check::check_record;
 use layout::constants::NUMBER_CODE;
 use layout::constants::STRING_CODE;
 use layout::decimal::put_decimal;
+use layout::jentry::jentry_at;
 use layout::jentry::payload_len;
-use layout::jentry::read_jentry;
 use layout::jentry::type_code;
 use layout::number::Number;
 use layout::parts::first_part;
@@ -111,7 +111,7 @@ fn are_steps(path: &[u8], n: usize) -> bool
     let mut place = first.place;
     let mut i = 0;
     while i < n {
-        let jentry = read_jentry(path, i);
+        let jentry = jentry_at(path, i);
         let len = payload_len(jentry) as usize;
         if let KeyPath::Other = key_of(jentry, slice(path, place, len)) {
             return false;

@@ -13,6 +13,7 @@ use layout::constants::SCALAR_CONTAINER_TAG;
 use layout::constants::SCALAR_START;
 use layout::ending::Ending;
 use layout::jentry::encoded;
+use layout::jentry::jentry_at;
 use layout::jentry::payload_len;
 use layout::jentry::read_jentry;
 use layout::jentry::type_code;
@@ -58,7 +59,7 @@ fn step_from(s: &[u8], item: ItemAt, jentry: u32, text: &[u8]) -> Item
         return Item::Nothing;
     };
     Item::At(ItemAt {
-        jentry: read_jentry(inner, part.index),
+        jentry: jentry_at(inner, part.index),
         place: item.place + part.place,
     })
 }
@@ -76,7 +77,7 @@ fn find_path(s: &[u8], path: &[u8], n: usize) -> Item
     let mut place = first.place;
     let mut i = 0;
     while i < n {
-        let jentry = read_jentry(path, i);
+        let jentry = jentry_at(path, i);
         let len = payload_len(jentry) as usize;
         let Item::At(next) = step_from(s, item, jentry, slice(path, place, len)) else {
             return Item::Nothing;

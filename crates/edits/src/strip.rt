@@ -17,7 +17,7 @@ use layout::constants::JENTRY_SIZE;
 use layout::constants::OBJECT_CONTAINER_TAG;
 use layout::ending::Ending;
 use layout::jentry::encoded;
-use layout::jentry::read_jentry;
+use layout::jentry::jentry_at;
 use layout::jentry::type_code;
 use layout::parts::Cursor;
 use layout::parts::ItemAt;
@@ -116,7 +116,7 @@ fn put_items_stripped(s: &[u8], n: usize, out: &mut [u8], at: usize, allowance: 
     put_u32(out, at, ARRAY_CONTAINER_TAG | n as u32);
     while part.index < n {
         let item = ItemAt {
-            jentry: read_jentry(s, part.index),
+            jentry: jentry_at(s, part.index),
             place: part.place,
         };
         let Stripped::Len(len) = put_item_stripped(s, item, out, here, allowance - 1) else {

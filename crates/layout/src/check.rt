@@ -12,6 +12,7 @@ use crate::constants::SCALAR_START;
 use crate::constants::STRING_CODE;
 use crate::constants::UNUSED_CODE;
 use crate::jentry::is_jentry;
+use crate::jentry::jentry_at;
 use crate::jentry::payload_len;
 use crate::jentry::read_jentry;
 use crate::jentry::type_code;
@@ -62,7 +63,7 @@ fn is_table(s: &[u8], n: usize, names: usize) -> bool
     let mut sum: usize = 0;
     let mut i = 0;
     while i < n {
-        let entry = read_jentry(s, i);
+        let entry = jentry_at(s, i);
         if is_jentry(i < names, entry) {
             sum += payload_len(entry) as usize;
         } else {
@@ -126,7 +127,7 @@ fn names_end(s: &[u8], names: usize, start: usize) -> NamesEnd
     let mut place = start;
     let mut i = 0;
     while i < names {
-        let entry = read_jentry(s, i);
+        let entry = jentry_at(s, i);
         if entry >> JENTRY_CODE_SHIFT != STRING_CODE {
             return NamesEnd::Bad;
         }
@@ -148,7 +149,7 @@ fn check_items(s: &[u8], n: usize, from: usize, start: usize, allowance: u32) ->
     let mut place = start;
     let mut i = from;
     while i < n {
-        let entry = read_jentry(s, i);
+        let entry = jentry_at(s, i);
         let end = place + payload_len(entry) as usize;
         if s.len() < end {
             return Check::Refused(Refusal::Layout);

@@ -17,7 +17,7 @@ use crate::item::Kind;
 use crate::util::read_u32;
 use crate::util::read_whole;
 ghost use mathlib.Core.Path.{_≡_};
-ghost use Prim.Native.Nat.{_+_, _*_, _%_, _^_};
+ghost use Prim.Native.Nat.{_+_, _*_, _%_, _^_, _<_};
 ghost use Rattle.layout.specs.Entry.{«code-of» as codeOf, «length-of» as lengthOf, «entry-of» as entryOf};
 ghost use Rattle.layout.specs.Entry.{«entry-at» as entryAt, «kind-of» as kindOf, «entry-good» as entryGood};
 ghost use Rattle.layout.specs.Read.{«entry-ok» as entryOk};
@@ -61,19 +61,27 @@ pub fn kind_of(code: u32) -> Kind
     }
 }
 
-// Entry i of the table behind a header; what lies outside the slice counts as 0. No slice reaches the limit's entry, and below it
-// the place is no sum beyond the machine's word, so that one test tells whether the entry is whole.
+// Entry i of the table behind a header; what lies outside the slice counts as 0. Below the limit the place is no sum beyond the
+// machine's word, so that one test tells whether the entry is whole: loops over a table, whose count is far below it, come here.
+pub fn jentry_at(s: &[u8], i: usize) -> u32
+    requires { ⌜ i < 2 ^ 61 ⌝ }
+    ensures { λ r. ⌜ r ≡ entryAt (now (s .entry)) i ⌝ }
+{
+    let at = HEADER_SIZE + JENTRY_SIZE * i;
+    if at + JENTRY_SIZE <= s.len() {
+        return read_whole(s, at);
+    }
+    read_u32(s, at)
+}
+
+// The same of every index: no slice reaches the entry at the limit.
 pub fn read_jentry(s: &[u8], i: usize) -> u32
     ensures { λ r. ⌜ r ≡ entryAt (now (s .entry)) i ⌝ }
 {
     if JENTRY_LIMIT <= i {
         return 0;
     }
-    let at = HEADER_SIZE + JENTRY_SIZE * i;
-    if at + JENTRY_SIZE <= s.len() {
-        return read_whole(s, at);
-    }
-    read_u32(s, at)
+    jentry_at(s, i)
 }
 
 // What a walk's step and the check both ask of an entry by itself. Rule 5 asks more: a step hands out null, true and false with

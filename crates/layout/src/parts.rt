@@ -2,8 +2,8 @@
 // entries and payloads. What walks, searches and writes containers goes by these.
 use crate::constants::HEADER_SIZE;
 use crate::constants::JENTRY_SIZE;
+use crate::jentry::jentry_at;
 use crate::jentry::payload_len;
-use crate::jentry::read_jentry;
 use crate::util::read_u32;
 use crate::util::slice;
 ghost use mathlib.Core.Path.{_≡_};
@@ -75,7 +75,7 @@ pub fn part_payload(s: &[u8], part: PartAt) -> &[u8]
     slice(
         s,
         part.place,
-        payload_len(read_jentry(s, part.index)) as usize,
+        payload_len(jentry_at(s, part.index)) as usize,
     )
 }
 
@@ -87,7 +87,7 @@ pub fn place_after(s: &[u8], from: PartAt, to: usize) -> usize
     let mut place = from.place;
     let mut i = from.index;
     while i < to {
-        place += payload_len(read_jentry(s, i)) as usize;
+        place += payload_len(jentry_at(s, i)) as usize;
         i += 1;
     }
     place
@@ -100,7 +100,7 @@ pub fn part_behind(s: &[u8], part: PartAt) -> PartAt
 {
     PartAt {
         index: part.index + 1,
-        place: part.place + payload_len(read_jentry(s, part.index)) as usize,
+        place: part.place + payload_len(jentry_at(s, part.index)) as usize,
     }
 }
 

@@ -5,6 +5,7 @@ use crate::constants::CONTAINER_CODE;
 use crate::constants::DEPTH_LIMIT;
 use crate::constants::HEADER_SIZE;
 use crate::constants::JENTRY_SIZE;
+use crate::jentry::jentry_at;
 use crate::jentry::payload_len;
 use crate::jentry::read_jentry;
 use crate::jentry::type_code;
@@ -42,7 +43,7 @@ pub fn is_rising(s: &[u8], n: usize, start: usize) -> bool
     let mut i = 1;
     while i < n {
         let next = place + len;
-        let next_len = payload_len(read_jentry(s, i)) as usize;
+        let next_len = payload_len(jentry_at(s, i)) as usize;
         if is_before(slice(s, place, len), slice(s, next, next_len)) {
             place = next;
             len = next_len;
@@ -72,7 +73,7 @@ fn are_sound(s: &[u8], n: usize, start: usize, allowance: u32) -> bool
     let mut place = start;
     let mut i = 0;
     while i < n {
-        let entry = read_jentry(s, i);
+        let entry = jentry_at(s, i);
         let len = payload_len(entry) as usize;
         if is_sound_item(type_code(entry), slice(s, place, len), allowance) {
             place += len;

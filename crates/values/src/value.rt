@@ -14,8 +14,8 @@ use layout::constants::SCALAR_START;
 use layout::constants::STRING_CODE;
 use layout::constants::TRUE_CODE;
 use layout::item::Kind;
+use layout::jentry::jentry_at;
 use layout::jentry::kind_of;
-use layout::jentry::read_jentry;
 use layout::jentry::type_code;
 use layout::order::is_same_bytes;
 use layout::parts::PartAt;
@@ -72,8 +72,8 @@ fn is_same_item(a: &[u8], part: PartAt, b: &[u8], other: PartAt, allowance: u32)
     requires { ⌜ (part .index ≤ 2 ^ 30) × (other .index ≤ 2 ^ 30) ⌝ }
     ensures { λ r. ⌜ r ≡ samePart (sameAt allowance) (partIn (now (a .entry)) part) (partIn (now (b .entry)) other) ⌝ }
 {
-    let code = type_code(read_jentry(a, part.index));
-    if !is_same_kind(code, type_code(read_jentry(b, other.index))) {
+    let code = type_code(jentry_at(a, part.index));
+    if !is_same_kind(code, type_code(jentry_at(b, other.index))) {
         return false;
     }
     let payload = part_payload(a, part);

@@ -23,7 +23,7 @@ returns c =
     let code = c .before in
     let entry = code .before in
     let more = entry .before in
-    strings-other _ _ _ (more .before .loop .inv .1) (more .loop-test .taken) _ _ (entry .read-jentry .ensures) (code .type-code .ensures)
+    strings-other _ _ _ (more .before .loop .inv .1) (more .loop-test .taken) _ _ (entry .jentry-at .ensures) (code .type-code .ensures)
     (c .if1 .taken)
 
 loop-again : tie.Need-loop-again Inv-loop μ-loop
@@ -32,7 +32,7 @@ loop-again c =
     let entry = code .before in
     let more = entry .before in (
       omega arith,
-      strings-more _ _ _ (more .before .loop .inv .1) (more .loop-test .taken) _ _ (entry .read-jentry .ensures) (code .type-code .ensures)
+      strings-more _ _ _ (more .before .loop .inv .1) (more .loop-test .taken) _ _ (entry .jentry-at .ensures) (code .type-code .ensures)
           (c .if1 .left),
     )
 

@@ -24,7 +24,7 @@ loop-holds : tie.Need-loop-holds Inv-loop μ-loop
 loop-holds c = (c .before .before .pre .0, omega arith, refl)
 
 -- From the entry that a turn reads back to the head of the loop.
-abbrev head : tie.After-read-jentry Inv-loop μ-loop → tie.At-loop Inv-loop μ-loop
+abbrev head : tie.After-jentry-at Inv-loop μ-loop → tie.At-loop Inv-loop μ-loop
 head c = c .before .before
 
 returns : tie.Need-returns Inv-loop μ-loop
@@ -33,7 +33,7 @@ returns c =
     let measured = turn .before .before in
     let entry = measured .before in
     among-found _ _ _ _ _ _ _ (head entry .loop .inv .2) (entry .before .loop-test .taken) _ _ _ _
-    (entry .read-jentry .ensures) (measured .payload-len .ensures) (turn .before .slice .ensures) (turn .is-same-bytes .ensures) (c .if1 .taken)
+    (entry .jentry-at .ensures) (measured .payload-len .ensures) (turn .before .slice .ensures) (turn .is-same-bytes .ensures) (c .if1 .taken)
 
 loop-again : tie.Need-loop-again Inv-loop μ-loop
 loop-again c =
@@ -41,9 +41,9 @@ loop-again c =
     let measured = turn .before .before in
     let entry = measured .before in (
       omega arith,
-      omega (arith, measured .payload-len .ensures, length-lt (entry .read-jentry .result)),
+      omega (arith, measured .payload-len .ensures, length-lt (entry .jentry-at .result)),
       among-more _ _ _ _ _ _ _ (head entry .loop .inv .2) (entry .before .loop-test .taken) _ _ _ _
-          (entry .read-jentry .ensures) (measured .payload-len .ensures) (turn .before .slice .ensures) (turn .is-same-bytes .ensures) (c .if1 .left),
+          (entry .jentry-at .ensures) (measured .payload-len .ensures) (turn .before .slice .ensures) (turn .is-same-bytes .ensures) (c .if1 .left),
     )
 
 returns-2 : tie.Need-returns-2 Inv-loop μ-loop

@@ -29,7 +29,7 @@ loop-holds c =
     (omega arith, omega arith, distinct-start (start .args .s .now) (start .args .start) (start .args .n))
 
 -- From the entry that a turn reads back to the head of the loop.
-abbrev head : tie.After-read-jentry Inv-loop μ-loop → tie.At-loop Inv-loop μ-loop
+abbrev head : tie.After-jentry-at Inv-loop μ-loop → tie.At-loop Inv-loop μ-loop
 head c = c .before .before
 
 returns-2 : tie.Need-returns-2 Inv-loop μ-loop
@@ -38,7 +38,7 @@ returns-2 c =
     let measured = turn .before .before in
     let entry = measured .before in
     distinct-twice _ _ _ _ _ (head entry .loop .inv .2) (entry .before .loop-test .taken) _ _ _ _
-    (entry .read-jentry .ensures) (measured .payload-len .ensures) (turn .before .slice .ensures) (turn .is-among .ensures) (c .if2 .taken)
+    (entry .jentry-at .ensures) (measured .payload-len .ensures) (turn .before .slice .ensures) (turn .is-among .ensures) (c .if2 .taken)
 
 loop-again : tie.Need-loop-again Inv-loop μ-loop
 loop-again c =
@@ -46,9 +46,9 @@ loop-again c =
     let measured = turn .before .before in
     let entry = measured .before in (
       omega arith,
-      omega (arith, measured .payload-len .ensures, length-lt (entry .read-jentry .result)),
+      omega (arith, measured .payload-len .ensures, length-lt (entry .jentry-at .result)),
       distinct-more _ _ _ _ _ (head entry .loop .inv .2) (entry .before .loop-test .taken) _ _ _ _
-          (entry .read-jentry .ensures) (measured .payload-len .ensures) (turn .before .slice .ensures) (turn .is-among .ensures) (c .if2 .left),
+          (entry .jentry-at .ensures) (measured .payload-len .ensures) (turn .before .slice .ensures) (turn .is-among .ensures) (c .if2 .left),
     )
 
 returns-3 : tie.Need-returns-3 Inv-loop μ-loop

@@ -62,7 +62,7 @@ use Rattle.layout.proofs.parts.parts_end.Reads as parts-end-reads
 use Rattle.layout.proofs.parts.places_past.Reads as places-past-reads
 use Rattle.layout.proofs.jentry.encoded.Reads as encoded-reads
 use Rattle.layout.proofs.jentry.payload_len.Reads as payload-len-reads
-use Rattle.layout.proofs.jentry.read_jentry.Reads as read-jentry-reads
+use Rattle.layout.proofs.jentry.jentry_at.Reads as jentry-at-reads
 use Rattle.layout.proofs.util.read_u32.Reads as read-u32-reads
 use Rattle.layout.proofs.util.slice.Reads as slice-reads
 use Rattle.layout.proofs.writer.copy.Reads as copy-reads
@@ -137,8 +137,8 @@ put-sorted-anew-below t =
 -- what the functions that `put-deleted` calls ask and give
 abbrev put-deleted-claims : ℕ → put-deleted-lts.Claims
 put-deleted-claims t = (
-  read-jentry-reads.Asked,
-  read-jentry-reads.Learnt,
+  jentry-at-reads.Asked,
+  jentry-at-reads.Learnt,
   payload-len-reads.Asked,
   payload-len-reads.Learnt,
   slice-reads.Asked,
@@ -262,7 +262,7 @@ module _ (t : ℕ) where
   abbrev Deleted-tested : Type 0
   Deleted-tested = Deleted put-deleted-lts.After-struct-known2
 
-  abbrev spot-read : Deleted-spot → Deleted put-deleted-lts.After-read-jentry
+  abbrev spot-read : Deleted-spot → Deleted put-deleted-lts.After-jentry-at
   spot-read c = c .before .before .before
 
   abbrev spot-entry : Deleted-spot → Deleted-entry
@@ -289,7 +289,7 @@ module _ (t : ℕ) where
   spot-is c =
       let start = spot-start c in
       leads-is (start .args .s .now) (start .args .path .now) (start .args .way) _ _ _ _
-      (spot-read c .read-jentry .ensures)
+      (spot-read c .jentry-at .ensures)
       (c .before .before .payload-len .ensures)
       (c .before .slice .ensures)
       (c .find-step .ensures)
@@ -317,8 +317,8 @@ module _ (t : ℕ) where
         more = omega (arith, c .if1 .left, onward-start c .pre .1 .0);
       }
 
-  put-deleted-read-jentry-requires : Deleted put-deleted-lts.Need-read-jentry-requires
-  put-deleted-read-jentry-requires c κs = omega (arith, c .before .before .before .pre .1 .0)
+  put-deleted-jentry-at-requires : Deleted put-deleted-lts.Need-jentry-at-requires
+  put-deleted-jentry-at-requires c κs = omega (arith, c .before .before .before .pre .1 .0)
 
   put-deleted-returns : Deleted put-deleted-lts.Need-returns
   put-deleted-returns c =
@@ -966,7 +966,7 @@ pub +put-deleted+put-member-anew+put-part-anew+put-sorted-anew-spec : {M : Type 
     (λ t. put-deleted-lts.spec (put-deleted-claims t)
     (put-deleted-at t)
     put-deleted.Post
-    (put-deleted-read-jentry-requires t)
+    (put-deleted-jentry-at-requires t)
     (λ c κs. search needs)
     (λ c. search needs)
     (λ c κs. search needs)

@@ -28,7 +28,7 @@ abbrev μ-loop : tie.MeasureT-loop
 abbrev Turn : Type 0
 Turn = tie.After-is-same-bytes Inv-loop μ-loop
 
-abbrev to-entry : Turn → tie.After-read-jentry Inv-loop μ-loop
+abbrev to-entry : Turn → tie.After-jentry-at Inv-loop μ-loop
 to-entry c = c .before .before .before
 
 abbrev to-head : Turn → tie.At-loop Inv-loop μ-loop
@@ -43,7 +43,7 @@ returns c =
     let sliced = turn .before in
     let entry = to-entry turn in
     let head = to-head turn in
-    first-found _ _ _ _ _ (head .loop .inv .3) (entry .before .loop-test .taken) _ _ _ _ (entry .read-jentry .ensures)
+    first-found _ _ _ _ _ (head .loop .inv .3) (entry .before .loop-test .taken) _ _ _ _ (entry .jentry-at .ensures)
     (sliced .before .payload-len .ensures) (sliced .slice .ensures) (turn .is-same-bytes .ensures) (c .if1 .taken) (head .loop .inv .2)
 
 loop-again : tie.Need-loop-again Inv-loop μ-loop
@@ -54,9 +54,9 @@ loop-again c =
     let entry = to-entry turn in
     let head = to-head turn in (
       omega arith,
-      omega (arith, sized .payload-len .ensures, length-lt (entry .read-jentry .result)),
-      place-next _ _ _ _ _ _ (entry .read-jentry .ensures) (sized .payload-len .ensures) (head .loop .inv .2),
-      first-more _ _ _ _ _ (head .loop .inv .3) (entry .before .loop-test .taken) _ _ _ _ (entry .read-jentry .ensures)
+      omega (arith, sized .payload-len .ensures, length-lt (entry .jentry-at .result)),
+      place-next _ _ _ _ _ _ (entry .jentry-at .ensures) (sized .payload-len .ensures) (head .loop .inv .2),
+      first-more _ _ _ _ _ (head .loop .inv .3) (entry .before .loop-test .taken) _ _ _ _ (entry .jentry-at .ensures)
           (sized .payload-len .ensures) (sliced .slice .ensures) (turn .is-same-bytes .ensures) (c .if1 .left),
     )
 

@@ -27,7 +27,7 @@ abbrev μ-loop : tie.MeasureT-loop
 abbrev Turn : Type 0
 Turn = tie.After-key-of Inv-loop μ-loop
 
-abbrev to-entry : Turn → tie.After-read-jentry Inv-loop μ-loop
+abbrev to-entry : Turn → tie.After-jentry-at Inv-loop μ-loop
 to-entry c = c .before .before .before
 
 abbrev to-head : Turn → tie.At-loop Inv-loop μ-loop
@@ -41,7 +41,7 @@ returns c =
     let turn = c .before .before in
     let sliced = turn .before in
     let entry = to-entry turn in
-    steps-other _ _ _ _ _ (to-head turn .loop .inv .2) (entry .before .loop-test .taken) _ _ _ _ (entry .read-jentry .ensures)
+    steps-other _ _ _ _ _ (to-head turn .loop .inv .2) (entry .before .loop-test .taken) _ _ _ _ (entry .jentry-at .ensures)
     (sliced .before .payload-len .ensures) (sliced .slice .ensures) (turn .key-of .ensures) (c .enum-told .given .1)
 
 loop-again : tie.Need-loop-again Inv-loop μ-loop
@@ -51,8 +51,8 @@ loop-again c =
     let sized = sliced .before in
     let entry = to-entry turn in (
       omega arith,
-      omega (arith, sized .payload-len .ensures, length-lt (entry .read-jentry .result)),
-      steps-more _ _ _ _ _ (to-head turn .loop .inv .2) (entry .before .loop-test .taken) _ _ _ _ (entry .read-jentry .ensures)
+      omega (arith, sized .payload-len .ensures, length-lt (entry .jentry-at .result)),
+      steps-more _ _ _ _ _ (to-head turn .loop .inv .2) (entry .before .loop-test .taken) _ _ _ _ (entry .jentry-at .ensures)
           (sized .payload-len .ensures) (sliced .slice .ensures) (turn .key-of .ensures)
           (λ e. ⊎-elim (λ q. omega arith) (λ q. omega arith) (rw e at (c .match .keys2))),
     )

@@ -22,7 +22,7 @@ abbrev μ-loop : tie.MeasureT-loop
 abbrev Turn : Type 0
 Turn = tie.After-step-from Inv-loop μ-loop
 
-abbrev to-entry : Turn → tie.After-read-jentry Inv-loop μ-loop
+abbrev to-entry : Turn → tie.After-jentry-at Inv-loop μ-loop
 to-entry c = c .before .before .before
 
 abbrev to-head : Turn → tie.At-loop Inv-loop μ-loop
@@ -36,7 +36,7 @@ to-start c = c .before .before .before
 
 -- What the payload of a step adds to the place stays small.
 near : (c : Turn) → c .before .before .payload-len .result < 2 ^ 28
-near c = omega (arith, c .before .before .payload-len .ensures, length-lt (to-entry c .read-jentry .result))
+near c = omega (arith, c .before .before .payload-len .ensures, length-lt (to-entry c .jentry-at .result))
 
 octets : (c : tie.After-encoded Inv-loop μ-loop) → Octets (to-start c .args .s .now)
 octets c = octets-of (to-start c .args .s .now) (λ i. omega (arith, c .before .before .shared-slice-known .given i))
@@ -64,7 +64,7 @@ returns c =
     let turn = c .before .before in
     let sliced = turn .before in
     let entry = to-entry turn in
-    going-stop _ _ _ _ _ _ (to-head turn .loop .inv .2) (entry .before .loop-test .taken) _ _ _ _ (entry .read-jentry .ensures)
+    going-stop _ _ _ _ _ _ (to-head turn .loop .inv .2) (entry .before .loop-test .taken) _ _ _ _ (entry .jentry-at .ensures)
     (sliced .before .payload-len .ensures) (sliced .slice .ensures) (turn .step-from .ensures) (c .enum-told .given .1)
 
 add-place : tie.Need-add-place Inv-loop μ-loop
@@ -83,7 +83,7 @@ loop-again c =
     let head = to-head turn in (
       omega (arith, entry .before .loop-test .taken),
       omega (arith, head .loop .inv .1, near turn),
-      going-on _ _ _ _ _ _ (head .loop .inv .2) (entry .before .loop-test .taken) _ _ _ _ (entry .read-jentry .ensures)
+      going-on _ _ _ _ _ _ (head .loop .inv .2) (entry .before .loop-test .taken) _ _ _ _ (entry .jentry-at .ensures)
           (sized .payload-len .ensures) (sliced .slice .ensures) (turn .step-from .ensures) _ (found .next .given .1),
     )
 

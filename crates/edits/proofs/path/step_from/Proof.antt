@@ -42,8 +42,8 @@ returns-2 c =
     leads-none (a .s .now) (a .item) _ _ (code .type-code .ensures) (inner .before .if1 .left) _ (inner .payload-at .ensures) _
     (search .find-step .ensures) (c .enum-told .given .1)
 
-read-jentry-requires : tie.Need-read-jentry-requires
-read-jentry-requires c κs = omega (arith, small (c .before) .0)
+jentry-at-requires : tie.Need-jentry-at-requires
+jentry-at-requires c κs = omega (arith, small (c .before) .0)
 
 add-t10 : tie.Need-add-t10
 add-t10 c = let found = c .before .before .before .before in omega (arith, small found .1)
@@ -57,7 +57,7 @@ returns-3 c =
     let code = to-code search in
     let a = start code .args in
     leads-on (a .s .now) (a .item) _ _ (code .type-code .ensures) (inner .before .if1 .left) _ (inner .payload-at .ensures) _
-    (search .find-step .ensures) _ (found .part .given .1) _ (entry .read-jentry .ensures)
+    (search .find-step .ensures) _ (found .part .given .1) _ (entry .jentry-at .ensures)
 
 pub step-from-spec : {M : Type 1} → statement M
 step-from-spec =
@@ -70,6 +70,6 @@ step-from-spec =
     (λ c. search needs)
     (λ c. search needs)
     returns-2
-    read-jentry-requires
+    jentry-at-requires
     add-t10
     returns-3)

@@ -65,7 +65,7 @@ use Rattle.edits.proofs.members.measure_ahead.Reads as measure-ahead-re
 use Rattle.edits.proofs.members.members_ahead.Reads as members-ahead-reads
 use Rattle.edits.proofs.members.places_for.Reads as places-for-reads
 use Rattle.layout.proofs.jentry.encoded.Reads as encoded-reads
-use Rattle.layout.proofs.jentry.read_jentry.Reads as read-jentry-reads
+use Rattle.layout.proofs.jentry.jentry_at.Reads as jentry-at-reads
 use Rattle.layout.proofs.jentry.type_code.Reads as type-code-reads
 use Rattle.layout.proofs.util.read_header.Reads as read-header-reads
 use Rattle.layout.proofs.util.slice.Reads as slice-reads
@@ -233,8 +233,8 @@ put-items-stripped-claims t = (
   first-part-reads.Learnt,
   put-u32-reads.Asked,
   put-u32-reads.Learnt,
-  read-jentry-reads.Asked,
-  read-jentry-reads.Learnt,
+  jentry-at-reads.Asked,
+  jentry-at-reads.Learnt,
   put-item-stripped-below t,
   put-item-stripped.Post,
   part-behind-reads.Asked,
@@ -472,7 +472,7 @@ abbrev Items-loop : ℕ → Type 0
 Items-loop = Items put-items-stripped-lts.At-loop
 
 abbrev Items-item : ℕ → Type 0
-Items-item = Items put-items-stripped-lts.After-read-jentry
+Items-item = Items put-items-stripped-lts.After-jentry-at
 
 abbrev Items-stored : ℕ → Type 0
 Items-stored = Items put-items-stripped-lts.After-put-item-stripped
@@ -505,8 +505,8 @@ array-known t c =
 
 item-next : (t : ℕ) (c : Items-item t)
     → Item-next (items-start t (items-loop t c) .args .s .now) (items-start t (items-loop t c) .args .n) (items-loop t c .loop .part)
-    (record { jentry = c .read-jentry .result; place = items-loop t c .loop .part .place })
-item-next t c = record { more = c .before .if1 .taken; entry = c .read-jentry .ensures; place = refl }
+    (record { jentry = c .jentry-at .result; place = items-loop t c .loop .part .place })
+item-next t c = record { more = c .before .if1 .taken; entry = c .jentry-at .ensures; place = refl }
 
 put-items-stripped-first-part-requires : (t : ℕ) → Items put-items-stripped-lts.Need-first-part-requires t
 put-items-stripped-first-part-requires t c κs = let known = array-known t (c .before) in omega (arith, known .table, known .short)
@@ -531,8 +531,8 @@ put-items-stripped-loop-holds t c =
     let first = items-first t (c .before .before) in
     (array-known t (items-entry t first), storing-starts _ _ _ (first .first-part .ensures))
 
-put-items-stripped-read-jentry-requires : (t : ℕ) → Items put-items-stripped-lts.Need-read-jentry-requires t
-put-items-stripped-read-jentry-requires t c κs = omega (arith, storing-room (c .before .before .loop .inv .1), c .if1 .taken)
+put-items-stripped-jentry-at-requires : (t : ℕ) → Items put-items-stripped-lts.Need-jentry-at-requires t
+put-items-stripped-jentry-at-requires t c κs = omega (arith, storing-room (c .before .before .loop .inv .1), c .if1 .taken)
 
 put-items-stripped-sub-put-item-stripped : (t : ℕ) → Items put-items-stripped-lts.Need-sub-put-item-stripped t
 put-items-stripped-sub-put-item-stripped t c = omega (arith, items-loop t (c .before) .loop .inv .0 .deep)
@@ -1113,7 +1113,7 @@ pub +put-item-stripped+put-items-stripped+put-member-stripped+put-members-stripp
     (put-items-stripped-cast-put-u32 t)
     (λ c κs. search needs)
     (put-items-stripped-loop-holds t)
-    (put-items-stripped-read-jentry-requires t)
+    (put-items-stripped-jentry-at-requires t)
     (put-items-stripped-sub-put-item-stripped t)
     (put-items-stripped-put-item-stripped-requires t)
     (λ c. search needs)

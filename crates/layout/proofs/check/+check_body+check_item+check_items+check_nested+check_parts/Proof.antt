@@ -32,7 +32,7 @@ use Rattle.layout.proofs.check.+check_body+check_item+check_items+check
 use Rattle.layout.proofs.check.names_end.Reads as names-end-reads
 use Rattle.layout.proofs.check.refuse_payload.Reads as refuse-payload-reads
 use Rattle.layout.proofs.jentry.payload_len.Reads as payload-len-reads
-use Rattle.layout.proofs.jentry.read_jentry.Reads as read-jentry-reads
+use Rattle.layout.proofs.jentry.jentry_at.Reads as jentry-at-reads
 use Rattle.layout.proofs.jentry.type_code.Reads as type-code-reads
 use Rattle.layout.proofs.number.is_number.Reads as is-number-reads
 use Rattle.layout.proofs.utf8.is_ascii.Reads as is-ascii-reads
@@ -110,7 +110,7 @@ check-item-claims t = (type-code-reads.Asked, type-code-reads.Learnt, is-utf8-re
 
 -- what the functions that `check-items` calls ask and give
 abbrev check-items-claims : ℕ → check-items-lts.Claims
-check-items-claims t = (read-jentry-reads.Asked, read-jentry-reads.Learnt, payload-len-reads.Asked, payload-len-reads.Learnt, check-item-below t, check-item.Post)
+check-items-claims t = (jentry-at-reads.Asked, jentry-at-reads.Learnt, payload-len-reads.Asked, payload-len-reads.Learnt, check-item-below t, check-item.Post)
 
 -- what the functions that `check-nested` calls ask and give
 abbrev check-nested-claims : ℕ → check-nested-lts.Claims
@@ -180,19 +180,19 @@ check-items-loop-holds : (t : ℕ) → check-items-lts.Need-loop-holds (check-it
 check-items-loop-holds t c = (search needs, refl)
 
 check-items-add-end : (t : ℕ) → check-items-lts.Need-add-end (check-items-claims t) (check-items-at t) check-items.Post check-items-Inv-loop check-items-μ-loop
-check-items-add-end t c = rw (c .payload-len .ensures) (omega (arith, length-lt (c .before .read-jentry .result)))
+check-items-add-end t c = rw (c .payload-len .ensures) (omega (arith, length-lt (c .before .jentry-at .result)))
 
 check-items-returns : (t : ℕ) → check-items-lts.Need-returns (check-items-claims t) (check-items-at t) check-items.Post check-items-Inv-loop check-items-μ-loop
-check-items-returns t c = pass-long _ _ _ (c .before .before .before .before .loop .i) (c .before .before .before .before .loop .place) _ (c .before .before .before .before .loop .inv .1) (c .before .before .before .loop-test .taken) _ _ (c .before .before .read-jentry .ensures) (c .before .payload-len .ensures) (c .if1 .taken)
+check-items-returns t c = pass-long _ _ _ (c .before .before .before .before .loop .i) (c .before .before .before .before .loop .place) _ (c .before .before .before .before .loop .inv .1) (c .before .before .before .loop-test .taken) _ _ (c .before .before .jentry-at .ensures) (c .before .payload-len .ensures) (c .if1 .taken)
 
 check-items-check-item-requires : (t : ℕ) → check-items-lts.Need-check-item-requires (check-items-claims t) (check-items-at t) check-items.Post check-items-Inv-loop check-items-μ-loop
 check-items-check-item-requires t c κs = (omega arith, rw (length-take, length-drop) (omega arith))
 
 check-items-returns-2 : (t : ℕ) → check-items-lts.Need-returns-2 (check-items-claims t) (check-items-at t) check-items.Post check-items-Inv-loop check-items-μ-loop
-check-items-returns-2 t c = pass-stop _ _ _ (c .before .before .before .before .before .before .before .before .before .loop .i) (c .before .before .before .before .before .before .before .before .before .loop .place) _ (c .before .before .before .before .before .before .before .before .before .loop .inv .1) (c .before .before .before .before .before .before .before .before .loop-test .taken) _ _ (c .before .before .before .before .before .before .before .read-jentry .ensures) (c .before .before .before .before .before .before .payload-len .ensures) (c .before .before .before .before .before .if1 .left) _ (c .before .before .before .check-item .ensures) _ (c .before .refusal .given .1)
+check-items-returns-2 t c = pass-stop _ _ _ (c .before .before .before .before .before .before .before .before .before .loop .i) (c .before .before .before .before .before .before .before .before .before .loop .place) _ (c .before .before .before .before .before .before .before .before .before .loop .inv .1) (c .before .before .before .before .before .before .before .before .loop-test .taken) _ _ (c .before .before .before .before .before .before .before .jentry-at .ensures) (c .before .before .before .before .before .before .payload-len .ensures) (c .before .before .before .before .before .if1 .left) _ (c .before .before .before .check-item .ensures) _ (c .before .refusal .given .1)
 
 check-items-loop-again : (t : ℕ) → check-items-lts.Need-loop-again (check-items-claims t) (check-items-at t) check-items.Post check-items-Inv-loop check-items-μ-loop
-check-items-loop-again t c = (search needs, pass-more _ _ _ (c .before .before .before .before .before .before .before .before .loop .i) (c .before .before .before .before .before .before .before .before .loop .place) _ (c .before .before .before .before .before .before .before .before .loop .inv .1) (c .before .before .before .before .before .before .before .loop-test .taken) _ _ (c .before .before .before .before .before .before .read-jentry .ensures) (c .before .before .before .before .before .payload-len .ensures) (c .before .before .before .before .if1 .left) _ (c .before .before .check-item .ensures) (c .enum-told .given .1))
+check-items-loop-again t c = (search needs, pass-more _ _ _ (c .before .before .before .before .before .before .before .before .loop .i) (c .before .before .before .before .before .before .before .before .loop .place) _ (c .before .before .before .before .before .before .before .before .loop .inv .1) (c .before .before .before .before .before .before .before .loop-test .taken) _ _ (c .before .before .before .before .before .before .jentry-at .ensures) (c .before .before .before .before .before .payload-len .ensures) (c .before .before .before .before .if1 .left) _ (c .before .before .check-item .ensures) (c .enum-told .given .1))
 
 check-items-returns-3 : (t : ℕ) → check-items-lts.Need-returns-3 (check-items-claims t) (check-items-at t) check-items.Post check-items-Inv-loop check-items-μ-loop
 check-items-returns-3 t c = pass-end _ _ _ (c .before .before .loop .i) (c .before .before .loop .place) _ (c .before .before .loop .inv .1) (c .before .loop-test .left) (c .if2 .taken)

@@ -26,16 +26,16 @@ loop-holds : tie.Need-loop-holds Inv-loop μ-loop
 loop-holds c = (search needs, search needs, rw sub-zero, rw (sub-zero, zero-add))
 
 add-sum : tie.Need-add-sum Inv-loop μ-loop
-add-sum c = rw (c .payload-len .ensures) (omega (arith, length-lt (c .before .before .before .read-jentry .result)))
+add-sum c = rw (c .payload-len .ensures) (omega (arith, length-lt (c .before .before .before .jentry-at .result)))
 
 returns : tie.Need-returns Inv-loop μ-loop
 returns c = let l = c .before .before .before .before .loop in
-    table-bad _ _ (l .i) _ _ _ (c .before .before .before .loop-test .taken) (l .inv .2) (c .before .before .read-jentry .ensures) (c .before .is-jentry .ensures) _ (c .if1 .left)
+    table-bad _ _ (l .i) _ _ _ (c .before .before .before .loop-test .taken) (l .inv .2) (c .before .before .jentry-at .ensures) (c .before .is-jentry .ensures) _ (c .if1 .left)
 
 loop-again : tie.Need-loop-again Inv-loop μ-loop
 loop-again c = let l = c .before .before .before .before .before .loop in
     let lt = c .before .before .before .before .loop-test .taken in
-    let e = c .before .before .before .read-jentry in (
+    let e = c .before .before .before .jentry-at in (
       search needs,
       rw (c .payload-len .ensures) (omega (arith, length-lt (e .result))),
       table-more _ _ (l .i) _ _ _ lt (l .inv .2) (e .ensures) (c .before .before .is-jentry .ensures) (c .before .if1 .taken),

@@ -23,14 +23,14 @@ loop-holds c = (search needs, search needs, rw sub-zero)
 
 returns : tie.Need-returns Inv-loop μ-loop
 returns c = let l = c .before .before .before .loop in
-    names-bad _ _ (l .i) (l .place) _ (l .inv .2) (c .before .before .loop-test .taken) _ (c .before .read-jentry .ensures) (c .if1 .taken)
+    names-bad _ _ (l .i) (l .place) _ (l .inv .2) (c .before .before .loop-test .taken) _ (c .before .jentry-at .ensures) (c .if1 .taken)
 
 add-place : tie.Need-add-place Inv-loop μ-loop
-add-place c = rw (c .payload-len .ensures) (omega (arith, length-lt (c .before .before .read-jentry .result)))
+add-place c = rw (c .payload-len .ensures) (omega (arith, length-lt (c .before .before .jentry-at .result)))
 
 loop-again : tie.Need-loop-again Inv-loop μ-loop
 loop-again c = let l = c .before .before .before .before .loop in
-    let e = c .before .before .read-jentry in (
+    let e = c .before .before .jentry-at in (
       search needs,
       rw (c .payload-len .ensures) (omega (arith, length-lt (e .result))),
       names-more _ _ (l .i) (l .place) _ (l .inv .2) (c .before .before .before .loop-test .taken) _ (e .ensures) (c .before .if1 .left) _ (c .payload-len .ensures),

@@ -9,7 +9,7 @@ returns c =
     let sized = c .before in
     let read = sized .before in
     let start = read .before .before .before in
-    part-behind-is _ (start .args .part) _ _ (read .read-jentry .ensures) (sized .payload-len .ensures)
+    part-behind-is _ (start .args .part) _ _ (read .jentry-at .ensures) (sized .payload-len .ensures)
 
 pub part-behind-spec : {M : Type 1} → statement M
 part-behind-spec =

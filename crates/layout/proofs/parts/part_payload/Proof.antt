@@ -8,7 +8,7 @@ returns : tie.Need-returns
 returns c =
     let measured = c .before in
     let read = measured .before in
-    part-payload-is _ _ (read .before .before .args .part) _ _ (read .read-jentry .ensures) (measured .payload-len .ensures) (c .slice .ensures)
+    part-payload-is _ _ (read .before .before .args .part) _ _ (read .jentry-at .ensures) (measured .payload-len .ensures) (c .slice .ensures)
 
 pub part-payload-spec : {M : Type 1} → statement M
 part-payload-spec =

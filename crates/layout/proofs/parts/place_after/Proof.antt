@@ -26,8 +26,8 @@ loop-again c =
     let read = c .before in
     let turn = read .before in (
       omega arith,
-      omega (arith, c .payload-len .ensures, length-lt (read .read-jentry .result)),
-      place-more _ _ _ _ _ _ _ (turn .loop-test .taken) (turn .before .loop .inv .2) (read .read-jentry .ensures) (c .payload-len .ensures),
+      omega (arith, c .payload-len .ensures, length-lt (read .jentry-at .result)),
+      place-more _ _ _ _ _ _ _ (turn .loop-test .taken) (turn .before .loop .inv .2) (read .jentry-at .ensures) (c .payload-len .ensures),
     )
 
 returns : tie.Need-returns Inv-loop μ-loop

@@ -26,7 +26,7 @@ use Rattle.layout.proofs.sound.is_sound_where_readable.Reads as nested
 use Rattle.layout.proofs.sound.is_sound_where_readable.Kinds as nested-kinds
 use Rattle.layout.proofs.sound.+are_sound+is_sound_item+is_sound_where_readable.Lts-is_sound_where_readable as nested-lts
 use Rattle.layout.proofs.jentry.payload_len.Reads as payload-len-reads
-use Rattle.layout.proofs.jentry.read_jentry.Reads as read-jentry-reads
+use Rattle.layout.proofs.jentry.jentry_at.Reads as jentry-at-reads
 use Rattle.layout.proofs.jentry.type_code.Reads as type-code-reads
 use Rattle.layout.proofs.sound.is_rising.Reads as is-rising-reads
 use Rattle.layout.proofs.util.read_header.Reads as read-header-reads
@@ -77,8 +77,8 @@ are-sound-μ-loop s n start allowance place₀ i₀ place i = n - i
 -- what the functions that `are-sound` calls ask and give
 abbrev are-sound-claims : ℕ → are-sound-lts.Claims
 are-sound-claims t = (
-  read-jentry-reads.Asked,
-  read-jentry-reads.Learnt,
+  jentry-at-reads.Asked,
+  jentry-at-reads.Learnt,
   payload-len-reads.Asked,
   payload-len-reads.Learnt,
   type-code-reads.Asked,
@@ -112,7 +112,7 @@ are-sound-loop-holds t c = (omega arith, rw sub-zero)
 are-sound-add-place : (t : ℕ) → are-sound-lts.Need-add-place (are-sound-claims t) (are-sound-at t) are-sound.Post are-sound-Inv-loop are-sound-μ-loop
 are-sound-add-place t c =
     let sized = c .before .before .before .before in
-    rw (sized .payload-len .ensures) (omega (arith, length-lt (sized .before .read-jentry .result)))
+    rw (sized .payload-len .ensures) (omega (arith, length-lt (sized .before .jentry-at .result)))
 
 are-sound-loop-again : (t : ℕ) → are-sound-lts.Need-loop-again (are-sound-claims t) (are-sound-at t) are-sound.Post are-sound-Inv-loop are-sound-μ-loop
 are-sound-loop-again t c =
@@ -121,10 +121,10 @@ are-sound-loop-again t c =
     let entry = sized .before in
     let turn = entry .before in
     let head = turn .before in (
-      rw (sized .payload-len .ensures) (omega (arith, length-lt (entry .read-jentry .result))),
+      rw (sized .payload-len .ensures) (omega (arith, length-lt (entry .jentry-at .result))),
       every-more _ _ _ _ (head .loop .i) (head .loop .place) _ (head .loop .inv .1) _ _ _ _
           (turn .loop-test .taken)
-          (entry .read-jentry .ensures)
+          (entry .jentry-at .ensures)
           (sized .payload-len .ensures)
           (asked .before .before .type-code .ensures)
           _
@@ -142,7 +142,7 @@ are-sound-returns t c =
     let head = turn .before in
     every-stop _ _ _ _ (head .loop .i) (head .loop .place) _ (head .loop .inv .1) _ _ _ _
     (turn .loop-test .taken)
-    (entry .read-jentry .ensures)
+    (entry .jentry-at .ensures)
     (sized .payload-len .ensures)
     (asked .before .before .type-code .ensures)
     _

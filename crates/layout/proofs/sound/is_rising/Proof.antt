@@ -27,10 +27,10 @@ loop-holds : tie.Need-loop-holds Inv-loop μ-loop
 loop-holds c = (omega arith, rw (c .payload-len .ensures) (omega (arith, length-lt (c .before .read-jentry .result))), rising-start _ _ _ _ _ (c .before .before .if1 .left) (c .before .read-jentry .ensures) (c .payload-len .ensures))
 
 loop-again : tie.Need-loop-again Inv-loop μ-loop
-loop-again c = (omega arith, rw (c .before .before .before .before .payload-len2 .ensures) (omega (arith, length-lt (c .before .before .before .before .before .read-jentry2 .result))), rising-more _ _ (c .before .before .before .before .before .before .before .loop .i) (c .before .before .before .before .before .before .before .loop .place) (c .before .before .before .before .before .before .before .loop .len) _ _ _ _ (c .before .before .before .before .before .before .loop-test .taken) (c .before .before .before .before .before .before .before .loop .inv .2) (c .before .before .before .before .before .read-jentry2 .ensures) (c .before .before .before .before .payload-len2 .ensures) _ _ (c .before .before .before .slice .ensures) (c .before .before .slice2 .ensures) (c .before .is-before .ensures) (c .if2 .taken))
+loop-again c = (omega arith, rw (c .before .before .before .before .payload-len2 .ensures) (omega (arith, length-lt (c .before .before .before .before .before .jentry-at .result))), rising-more _ _ (c .before .before .before .before .before .before .before .loop .i) (c .before .before .before .before .before .before .before .loop .place) (c .before .before .before .before .before .before .before .loop .len) _ _ _ _ (c .before .before .before .before .before .before .loop-test .taken) (c .before .before .before .before .before .before .before .loop .inv .2) (c .before .before .before .before .before .jentry-at .ensures) (c .before .before .before .before .payload-len2 .ensures) _ _ (c .before .before .before .slice .ensures) (c .before .before .slice2 .ensures) (c .before .is-before .ensures) (c .if2 .taken))
 
 returns-2 : tie.Need-returns-2 Inv-loop μ-loop
-returns-2 c = rising-stop _ _ (c .before .before .before .before .before .before .before .loop .i) (c .before .before .before .before .before .before .before .loop .place) (c .before .before .before .before .before .before .before .loop .len) _ _ _ _ (c .before .before .before .before .before .before .loop-test .taken) (c .before .before .before .before .before .before .before .loop .inv .2) (c .before .before .before .before .before .read-jentry2 .ensures) (c .before .before .before .before .payload-len2 .ensures) _ _ (c .before .before .before .slice .ensures) (c .before .before .slice2 .ensures) (c .before .is-before .ensures) (c .if2 .left)
+returns-2 c = rising-stop _ _ (c .before .before .before .before .before .before .before .loop .i) (c .before .before .before .before .before .before .before .loop .place) (c .before .before .before .before .before .before .before .loop .len) _ _ _ _ (c .before .before .before .before .before .before .loop-test .taken) (c .before .before .before .before .before .before .before .loop .inv .2) (c .before .before .before .before .before .jentry-at .ensures) (c .before .before .before .before .payload-len2 .ensures) _ _ (c .before .before .before .slice .ensures) (c .before .before .slice2 .ensures) (c .before .is-before .ensures) (c .if2 .left)
 
 returns-3 : tie.Need-returns-3 Inv-loop μ-loop
 returns-3 c = rising-end _ _ (c .before .loop .i) _ _ _ (c .loop-test .left) (c .before .loop .inv .2)

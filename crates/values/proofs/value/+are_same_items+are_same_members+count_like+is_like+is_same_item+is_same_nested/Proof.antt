@@ -33,7 +33,7 @@ use Rattle.values.proofs.value.+are_same_items+are_same_members+count_l
 use Rattle.values.proofs.value.is_same_nested.Reads as is-same-nested
 use Rattle.values.proofs.value.is_same_nested.Kinds as is-same-nested-kinds
 use Rattle.values.proofs.value.+are_same_items+are_same_members+count_like+is_like+is_same_item+is_same_nested.Lts-is_same_nested as is-same-nested-lts
-use Rattle.layout.proofs.jentry.read_jentry.Reads as read-jentry-reads
+use Rattle.layout.proofs.jentry.jentry_at.Reads as jentry-at-reads
 use Rattle.layout.proofs.jentry.type_code.Reads as type-code-reads
 use Rattle.layout.proofs.order.is_same_bytes.Reads as is-same-bytes-reads
 use Rattle.layout.proofs.parts.part_behind.Reads as part-behind-reads
@@ -171,8 +171,8 @@ is-like-claims t = (
 
 abbrev is-same-item-claims : ℕ → is-same-item-lts.Claims
 is-same-item-claims t = (
-  read-jentry-reads.Asked,
-  read-jentry-reads.Learnt,
+  jentry-at-reads.Asked,
+  jentry-at-reads.Learnt,
   type-code-reads.Asked,
   type-code-reads.Learnt,
   is-same-kind-reads.Asked,
@@ -498,7 +498,7 @@ Item-start t =
 
 abbrev Item-read : ℕ → Type 0
 Item-read t =
-    is-same-item-lts.After-read-jentry (is-same-item-claims t) (is-same-item-at t) is-same-item.Post
+    is-same-item-lts.After-jentry-at (is-same-item-claims t) (is-same-item-at t) is-same-item.Post
 
 abbrev Item-kinds : ℕ → Type 0
 Item-kinds t =
@@ -521,7 +521,7 @@ kinds-known : (t : ℕ) (c : Item-kinds t)
 kinds-known t c =
     let other = c .before in
     let code = other .before .before in
-    kinds-read _ _ _ _ _ _ _ _ _ (code .before .read-jentry .ensures) (code .type-code .ensures) (other .before .read-jentry2 .ensures)
+    kinds-read _ _ _ _ _ _ _ _ _ (code .before .jentry-at .ensures) (code .type-code .ensures) (other .before .jentry-at2 .ensures)
     (other .type-code2 .ensures) (c .is-same-kind .ensures)
 
 is-same-item-returns : (t : ℕ)
