@@ -11,7 +11,7 @@ use Rattle.layout.specs.Tree.{Tree, null, boolean, number, string, exten
 use Rattle.layout.specs.Encode.{payload}
 use Rattle.layout.specs.Order.{same-bytes}
 use Rattle.layout.specs.Value.{Taken, Same, SameItems, SameMembers}
-use Rattle.layout.specs.Value.{same-kind, same-scalar, of-array, of-object, without, same, same-items, same-members}
+use Rattle.layout.specs.Value.{same-kind, same-scalar, of-array, of-object, take-out, same, same-items, same-members}
 use Rattle.layout.specs.declared.item.Kind.{Kind}
 use Rattle.layout.specs.declared.item.Kind.the-variants.{Null, String, Number, False, True, Container, Extension}
 use Rattle.layout.proofs.Level.{eq-test}
@@ -200,13 +200,13 @@ passed-object test (extension b) h = absurd h
 passed-object test (array us) h = absurd h
 passed-object test (object ns) h = (ns, refl, h)
 
--- A member that passes, which `without` takes out; and that there is none.
+-- A member that passes, which `take-out` takes out; and that there is none.
 abbrev Found : Bytes → (Tree → Bool) → Members → Type 0
-Found n value ns = (v : Tree) × (r : Members) × Taken n v ns r × T (value v) × ((rest : Members → Bool) → without n value rest ns ≡ rest r)
+Found n value ns = (v : Tree) × (r : Members) × Taken n v ns r × T (value v) × ((rest : Members → Bool) → take-out n value rest ns ≡ rest r)
 
 abbrev Missing : Bytes → (Tree → Bool) → Members → Type 0
 Missing n value ns =
-    ((v : Tree) (r : Members) → Taken n v ns r → T (value v) → ⊥) × ((rest : Members → Bool) → without n value rest ns ≡ false)
+    ((v : Tree) (r : Members) → Taken n v ns r → T (value v) → ⊥) × ((rest : Members → Bool) → take-out n value rest ns ≡ false)
 
 searched : (n : Bytes) (value : Tree → Bool) (ns : Members) → Found n value ns ⊎ Missing n value ns
 searched n value empty = inr (λ v r k h. k, λ rest. refl)

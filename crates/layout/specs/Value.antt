@@ -67,10 +67,10 @@ of-object test (object ns) = test ns
 
 -- The first member of the name `n` with a value that passes is taken out, and `rest` asked of those that are left; no where there is
 -- none.
-abbrev pub without : Bytes → (Tree → Bool) → (Members → Bool) → Members → Bool
-without n value rest empty = false
-without n value rest (member m u ns) =
-    cond (same-bytes n m && value u) (rest ns) (without n value (λ r. rest (member m u r)) ns)
+abbrev pub take-out : Bytes → (Tree → Bool) → (Members → Bool) → Members → Bool
+take-out n value rest empty = false
+take-out n value rest (member m u ns) =
+    cond (same-bytes n m && value u) (rest ns) (take-out n value (λ r. rest (member m u r)) ns)
 
 abbrev mutual
   pub same : Tree → Tree → Bool
@@ -93,4 +93,4 @@ abbrev mutual
   pub same-members : Members → Members → Bool
   same-members empty empty = true
   same-members empty (member m u ns) = false
-  same-members (member n t ms) ns = without n (λ u. same t u) (λ r. same-members ms r) ns
+  same-members (member n t ms) ns = take-out n (λ u. same t u) (λ r. same-members ms r) ns

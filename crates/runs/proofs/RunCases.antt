@@ -253,7 +253,7 @@ seen-overlaid =
       values = one-value ∷ true-b-value ∷ [];
       some-record = omega arith;
       all-sound = (one-sound, (true-b-sound, tt));
-      kept = (
+      met = (
         record { there = (omega arith, λ _. omega arith); promise = record { answer = refl; bytes = refl } },
         (record { there = (omega arith, λ k. absurd k); promise = record { answer = refl; bytes = refl } }, tt),
       );

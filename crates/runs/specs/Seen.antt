@@ -21,7 +21,7 @@ pub record Seen : Type 0 where
 
 -- On a shelf: the call takes records that are there, and its answer and its buffer are what the function promises of the outcome
 -- that document 01 gives the call there.
-pub record Kept (shelf : Shelf) (s : Seen) : Type 0 where
+pub record Met (shelf : Shelf) (s : Seen) : Type 0 where
   pub there : There (s .call .edit) (s .call .left) (s .call .right) (length shelf)
   pub promise : Ended (s .answer) (s .call .buffer) (s .behind) (outcome-on (s .call) shelf)
 
@@ -33,10 +33,10 @@ abbrev pub put-all : Shelf → List Seen → Shelf
 put-all shelf [] = shelf
 put-all shelf (s ∷ more) = put-all (put shelf s) more
 
--- Each promise is kept on the shelf then.
-abbrev pub AllKept : Shelf → List Seen → Type 0
-AllKept shelf [] = Unit {0}
-AllKept shelf (s ∷ more) = Kept shelf s × AllKept (put shelf s) more
+-- Each promise is met on the shelf then.
+abbrev pub AllMet : Shelf → List Seen → Type 0
+AllMet shelf [] = Unit {0}
+AllMet shelf (s ∷ more) = Met shelf s × AllMet (put shelf s) more
 
 abbrev pub calls-of : List Seen → List Call
 calls-of [] = []
@@ -53,7 +53,7 @@ pub record History : Type 0 where
   pub values : List Tree
   pub some-record : 0 < length shelf
   pub all-sound : AllSoundWith shelf values
-  pub kept : AllKept shelf seen
+  pub met : AllMet shelf seen
 
 -- The answers and the shelf are those that were seen. The account is fed the calls and the values of the starting shelf, and nothing
 -- of what was seen.

@@ -9,7 +9,8 @@ use borrow.Author.Needs.{needs}
 use Rattle.layout.specs.Read.{nested}
 use Rattle.layout.specs.Pass.{items-checked}
 use Rattle.layout.proofs.Fields.{part-all, length-lt}
-use Rattle.layout.proofs.Checks.{item-top, item-text, item-no-text, item-number, item-no-number, item-container, item-extension, item-unused, item-empty, item-not-empty, body-short, told-array, told-object, nested-refused, nested-scalar, deep-array, deep-object, nested-array, nested-object}
+use Rattle.layout.proofs.Checks.{item-top, item-text, item-no-text, item-number, item-no-number, item-container, item-extension, item-unused, item-empty, item-not-empty}
+use Rattle.layout.proofs.Checks.{body-short, told-array, told-object, nested-refused, nested-scalar, deep-array, deep-object, nested-array, nested-object}
 use Rattle.layout.proofs.Passes.{pass-long, pass-stop, pass-more, pass-end, pass-short, names-within, parts-behind, parts-all, body-no-names, body-passed, body-refused}
 use Prim.Native.Nat.{ℕ, _<_}
 use borrow.Fn.Kinds.{In}
@@ -106,7 +107,18 @@ check-body-claims t = (names-end-reads.Asked, names-end-reads.Learnt, check-part
 
 -- what the functions that `check-item` calls ask and give
 abbrev check-item-claims : ℕ → check-item-lts.Claims
-check-item-claims t = (type-code-reads.Asked, type-code-reads.Learnt, is-utf8-reads.Asked, is-utf8-reads.Learnt, is-number-reads.Asked, is-number-reads.Learnt, check-nested-below t, check-nested.Post, payload-len-reads.Asked, payload-len-reads.Learnt)
+check-item-claims t = (
+  type-code-reads.Asked,
+  type-code-reads.Learnt,
+  is-utf8-reads.Asked,
+  is-utf8-reads.Learnt,
+  is-number-reads.Asked,
+  is-number-reads.Learnt,
+  check-nested-below t,
+  check-nested.Post,
+  payload-len-reads.Asked,
+  payload-len-reads.Learnt,
+)
 
 -- what the functions that `check-items` calls ask and give
 abbrev check-items-claims : ℕ → check-items-lts.Claims
@@ -124,37 +136,91 @@ check-body-returns : (t : ℕ) → check-body-lts.Need-returns (check-body-claim
 check-body-returns t c = body-short (nested (c .before .before .args .allowance)) (c .before .before .args .s .now) _ _ (c .before .before .pre .1 .0) (c .if1 .taken)
 
 check-body-returns-2 : (t : ℕ) → check-body-lts.Need-returns-2 (check-body-claims t) (check-body-at t) check-body.Post
-check-body-returns-2 t c = body-no-names _ _ _ _ (c .before .before .before .before .before .pre .1 .0) (c .before .before .before .if1 .left) (c .before .before .before .before .before .pre .1 .3) _ (c .before .before .names-end .ensures) (c .enum-told .given .1)
+check-body-returns-2 t c =
+    let named = c .before .before in
+    let passed = named .before in
+    let start = passed .before .before in
+    body-no-names _ _ _ _ (start .pre .1 .0) (passed .if1 .left) (start .pre .1 .3) _ (named .names-end .ensures)
+    (c .enum-told .given .1)
 
 check-body-check-parts-requires : (t : ℕ) → check-body-lts.Need-check-parts-requires (check-body-claims t) (check-body-at t) check-body.Post
 check-body-check-parts-requires t c κs = (search needs, (search needs, search needs, search needs, sym (c .before .before .before .names-end .ensures) ∙ c .before .end .given .1))
 
 check-body-refuse-payload-requires : (t : ℕ) → check-body-lts.Need-refuse-payload-requires (check-body-claims t) (check-body-at t) check-body.Post
-check-body-refuse-payload-requires t c κs = rw (part-all (c .before .before .before .before .before .before .before .before .before .before .before .args .s .now)) (omega arith)
+check-body-refuse-payload-requires t c κs =
+    let passed = c .before .before .before .before in
+    let passed₂ = passed .before .before .before .before in
+    let start = passed₂ .before .before .before in
+    rw (part-all (start .args .s .now)) (omega arith)
 
 check-body-returns-3 : (t : ℕ) → check-body-lts.Need-returns-3 (check-body-claims t) (check-body-at t) check-body.Post
-check-body-returns-3 t c = body-refused _ _ _ _ (c .before .before .before .before .before .before .before .before .before .before .before .before .pre .1 .0) (c .before .before .before .before .before .before .before .before .before .before .if1 .left) (c .before .before .before .before .before .before .before .before .before .before .before .before .pre .1 .3) _ (c .before .before .before .before .before .check-parts .ensures) _ (c .before .before .before .refusal .given .1) _ (part-all _) _ (c .refuse-payload .ensures)
+check-body-returns-3 t c =
+    let told = c .before .before .before in
+    let parts = told .before .before in
+    let passed = parts .before .before .before .before in
+    let passed₂ = passed .before in
+    let start = passed₂ .before .before in
+    body-refused _ _ _ _ (start .pre .1 .0) (passed₂ .if1 .left) (start .pre .1 .3) _ (parts .check-parts .ensures) _
+    (told .refusal .given .1) _ (part-all _) _ (c .refuse-payload .ensures)
 
 check-body-returns-4 : (t : ℕ) → check-body-lts.Need-returns-4 (check-body-claims t) (check-body-at t) check-body.Post
-check-body-returns-4 t c = body-passed _ _ _ _ (c .before .before .before .before .before .before .before .before .before .pre .1 .0) (c .before .before .before .before .before .before .before .if1 .left) (c .before .before .before .before .before .before .before .before .before .pre .1 .3) _ (c .before .before .check-parts .ensures) _ (sym (c .before .before .before .before .before .before .names-end .ensures) ∙ c .before .before .before .before .end .given .1) (c .enum-told2 .given .1)
+check-body-returns-4 t c =
+    let parts = c .before .before in
+    let ended = parts .before .before in
+    let named = ended .before .before in
+    let passed = named .before in
+    let start = passed .before .before in
+    body-passed _ _ _ _ (start .pre .1 .0) (passed .if1 .left) (start .pre .1 .3) _ (parts .check-parts .ensures) _
+    (sym (named .names-end .ensures) ∙ ended .end .given .1) (c .enum-told2 .given .1)
 
 check-item-returns : (t : ℕ) → check-item-lts.Need-returns (check-item-claims t) (check-item-at t) check-item.Post
 check-item-returns t c = item-top _ (c .before .before .args .entry) _ (λ z. omega arith)
 
 check-item-returns-2 : (t : ℕ) → check-item-lts.Need-returns-2 (check-item-claims t) (check-item-at t) check-item.Post
-check-item-returns-2 t c = item-text _ _ _ (c .before .before .before .before .if1 .left) _ (c .before .before .before .type-code .ensures) _ (c .before .before .match .keys1) (c .before .is-utf8 .ensures) (c .if2 .taken)
+check-item-returns-2 t c =
+    let asked = c .before in
+    let arm = asked .before in
+    let coded = arm .before in
+    let passed = coded .before in
+    item-text _ _ _ (passed .if1 .left) _ (coded .type-code .ensures) _ (arm .match .keys1) (asked .is-utf8 .ensures)
+    (c .if2 .taken)
 
 check-item-returns-3 : (t : ℕ) → check-item-lts.Need-returns-3 (check-item-claims t) (check-item-at t) check-item.Post
-check-item-returns-3 t c = item-number _ _ _ (c .before .before .before .before .if1 .left) _ (c .before .before .before .type-code .ensures) _ (c .before .before .match .keys2) (c .before .is-number .ensures) (c .if3 .taken)
+check-item-returns-3 t c =
+    let asked = c .before in
+    let arm = asked .before in
+    let coded = arm .before in
+    let passed = coded .before in
+    item-number _ _ _ (passed .if1 .left) _ (coded .type-code .ensures) _ (arm .match .keys2) (asked .is-number .ensures)
+    (c .if3 .taken)
 
 check-item-returns-4 : (t : ℕ) → check-item-lts.Need-returns-4 (check-item-claims t) (check-item-at t) check-item.Post
-check-item-returns-4 t c = item-empty _ _ _ (c .before .before .before .before .if1 .left) _ (c .before .before .before .type-code .ensures) (c .before .before .match .rest .0 .0 .0 .0 .1) (c .before .before .match .rest .0 .0 .0 .1) (c .before .before .match .rest .0 .0 .1) (c .before .before .match .rest .0 .1) (c .before .before .match .rest .1) _ (c .before .payload-len .ensures) (c .if4 .taken)
+check-item-returns-4 t c =
+    let sized = c .before in
+    let arm = sized .before in
+    let coded = arm .before in
+    let passed = coded .before in
+    item-empty _ _ _ (passed .if1 .left) _ (coded .type-code .ensures) (arm .match .rest .0 .0 .0 .0 .1)
+    (arm .match .rest .0 .0 .0 .1) (arm .match .rest .0 .0 .1) (arm .match .rest .0 .1) (arm .match .rest .1) _
+    (sized .payload-len .ensures) (c .if4 .taken)
 
 check-item-returns-5 : (t : ℕ) → check-item-lts.Need-returns-5 (check-item-claims t) (check-item-at t) check-item.Post
-check-item-returns-5 t c = item-no-text _ _ _ (c .before .before .before .before .if1 .left) _ (c .before .before .before .type-code .ensures) _ (c .before .before .match .keys1) (c .before .is-utf8 .ensures) (c .if2 .left)
+check-item-returns-5 t c =
+    let asked = c .before in
+    let arm = asked .before in
+    let coded = arm .before in
+    let passed = coded .before in
+    item-no-text _ _ _ (passed .if1 .left) _ (coded .type-code .ensures) _ (arm .match .keys1) (asked .is-utf8 .ensures)
+    (c .if2 .left)
 
 check-item-returns-6 : (t : ℕ) → check-item-lts.Need-returns-6 (check-item-claims t) (check-item-at t) check-item.Post
-check-item-returns-6 t c = item-no-number _ _ _ (c .before .before .before .before .if1 .left) _ (c .before .before .before .type-code .ensures) _ (c .before .before .match .keys2) (c .before .is-number .ensures) (c .if3 .left)
+check-item-returns-6 t c =
+    let asked = c .before in
+    let arm = asked .before in
+    let coded = arm .before in
+    let passed = coded .before in
+    item-no-number _ _ _ (passed .if1 .left) _ (coded .type-code .ensures) _ (arm .match .keys2) (asked .is-number .ensures)
+    (c .if3 .left)
 
 check-item-returns-7 : (t : ℕ) → check-item-lts.Need-returns-7 (check-item-claims t) (check-item-at t) check-item.Post
 check-item-returns-7 t c = item-container _ _ _ (c .before .before .before .if1 .left) _ (c .before .before .type-code .ensures) (c .before .match .keys3) _ (c .check-nested .ensures)
@@ -166,7 +232,14 @@ check-item-returns-9 : (t : ℕ) → check-item-lts.Need-returns-9 (check-item-c
 check-item-returns-9 t c = item-unused _ _ _ (c .before .before .if1 .left) _ (c .before .type-code .ensures) (c .match .keys5)
 
 check-item-returns-10 : (t : ℕ) → check-item-lts.Need-returns-10 (check-item-claims t) (check-item-at t) check-item.Post
-check-item-returns-10 t c = item-not-empty _ _ _ (c .before .before .before .before .if1 .left) _ (c .before .before .before .type-code .ensures) (c .before .before .match .rest .0 .0 .0 .0 .1) (c .before .before .match .rest .0 .0 .0 .1) (c .before .before .match .rest .0 .0 .1) (c .before .before .match .rest .0 .1) (c .before .before .match .rest .1) _ (c .before .payload-len .ensures) (c .if4 .left)
+check-item-returns-10 t c =
+    let sized = c .before in
+    let arm = sized .before in
+    let coded = arm .before in
+    let passed = coded .before in
+    item-not-empty _ _ _ (passed .if1 .left) _ (coded .type-code .ensures) (arm .match .rest .0 .0 .0 .0 .1)
+    (arm .match .rest .0 .0 .0 .1) (arm .match .rest .0 .0 .1) (arm .match .rest .0 .1) (arm .match .rest .1) _
+    (sized .payload-len .ensures) (c .if4 .left)
 
 abbrev check-items-Inv-loop : check-items-lts.InvT-loop
 check-items-Inv-loop s n from start allowance place₀ i₀ place i =
@@ -183,16 +256,43 @@ check-items-add-end : (t : ℕ) → check-items-lts.Need-add-end (check-items-cl
 check-items-add-end t c = rw (c .payload-len .ensures) (omega (arith, length-lt (c .before .jentry-at .result)))
 
 check-items-returns : (t : ℕ) → check-items-lts.Need-returns (check-items-claims t) (check-items-at t) check-items.Post check-items-Inv-loop check-items-μ-loop
-check-items-returns t c = pass-long _ _ _ (c .before .before .before .before .loop .i) (c .before .before .before .before .loop .place) _ (c .before .before .before .before .loop .inv .1) (c .before .before .before .loop-test .taken) _ _ (c .before .before .jentry-at .ensures) (c .before .payload-len .ensures) (c .if1 .taken)
+check-items-returns t c =
+    let sized = c .before in
+    let entry = sized .before in
+    let turn = entry .before in
+    let head = turn .before in
+    pass-long _ _ _ (head .loop .i) (head .loop .place) _ (head .loop .inv .1) (turn .loop-test .taken) _ _
+    (entry .jentry-at .ensures) (sized .payload-len .ensures) (c .if1 .taken)
 
 check-items-check-item-requires : (t : ℕ) → check-items-lts.Need-check-item-requires (check-items-claims t) (check-items-at t) check-items.Post check-items-Inv-loop check-items-μ-loop
 check-items-check-item-requires t c κs = (omega arith, rw (length-take, length-drop) (omega arith))
 
 check-items-returns-2 : (t : ℕ) → check-items-lts.Need-returns-2 (check-items-claims t) (check-items-at t) check-items.Post check-items-Inv-loop check-items-μ-loop
-check-items-returns-2 t c = pass-stop _ _ _ (c .before .before .before .before .before .before .before .before .before .loop .i) (c .before .before .before .before .before .before .before .before .before .loop .place) _ (c .before .before .before .before .before .before .before .before .before .loop .inv .1) (c .before .before .before .before .before .before .before .before .loop-test .taken) _ _ (c .before .before .before .before .before .before .before .jentry-at .ensures) (c .before .before .before .before .before .before .payload-len .ensures) (c .before .before .before .before .before .if1 .left) _ (c .before .before .before .check-item .ensures) _ (c .before .refusal .given .1)
+check-items-returns-2 t c =
+    let told = c .before in
+    let asked = told .before .before in
+    let passed = asked .before .before in
+    let sized = passed .before in
+    let entry = sized .before in
+    let turn = entry .before in
+    let head = turn .before in
+    pass-stop _ _ _ (head .loop .i) (head .loop .place) _ (head .loop .inv .1) (turn .loop-test .taken) _ _
+    (entry .jentry-at .ensures) (sized .payload-len .ensures) (passed .if1 .left) _ (asked .check-item .ensures) _
+    (told .refusal .given .1)
 
 check-items-loop-again : (t : ℕ) → check-items-lts.Need-loop-again (check-items-claims t) (check-items-at t) check-items.Post check-items-Inv-loop check-items-μ-loop
-check-items-loop-again t c = (search needs, pass-more _ _ _ (c .before .before .before .before .before .before .before .before .loop .i) (c .before .before .before .before .before .before .before .before .loop .place) _ (c .before .before .before .before .before .before .before .before .loop .inv .1) (c .before .before .before .before .before .before .before .loop-test .taken) _ _ (c .before .before .before .before .before .before .jentry-at .ensures) (c .before .before .before .before .before .payload-len .ensures) (c .before .before .before .before .if1 .left) _ (c .before .before .check-item .ensures) (c .enum-told .given .1))
+check-items-loop-again t c =
+    let asked = c .before .before in
+    let passed = asked .before .before in
+    let sized = passed .before in
+    let entry = sized .before in
+    let turn = entry .before in
+    let head = turn .before in (
+      search needs,
+      pass-more _ _ _ (head .loop .i) (head .loop .place) _ (head .loop .inv .1) (turn .loop-test .taken) _ _
+          (entry .jentry-at .ensures) (sized .payload-len .ensures) (passed .if1 .left) _ (asked .check-item .ensures)
+          (c .enum-told .given .1),
+    )
 
 check-items-returns-3 : (t : ℕ) → check-items-lts.Need-returns-3 (check-items-claims t) (check-items-at t) check-items.Post check-items-Inv-loop check-items-μ-loop
 check-items-returns-3 t c = pass-end _ _ _ (c .before .before .loop .i) (c .before .before .loop .place) _ (c .before .before .loop .inv .1) (c .before .loop-test .left) (c .if2 .taken)
@@ -204,16 +304,28 @@ check-nested-returns : (t : ℕ) → check-nested-lts.Need-returns (check-nested
 check-nested-returns t c = deep-array _ _ _ (c .before .before .before .before .read-header .ensures) _ (c .before .before .n .given .1) (c .if1 .taken)
 
 check-nested-check-body-requires : (t : ℕ) → check-nested-lts.Need-check-body-requires (check-nested-claims t) (check-nested-at t) check-nested.Post
-check-nested-check-body-requires t c κs = let h = told-array _ _ (c .before .before .before .before .before .read-header .ensures) _ (c .before .before .before .n .given .1) in rw (part-all (c .before .before .before .before .before .before .before .args .s .now)) (omega arith)
+check-nested-check-body-requires t c κs =
+    let counted = c .before .before .before in
+    let opened = counted .before .before in
+    let h = told-array _ _ (opened .read-header .ensures) _ (counted .n .given .1) in
+    rw (part-all (opened .before .before .args .s .now)) (omega arith)
 
 check-nested-returns-2 : (t : ℕ) → check-nested-lts.Need-returns-2 (check-nested-claims t) (check-nested-at t) check-nested.Post
 check-nested-returns-2 t c = deep-object _ _ _ (c .before .before .before .before .read-header .ensures) _ (c .before .before .n2 .given .1) (c .if2 .taken)
 
 check-nested-add-check-body : (t : ℕ) → check-nested-lts.Need-add-check-body (check-nested-claims t) (check-nested-at t) check-nested.Post
-check-nested-add-check-body t c = let h = told-object _ _ (c .before .before .before .before .before .read-header .ensures) _ (c .before .before .before .n2 .given .1) in omega arith
+check-nested-add-check-body t c =
+    let counted = c .before .before .before in
+    let opened = counted .before .before in
+    let h = told-object _ _ (opened .read-header .ensures) _ (counted .n2 .given .1) in
+    omega arith
 
 check-nested-check-body-requires-2 : (t : ℕ) → check-nested-lts.Need-check-body-requires-2 (check-nested-claims t) (check-nested-at t) check-nested.Post
-check-nested-check-body-requires-2 t c κs = let h = told-object _ _ (c .before .before .before .before .before .read-header .ensures) _ (c .before .before .before .n2 .given .1) in rw (part-all (c .before .before .before .before .before .before .before .args .s .now)) (omega arith)
+check-nested-check-body-requires-2 t c κs =
+    let counted = c .before .before .before in
+    let opened = counted .before .before in
+    let h = told-object _ _ (opened .read-header .ensures) _ (counted .n2 .given .1) in
+    rw (part-all (opened .before .before .args .s .now)) (omega arith)
 
 check-nested-returns-3 : (t : ℕ) → check-nested-lts.Need-returns-3 (check-nested-claims t) (check-nested-at t) check-nested.Post
 check-nested-returns-3 t c = nested-refused _ _ _ (c .before .before .before .read-header .ensures) _ (c .before .refusal .given .1)
@@ -222,10 +334,20 @@ check-nested-returns-4 : (t : ℕ) → check-nested-lts.Need-returns-4 (check-ne
 check-nested-returns-4 t c = nested-scalar _ _ _ (c .before .before .read-header .ensures) _ (c .enum-told .given .1)
 
 check-nested-returns-5 : (t : ℕ) → check-nested-lts.Need-returns-5 (check-nested-claims t) (check-nested-at t) check-nested.Post
-check-nested-returns-5 t c = nested-array _ _ _ (c .before .before .before .before .before .before .read-header .ensures) _ (c .before .before .if1 .left) _ _ (part-all _) (c .before .before .before .before .n .given .1) (c .check-body .ensures)
+check-nested-returns-5 t c =
+    let passed = c .before .before in
+    let counted = passed .before .before in
+    let opened = counted .before .before in
+    nested-array _ _ _ (opened .read-header .ensures) _ (passed .if1 .left) _ _ (part-all _) (counted .n .given .1)
+    (c .check-body .ensures)
 
 check-nested-returns-6 : (t : ℕ) → check-nested-lts.Need-returns-6 (check-nested-claims t) (check-nested-at t) check-nested.Post
-check-nested-returns-6 t c = nested-object _ _ _ (c .before .before .before .before .before .before .read-header .ensures) _ (c .before .before .if2 .left) _ _ (part-all _) (c .before .before .before .before .n2 .given .1) (c .check-body2 .ensures)
+check-nested-returns-6 t c =
+    let passed₂ = c .before .before in
+    let counted = passed₂ .before .before in
+    let opened = counted .before .before in
+    nested-object _ _ _ (opened .read-header .ensures) _ (passed₂ .if2 .left) _ _ (part-all _) (counted .n2 .given .1)
+    (c .check-body2 .ensures)
 
 check-parts-sub-is-ascii : (t : ℕ) → check-parts-lts.Need-sub-is-ascii (check-parts-claims t) (check-parts-at t) check-parts.Post
 check-parts-sub-is-ascii t c = omega (arith, names-within _ _ _ _ (c .before .pre .1 .3))
@@ -237,13 +359,24 @@ check-parts-part-is-ascii-end : (t : ℕ) → check-parts-lts.Need-part-is-ascii
 check-parts-part-is-ascii-end t c = omega (arith, names-within _ _ _ _ (c .before .pre .1 .3))
 
 check-parts-check-items-requires : (t : ℕ) → check-parts-lts.Need-check-items-requires (check-parts-claims t) (check-parts-at t) check-parts.Post
-check-parts-check-items-requires t c κs = rw (part-all (c .before .before .before .before .before .args .s .now)) (omega (arith, names-within _ _ _ _ (c .before .before .before .before .before .pre .1 .3)))
+check-parts-check-items-requires t c κs =
+    let passed = c .before .before .before .before in
+    let start = passed .before in
+    rw (part-all (start .args .s .now)) (omega (arith, names-within _ _ _ _ (start .pre .1 .3)))
 
 check-parts-returns : (t : ℕ) → check-parts-lts.Need-returns (check-parts-claims t) (check-parts-at t) check-parts.Post
-check-parts-returns t c = parts-behind _ _ _ _ _ _ (part-all _) _ _ (c .before .before .before .before .before .before .pre .1 .2) (c .before .before .before .before .before .before .pre .1 .3) _ (c .before .before .before .is-ascii .ensures) (c .before .before .if1 .taken) (c .check-items .ensures)
+check-parts-returns t c =
+    let passed = c .before .before in
+    let seen = passed .before in
+    let start = seen .before .before .before in
+    parts-behind _ _ _ _ _ _ (part-all _) _ _ (start .pre .1 .2) (start .pre .1 .3) _ (seen .is-ascii .ensures)
+    (passed .if1 .taken) (c .check-items .ensures)
 
 check-parts-check-items-requires-2 : (t : ℕ) → check-parts-lts.Need-check-items-requires-2 (check-parts-claims t) (check-parts-at t) check-parts.Post
-check-parts-check-items-requires-2 t c κs = rw (part-all (c .before .before .before .before .before .args .s .now)) (omega (arith, names-within _ _ _ _ (c .before .before .before .before .before .pre .1 .3)))
+check-parts-check-items-requires-2 t c κs =
+    let passed = c .before .before .before .before in
+    let start = passed .before in
+    rw (part-all (start .args .s .now)) (omega (arith, names-within _ _ _ _ (start .pre .1 .3)))
 
 check-parts-returns-2 : (t : ℕ) → check-parts-lts.Need-returns-2 (check-parts-claims t) (check-parts-at t) check-parts.Post
 check-parts-returns-2 t c = parts-all _ _ _ _ _ _ (part-all _) (c .check-items2 .ensures)

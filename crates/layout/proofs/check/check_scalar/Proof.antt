@@ -11,13 +11,40 @@ returns-2 : tie.Need-returns-2
 returns-2 c = scalar-short (c .before .before .before .args .count) (c .before .before .before .args .s .now) (c .before .if1 .left) (c .if2 .taken)
 
 returns-3 : tie.Need-returns-3
-returns-3 c = scalar-container (c .before .before .before .before .before .before .before .args .count) (c .before .before .before .before .before .before .before .args .s .now) (c .before .before .before .before .before .if1 .left) (c .before .before .before .before .if2 .left) _ _ _ (c .before .before .before .read-jentry .ensures) (c .before .before .type-code .ensures) (c .before .payload-len .ensures) (c .if3 .taken)
+returns-3 c =
+    let sized = c .before in
+    let coded = sized .before in
+    let first = coded .before in
+    let passed₂ = first .before in
+    let passed = passed₂ .before in
+    let start = passed .before .before in
+    scalar-container (start .args .count) (start .args .s .now) (passed .if1 .left) (passed₂ .if2 .left) _ _ _
+    (first .read-jentry .ensures) (coded .type-code .ensures) (sized .payload-len .ensures) (c .if3 .taken)
 
 returns-4 : tie.Need-returns-4
-returns-4 c = scalar-length (c .before .before .before .before .before .before .before .before .args .count) (c .before .before .before .before .before .before .before .before .args .s .now) (c .before .before .before .before .before .before .if1 .left) (c .before .before .before .before .before .if2 .left) _ _ _ (c .before .before .before .before .read-jentry .ensures) (c .before .before .before .type-code .ensures) (c .before .before .payload-len .ensures) (c .if4 .taken)
+returns-4 c =
+    let sized = c .before .before in
+    let coded = sized .before in
+    let first = coded .before in
+    let passed₂ = first .before in
+    let passed = passed₂ .before in
+    let start = passed .before .before in
+    scalar-length (start .args .count) (start .args .s .now) (passed .if1 .left) (passed₂ .if2 .left) _ _ _
+    (first .read-jentry .ensures) (coded .type-code .ensures) (sized .payload-len .ensures) (c .if4 .taken)
 
 returns-5 : tie.Need-returns-5
-returns-5 c = scalar-item (c .before .before .before .before .before .before .before .before .before .args .count) (c .before .before .before .before .before .before .before .before .before .args .s .now) (c .before .before .before .before .before .before .before .if1 .left) (c .before .before .before .before .before .before .if2 .left) _ _ _ (c .before .before .before .before .before .read-jentry .ensures) (c .before .before .before .before .type-code .ensures) (c .before .before .before .payload-len .ensures) (c .before .before .if3 .left) (c .before .if4 .left) _ (c .check-items .ensures)
+returns-5 c =
+    let fits = c .before in
+    let bare = fits .before in
+    let sized = bare .before in
+    let coded = sized .before in
+    let first = coded .before in
+    let passed₂ = first .before in
+    let passed = passed₂ .before in
+    let start = passed .before .before in
+    scalar-item (start .args .count) (start .args .s .now) (passed .if1 .left) (passed₂ .if2 .left) _ _ _
+    (first .read-jentry .ensures) (coded .type-code .ensures) (sized .payload-len .ensures) (bare .if3 .left) (fits .if4 .left) _
+    (c .check-items .ensures)
 
 pub check-scalar-spec : {M : Type 1} → statement M
 check-scalar-spec =

@@ -29,17 +29,27 @@ add-sum : tie.Need-add-sum Inv-loop μ-loop
 add-sum c = rw (c .payload-len .ensures) (omega (arith, length-lt (c .before .before .before .jentry-at .result)))
 
 returns : tie.Need-returns Inv-loop μ-loop
-returns c = let l = c .before .before .before .before .loop in
-    table-bad _ _ (l .i) _ _ _ (c .before .before .before .loop-test .taken) (l .inv .2) (c .before .before .jentry-at .ensures) (c .before .is-jentry .ensures) _ (c .if1 .left)
+returns c =
+    let asked = c .before in
+    let entry = asked .before in
+    let turn = entry .before in
+    let head = turn .before .loop in
+    table-bad _ _ (head .i) _ _ _ (turn .loop-test .taken) (head .inv .2) (entry .jentry-at .ensures) (asked .is-jentry .ensures) _
+    (c .if1 .left)
 
 loop-again : tie.Need-loop-again Inv-loop μ-loop
-loop-again c = let l = c .before .before .before .before .before .loop in
-    let lt = c .before .before .before .before .loop-test .taken in
-    let e = c .before .before .before .jentry-at in (
+loop-again c =
+    let passed = c .before in
+    let asked = passed .before in
+    let entry = asked .before in
+    let turn = entry .before in
+    let head = turn .before .loop in
+    let more = turn .loop-test .taken in
+    let e = entry .jentry-at in (
       search needs,
       rw (c .payload-len .ensures) (omega (arith, length-lt (e .result))),
-      table-more _ _ (l .i) _ _ _ lt (l .inv .2) (e .ensures) (c .before .before .is-jentry .ensures) (c .before .if1 .taken),
-      lengths-more _ (l .i) _ (l .sum) _ _ lt (l .inv .3) (e .ensures) (c .payload-len .ensures),
+      table-more _ _ (head .i) _ _ _ more (head .inv .2) (e .ensures) (asked .is-jentry .ensures) (passed .if1 .taken),
+      lengths-more _ (head .i) _ (head .sum) _ _ more (head .inv .3) (e .ensures) (c .payload-len .ensures),
     )
 
 returns-2 : tie.Need-returns-2 Inv-loop μ-loop

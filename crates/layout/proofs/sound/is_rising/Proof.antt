@@ -24,13 +24,42 @@ returns : tie.Need-returns Inv-loop μ-loop
 returns c = rising-none (c .before .before .args .s .now) (c .before .before .args .start) (c .before .before .args .n) (c .if1 .taken)
 
 loop-holds : tie.Need-loop-holds Inv-loop μ-loop
-loop-holds c = (omega arith, rw (c .payload-len .ensures) (omega (arith, length-lt (c .before .read-jentry .result))), rising-start _ _ _ _ _ (c .before .before .if1 .left) (c .before .read-jentry .ensures) (c .payload-len .ensures))
+loop-holds c =
+    let first = c .before in
+    let passed = first .before in (
+      omega arith,
+      rw (c .payload-len .ensures) (omega (arith, length-lt (first .read-jentry .result))),
+      rising-start _ _ _ _ _ (passed .if1 .left) (first .read-jentry .ensures) (c .payload-len .ensures),
+    )
 
 loop-again : tie.Need-loop-again Inv-loop μ-loop
-loop-again c = (omega arith, rw (c .before .before .before .before .payload-len2 .ensures) (omega (arith, length-lt (c .before .before .before .before .before .jentry-at .result))), rising-more _ _ (c .before .before .before .before .before .before .before .loop .i) (c .before .before .before .before .before .before .before .loop .place) (c .before .before .before .before .before .before .before .loop .len) _ _ _ _ (c .before .before .before .before .before .before .loop-test .taken) (c .before .before .before .before .before .before .before .loop .inv .2) (c .before .before .before .before .before .jentry-at .ensures) (c .before .before .before .before .payload-len2 .ensures) _ _ (c .before .before .before .slice .ensures) (c .before .before .slice2 .ensures) (c .before .is-before .ensures) (c .if2 .taken))
+loop-again c =
+    let compared = c .before in
+    let cut₂ = compared .before in
+    let cut = cut₂ .before in
+    let sized = cut .before in
+    let entry = sized .before in
+    let turn = entry .before in
+    let head = turn .before in (
+      omega arith,
+      rw (sized .payload-len2 .ensures) (omega (arith, length-lt (entry .jentry-at .result))),
+      rising-more _ _ (head .loop .i) (head .loop .place) (head .loop .len) _ _ _ _ (turn .loop-test .taken)
+          (head .loop .inv .2) (entry .jentry-at .ensures) (sized .payload-len2 .ensures) _ _ (cut .slice .ensures)
+          (cut₂ .slice2 .ensures) (compared .is-before .ensures) (c .if2 .taken),
+    )
 
 returns-2 : tie.Need-returns-2 Inv-loop μ-loop
-returns-2 c = rising-stop _ _ (c .before .before .before .before .before .before .before .loop .i) (c .before .before .before .before .before .before .before .loop .place) (c .before .before .before .before .before .before .before .loop .len) _ _ _ _ (c .before .before .before .before .before .before .loop-test .taken) (c .before .before .before .before .before .before .before .loop .inv .2) (c .before .before .before .before .before .jentry-at .ensures) (c .before .before .before .before .payload-len2 .ensures) _ _ (c .before .before .before .slice .ensures) (c .before .before .slice2 .ensures) (c .before .is-before .ensures) (c .if2 .left)
+returns-2 c =
+    let compared = c .before in
+    let cut₂ = compared .before in
+    let cut = cut₂ .before in
+    let sized = cut .before in
+    let entry = sized .before in
+    let turn = entry .before in
+    let head = turn .before in
+    rising-stop _ _ (head .loop .i) (head .loop .place) (head .loop .len) _ _ _ _ (turn .loop-test .taken) (head .loop .inv .2)
+    (entry .jentry-at .ensures) (sized .payload-len2 .ensures) _ _ (cut .slice .ensures) (cut₂ .slice2 .ensures)
+    (compared .is-before .ensures) (c .if2 .left)
 
 returns-3 : tie.Need-returns-3 Inv-loop μ-loop
 returns-3 c = rising-end _ _ (c .before .loop .i) _ _ _ (c .loop-test .left) (c .before .loop .inv .2)
