@@ -18,7 +18,7 @@ pub(crate) fn say(text: &[u8]) {
     io::write_all(1, text);
 }
 
-// A number of document 01 with its words.
+// A number of the documents with its words.
 pub(crate) fn say_words(number: u64) {
     match number {
         1 => say(b"1 short"),
@@ -30,7 +30,8 @@ pub(crate) fn say_words(number: u64) {
         7 => say(b"7 kind"),
         8 => say(b"8 repeated name"),
         9 => say(b"9 result too long or deep"),
-        _ => say(b"10 buffer too short"),
+        10 => say(b"10 buffer too short"),
+        _ => say(b"11 pointer"),
     }
 }
 

@@ -23,7 +23,7 @@ use Rattle.builders.proofs.Twos.{two-left, two-right}
 use Rattle.edits.specs.Concat.{concat}
 use Rattle.edits.specs.Joining.{NoPair}
 use Rattle.edits.specs.Merge.{Objects}
-use Rattle.edits.proofs.Lookups.{container-ready}
+use Rattle.edits.proofs.Descents.{container-ready}
 
 -- A readable object.
 object-ready : (s : Bytes) (n : ℕ) → Octets s → checked (read s) ≡ Readable → header s ≡ Object n

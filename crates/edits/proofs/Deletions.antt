@@ -51,7 +51,8 @@ use Rattle.edits.proofs.Meanings.{deleted-whole, deleted-missing}
 use Rattle.edits.proofs.Rows.{row-entry}
 use Rattle.edits.proofs.Paths.{steps-refused}
 use Rattle.edits.proofs.OnPaths.{path-left, path-path, path-edit, path-done}
-use Rattle.edits.proofs.Lookups.{steps-in, steps-length, finding-is, nested-read}
+use Rattle.edits.proofs.Descents.{search-is, nested-read}
+use Rattle.edits.proofs.Lookups.{steps-in, steps-length}
 use Rattle.edits.proofs.Lookups.{Target-read, Steps-counted, Container-met, Searched, target, steps-are, searched-none, searched-item}
 
 -- A scalar by the code of its entry.
@@ -196,7 +197,7 @@ module _ {a path : Bytes} where
     reads = nested-read a (t counted) (known-target counted .reads) (s .before .container)
 
     pub delete-finds : {x : ItemAt} → r ≡ At x → (v : Tree) × (finding a (steps-in path n) ≡ some v)
-    delete-finds q = let item = searched-item s q in (item .0, finding-is a (t counted) (steps-in path n) reads ∙ item .1)
+    delete-finds q = let item = searched-item s q in (item .0, search-is a (t counted) (look-up (steps-in path n)) reads ∙ item .1)
 
     pub delete-found : {x : ItemAt} → r ≡ At x → (n ≡ 0 → ⊥) → {e : Ending} {o o′ : Bytes} (room : ℕ)
         → EndedIn e o o′ (into room (remains-of a (steps-in path n))) → On a path room e o o′

@@ -23,7 +23,7 @@ use Rattle.layout.proofs.Walks.{lengths-le}
 use Rattle.edits.specs.Keypath.{Step, index-text}
 use Rattle.edits.specs.Find.{place, step-place, step-name}
 use Rattle.edits.specs.Steps.{step, key-place}
-use Rattle.edits.specs.Spot.{place-told, first, spot-at, spot-member, spot}
+use Rattle.edits.specs.Spot.{place-told, told-place, first, spot-at, spot-member, value-of, spot}
 use Rattle.edits.specs.declared.keypath.KeyPath.{KeyPath}
 use Rattle.edits.specs.declared.keypath.KeyPath.the-variants.{Index, Name, Other}
 use Rattle.edits.specs.declared.find.Place.{Place}
@@ -39,38 +39,33 @@ lengths-two s n k =
     let c : n + k ≡ k + n = omega arith in
     rw c (lengths-split s 0 k n ∙ ap (λ (i : ℕ). lengths s 0 k + lengths s i n) (zero-add k))
 
-pub member-none : (s : Bytes) (n : ℕ) (o : Option ℕ) (r : Spot) → r ≡ spot-at s (n + n) o → r ≡ Nothing → Nothing ≡ spot-member s n o
-unfolding spot-at spot-member
-member-none s n nothing r e q = refl
-member-none s n (some k) r e q = cc
-
 -- The part of its name.
 pub key-part : (s : Bytes) (n : ℕ) (o : Option ℕ) (key : PartAt) → At key ≡ spot-at s n o → (k : ℕ) × (o ≡ some k) × (key ≡ nth-part s n k)
 unfolding spot-at
 key-part s n nothing key e = let z : _≡_ {A = ℕ} 0 1 = cc in let w : ⊥ = omega arith in absurd w
 key-part s n (some k) key e = (k, refl, cc)
 
--- The names from its own on stand between the two parts.
-member-at : (s : Bytes) (n k : ℕ) (key : PartAt) (p : ℕ) → key ≡ nth-part s (n + n) k
+-- The value by the part of its name: the names from there on, and the values before it, stand between the two.
+value-at : (s : Bytes) (n : ℕ) (o : Option ℕ) → value-of s n (spot-at s (n + n) o) ≡ spot-member s n o
+unfolding spot-at spot-member
+value-at s n nothing = refl
+value-at s n (some k) =
+    let e : start-of (n + n) + lengths s 0 k + lengths s k n ≡ start-of (n + n) + lengths s 0 (n + k) = omega (arith, lengths-two s n k) in
+    rw e
+
+pub value-found : (s : Bytes) (n : ℕ) (name : Spot) (key : PartAt) (p : ℕ) → name ≡ At key
     → p ≡ key .place + lengths s (key .index) (n + key .index - key .index)
-    → At (record { index = n + key .index; place = p }) ≡ At (nth-part s (n + n) (n + k))
-member-at s n k key p w e =
-    let d : n + k - k ≡ n = omega arith in
-    let e′ : p ≡ start-of (n + n) + lengths s 0 k + lengths s k n = rw (w, d) at e in
-    let h : p ≡ start-of (n + n) + lengths s 0 (n + k) = omega (arith, lengths-two s n k) in
-    rw (w, h)
+    → At (record { index = n + key .index; place = p }) ≡ value-of s n name
+value-found s n name key p q e = let d : n + key .index - key .index ≡ n = omega arith in rw (q, e, d)
 
-module _ (s : Bytes) (n : ℕ) (o : Option ℕ) (r : Spot) (key : PartAt) (hr : r ≡ spot-at s (n + n) o) (hk : r ≡ At key) where
-  pub member-found : (p : ℕ) → p ≡ key .place + lengths s (key .index) (n + key .index - key .index)
-      → At (record { index = n + key .index; place = p }) ≡ spot-member s n o
-  unfolding spot-member
-  member-found p e =
-      let w = key-part s (n + n) o key (sym hk ∙ hr) in
-      member-at s n (w .0) key p (w .2) e ∙ ap (spot-member s n) (sym (w .1))
+module _ (s : Bytes) (n : ℕ) (o : Option ℕ) (name : Spot) (hn : name ≡ spot-at s (n + n) o) where
+  pub member-value : (r : Spot) → r ≡ value-of s n name → r ≡ spot-member s n o
+  member-value r e = e ∙ ap (value-of s n) hn ∙ value-at s n o
 
-  pub key-bounds : n < 2 ^ 29 → ((k : ℕ) → o ≡ some k → k < n) → (key .index < n) × (key .place < 2 ^ 60)
-  key-bounds few h =
-      let w = key-part s (n + n) o key (sym hk ∙ hr) in
+  pub name-bounds : n < 2 ^ 29 → ((k : ℕ) → o ≡ some k → k < n) → (key : PartAt) → name ≡ At key
+      → (key .index < n) × (key .place < 2 ^ 60)
+  name-bounds few h key q =
+      let w = key-part s (n + n) o key (sym q ∙ hn) in
       let k = w .0 in
       let ei : key .index ≡ k = ap (λ (x : PartAt). x .index) (w .2) in
       let ep : key .place ≡ start-of (n + n) + lengths s 0 k = ap (λ (x : PartAt). x .place) (w .2) in
@@ -94,31 +89,38 @@ item-name s n (Index z) h = absurd (h z refl)
 item-name s n Name h = refl
 item-name s n Other h = refl
 
-pub place-none : (s : Bytes) (n : ℕ) (o : Option ℕ) → place-told o ≡ NoPlace → Nothing ≡ spot-at s n o
-unfolding spot-at
-place-none s n nothing e = refl
-place-none s n (some k) e = cc
-
-pub told-some : (o : Option ℕ) (k : ℕ) → place-told o ≡ AtPlace k → o ≡ some k
+told-some : (o : Option ℕ) (k : ℕ) → place-told o ≡ AtPlace k → o ≡ some k
 told-some nothing k e = cc
 told-some (some j) k e = cc
 
-module _ (s : Bytes) (n : ℕ) (key : KeyPath) (v z : ℤ) (r : Place) (hk : key ≡ Index z) (hv : v ≡ z) (hr : r ≡ place-told (place v n)) where
-  item-place : place-told (key-place key n) ≡ r
+told-back : (o : Option ℕ) → told-place (place-told o) ≡ o
+told-back nothing = refl
+told-back (some k) = refl
+
+-- A place that was told, as the code goes on with it.
+module _ (s : Bytes) (n : ℕ) (place : Place) where
+  pub place-none : place ≡ NoPlace → Nothing ≡ spot-at s n (told-place place)
+  unfolding spot-at
+  place-none q = rw q
+
+  pub place-found : (k : ℕ) → place ≡ AtPlace k → (first : PartAt) (p : ℕ) → first ≡ first-part n
+      → p ≡ first .place + lengths s (first .index) (k - first .index)
+      → At (record { index = k; place = p }) ≡ spot-at s n (told-place place)
+  unfolding spot-at
+  place-found k q first p f e = rw q (ap At (nth-is s n k p first f e))
+
+  module _ (o : Option ℕ) (h : place ≡ place-told o) where
+    pub told-in : ((k : ℕ) → o ≡ some k → k < n) → (k : ℕ) → place ≡ AtPlace k → k < n
+    told-in lt k q = lt k (told-some o k (sym h ∙ q))
+
+    pub told-at : (r : Spot) → r ≡ spot-at s n (told-place place) → r ≡ spot-at s n o
+    told-at r e = e ∙ ap (spot-at s n) (ap told-place h ∙ told-back o)
+
+-- The item that an index of a path finds.
+module _ (n : ℕ) (key : KeyPath) (v z : ℤ) (hk : key ≡ Index z) (hv : v ≡ z) where
+  pub item-place : place v n ≡ key-place key n
   unfolding key-place
-  item-place = rw (hk, ← hv) (sym hr)
-
-  pub item-none : r ≡ NoPlace → Nothing ≡ spot-at s n (key-place key n)
-  item-none q = place-none s n (key-place key n) (item-place ∙ q)
-
-  module _ (k : ℕ) (q : r ≡ AtPlace k) where
-    pub item-lt : k < n
-    item-lt = place-lt v n k (told-some (place v n) k (sym hr ∙ q))
-
-    pub item-found : (first : PartAt) (p : ℕ) → first ≡ first-part n → p ≡ first .place + lengths s (first .index) (k - first .index)
-        → At (record { index = k; place = p }) ≡ spot-at s n (key-place key n)
-    unfolding spot-at
-    item-found first p f e = rw (told-some (key-place key n) k (item-place ∙ q)) (ap At (nth-is s n k p first f e))
+  item-place = rw (hk, ← hv)
 
 -- The value that a step finds.
 

@@ -32,7 +32,7 @@ use Rattle.builders.proofs.Weaves.{patch-then}
 use Rattle.edits.specs.Keypath.{Step}
 use Rattle.edits.specs.Find.{step-into}
 use Rattle.edits.specs.Spot.{spot}
-use Rattle.edits.specs.Held.{Held, Stands, Agree, Leads, item-record}
+use Rattle.edits.specs.Held.{Held, Stands, Agree, Leads, item-in, item-record}
 use Rattle.layout.specs.declared.parts.PartAt.{PartAt}
 use Rattle.edits.specs.declared.find.Spot.{Spot}
 use Rattle.edits.specs.declared.find.Spot.the-variants.{Nothing as NoSpot, At as AtSpot}
@@ -80,6 +80,11 @@ container-code True e = let z : ⊥ = omega arith in absurd z
 container-code Container e = refl
 container-code Extension e = let z : ⊥ = omega arith in absurd z
 
+-- The item that a part is, as the code puts it together.
+pub in-found : (inner : Bytes) (place : ℕ) (r : Spot) (a : PartAt) → r ≡ AtSpot a → (j : ℕ) → j ≡ entry-at inner (a .index)
+    → At (record { jentry = j; place = place + a .place }) ≡ item-in inner place r
+in-found inner place r a q j e = rw (q, e)
+
 -- A step from an item.
 
 -- A part of a part.
@@ -116,7 +121,7 @@ held-part s x t inner p a j h e k q =
     }
 
 module _ (s : Bytes) (x : ItemAt) (p : Step) (c : ℕ) (hc : c ≡ code-of (x .jentry)) where
-  pub leads-scalar : (c ≡ 5 → ⊥) → Leads s x p Nothing
+  pub leads-scalar : (c ≡ 5 → ⊥) → Leads s x (step-into p) Nothing
   leads-scalar q t h = agree-none s (step-into p t) (scalar-step p t (λ e. q (hc ∙ held-code s x t h ∙ e)))
 
   module _ (qc : c ≡ 5) (inner : Bytes) (hi : inner ≡ bytes-at s x) (r : Spot) (hr : r ≡ spot (header inner) inner p) where
@@ -126,7 +131,7 @@ module _ (s : Bytes) (x : ItemAt) (p : Step) (c : ℕ) (hc : c ≡ code-of (x .j
     inner-short : (t : Tree) → Held s x t → length inner ≤ 65536
     inner-short t h = omega (arith, ap length (hi ∙ h .bytes), h .within, h .short)
 
-    pub leads-none : r ≡ NoSpot → Leads s x p Nothing
+    leads-none : r ≡ NoSpot → Leads s x (step-into p) Nothing
     leads-none q t h =
         agree-none s (step-into p t)
         (spot-none t inner p (sym (hi ∙ h .bytes)) (inner-kind t h) (inner-short t h) (sym hr ∙ q))
@@ -141,11 +146,18 @@ module _ (s : Bytes) (x : ItemAt) (p : Step) (c : ℕ) (hc : c ≡ code-of (x .j
           let k = step-spotted (w .0) (w .1) in
           (k .few, omega (arith, k .within, ap length (hi ∙ w .1 .bytes), w .1 .within, w .1 .short))
 
-      pub leads-on : (j : ℕ) → j ≡ entry-at inner (a .index)
-          → Leads s x p (At (record { jentry = j; place = x .place + a .place }))
-      leads-on j hj t h =
+      leads-on : Leads s x (step-into p) (At (record { jentry = entry-at inner (a .index); place = x .place + a .place }))
+      leads-on t h =
           let k = step-spotted t h in
-          agree-some s (step-into p t) (k .tree) _ (k .found) (held-part s x t inner p a j h hi k hj)
+          agree-some s (step-into p t) (k .tree) _ (k .found) (held-part s x t inner p a (entry-at inner (a .index)) h hi k refl)
+
+    -- The item that the part found is.
+    pub leads-in : (q : Item) → q ≡ item-in inner (x .place) r → Leads s x (step-into p) q
+    leads-in q = go r refl
+      where
+        go : (w : Spot) → r ≡ w → q ≡ item-in inner (x .place) w → Leads s x (step-into p) q
+        go NoSpot f e = rw e (leads-none f)
+        go (AtSpot a) f e = rw e (leads-on a f)
 
 -- A container is an item of its own bytes.
 pub root-held : (s : Bytes) (t : Tree) (j : ℕ) → Octets s → length s ≤ 65536 → nested 64 s ≡ gives t

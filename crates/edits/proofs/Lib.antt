@@ -17,6 +17,7 @@ pub mod Rows
 pub mod Splits
 pub mod Spots
 pub mod Helds
+pub mod Descents
 pub mod OnPaths
 pub mod Lookups
 pub mod Tables

@@ -25,7 +25,7 @@ use Rattle.edits.specs.Find.{_then_, step-into, look-up}
 use Rattle.edits.specs.Delete.{remains, anew, delete}
 use Rattle.edits.specs.Steps.{code-key, step}
 use Rattle.edits.specs.Spot.{spot}
-use Rattle.edits.specs.Held.{finding}
+use Rattle.edits.specs.Held.{search-in}
 use Rattle.edits.specs.Remains.{remains-of}
 use Rattle.edits.specs.Way.{step-at, steps-from, way-behind, Cuts, Onward}
 use Rattle.layout.specs.declared.parts.PartAt.{PartAt}
@@ -90,7 +90,7 @@ remains-no-longer p q t x u e h =
 
 below-by : (s path : Bytes) (w : Way) (a : PartAt) (allowance : ℕ) (p₂ : Step) (q₂ : List Step) → Octets s → Cuts s path w allowance
     → Onward s path w a → steps-from path (way-behind path w) ≡ p₂ ∷ q₂ → (t : Tree) → Contains allowance s t → Below s path w a allowance
-unfolding remains-of finding
+unfolding remains-of search-in
 below-by s path w a allowance p₂ q₂ o c h e₂ t k =
     let p : Step = step-at path (w .step) in
     let all : steps-from path w ≡ step-at path (w .step) ∷ p₂ ∷ q₂ = steps-cons path w (c .more) ∙ ap (λ (l : List Step). step-at path (w .step) ∷ l) e₂ in
@@ -151,7 +151,7 @@ below s path w a allowance o c h =
 
 -- What is left of a container in which the rest of a path finds an item is no longer than it.
 pub cuts-shorter : (s path : Bytes) (w : Way) (allowance : ℕ) → Octets s → Cuts s path w allowance → length (remains-of s (steps-from path w)) ≤ length s
-unfolding remains-of finding
+unfolding remains-of search-in
 cuts-shorter s path w allowance o c =
     let k = contains allowance s o (c .short) (c .readable) in
     let k₆ : Contains 64 s (k .0) = contains-more allowance 64 s (k .0) o (c .allowed) (k .1) in
@@ -182,7 +182,7 @@ leads-is s path w e l piece r he hl hp hr =
 
 pub leads-nowhere : {C : Type 0} {s path : Bytes} {w : Way} {allowance : ℕ} → Octets s → Cuts s path w allowance
     → next-spot s path w ≡ Nothing → C
-unfolding finding
+unfolding search-in
 leads-nowhere {C} {s} {path} {w} {allowance} o c q =
     let k = contains allowance s o (c .short) (c .readable) in
     let k₆ : Contains 64 s (k .0) = contains-more allowance 64 s (k .0) o (c .allowed) (k .1) in

@@ -19,7 +19,7 @@ use Rattle.layout.proofs.Readables.{length-encode}
 use Rattle.edits.specs.Keypath.{Step, path-of}
 use Rattle.edits.specs.Delete.{delete, deletable}
 use Rattle.layout.specs.Pipeline.{found, on-record}
-use Rattle.layout.proofs.Pipelines.{found-result}
+use Rattle.layout.proofs.Pipelines.{on-record-is, found-result}
 use Rattle.edits.specs.Path.{get-by, delete-by, on-path}
 use Rattle.edits.proofs.Deletes.{some-inj}
 use Rattle.edits.proofs.Lookups.{get-is}
@@ -30,24 +30,26 @@ pub on-path-is : (edit : List Step → Tree → Answer (Option Tree)) (target pa
 unfolding on-path on-record
 on-path-is edit target path room = refl
 
-pub record PathMade (edit : List Step → Tree → Answer (Option Tree)) (target path b : Bytes) : Type 0 where
+-- A result of an edit of a record with what stands beside it, where what the edit gives is no more than the tree that it was given.
+pub record KeptMade {P : Type 0} (beside : Bytes → Answer P) (edit : Tree → P → Answer (Option Tree)) (target other b : Bytes) : Type 0 where
   pub tree : Tree
-  pub steps : List Step
+  pub asked : P
   pub made : Tree
   pub target-reads : read target ≡ gives tree
-  pub path-reads : path-of path ≡ gives steps
-  pub edited : edit steps tree ≡ gives (some made)
+  pub asked-reads : beside other ≡ gives asked
+  pub edited : edit tree asked ≡ gives (some made)
   pub bytes : b ≡ encode made
   pub reads : read b ≡ gives made
   pub stays-sound : Sound tree → Sound made
   pub no-longer : length b ≤ length target
   pub short : length b ≤ 65536
 
--- An edit whose trees are no more than those that it is given.
-path-made : (edit : List Step → Tree → Answer (Option Tree)) → ((p : List Step) (t v : Tree) → edit p t ≡ gives (some v) → NoMore v t)
-    → (target path b : Bytes) (room : ℕ) → Octets target → on-path edit target path room ≡ result b → PathMade edit target path b
-path-made edit keeps target path b room o e =
-    let w = found-result room _ b (sym (on-path-is edit target path room) ∙ e) in
+pub kept-made : {P : Type 0} (beside : Bytes → Answer P) (edit : Tree → P → Answer (Option Tree))
+    → ((p : P) (t v : Tree) → edit t p ≡ gives (some v) → NoMore v t)
+    → (target other b : Bytes) (room : ℕ) → Octets target → on-record beside edit target other room ≡ result b
+    → KeptMade beside edit target other b
+kept-made beside edit keeps target other b room o e =
+    let w = found-result room _ b (sym (on-record-is beside edit target other room) ∙ e) in
     from-bind (w .1) λ t ht e₁. from-bind e₁ λ p hp e₂.
     let s = read-sound target t o ht in
     let k = keeps p t (w .0) e₂ in
@@ -57,10 +59,10 @@ path-made edit keeps target path b room o e =
     let lb : length b ≡ length (encode (w .0)) = ap length (w .2) in
     record {
       tree = t;
-      steps = p;
+      asked = p;
       made = w .0;
       target-reads = ht;
-      path-reads = hp;
+      asked-reads = hp;
       edited = e₂;
       bytes = w .2;
       reads = ap read (w .2) ∙ read-encode (w .0) (k .valid (s .0 .valid)) (omega (arith, k .deep, s .0 .deep)) (omega (arith, l, s .1));
@@ -69,8 +71,13 @@ path-made edit keeps target path b room o e =
       short = omega (arith, l, lb, s .1);
     }
 
-pub get-made : (target path b : Bytes) (room : ℕ) → Octets target → on-path get-by target path room ≡ result b → PathMade get-by target path b
-get-made = path-made get-by (λ p t v e. look-up-kept p t v (gives-inj (sym (get-is p t) ∙ e)))
+abbrev pub PathMade : (List Step → Tree → Answer (Option Tree)) → Bytes → Bytes → Bytes → Type 0
+PathMade edit target path b = KeptMade path-of (λ t p. edit p t) target path b
+
+pub get-made : (target path b : Bytes) (room : ℕ) → Octets target → on-path get-by target path room ≡ result b
+    → PathMade get-by target path b
+unfolding on-path
+get-made = kept-made path-of (λ t p. get-by p t) (λ p t v e. look-up-kept p t v (gives-inj (sym (get-is p t) ∙ e)))
 
 deletable-same : (t u : Tree) → deletable t ≡ gives u → t ≡ u
 deletable-same null u e = refused-gives e
@@ -88,5 +95,7 @@ delete-gives p t v e =
     delete-is : (p : List Step) (t : Tree) → delete-by p t ≡ (deletable t >>= λ u. gives (some (delete p u)))
     delete-is p t = unfold delete-by in refl
 
-pub delete-made : (target path b : Bytes) (room : ℕ) → Octets target → on-path delete-by target path room ≡ result b → PathMade delete-by target path b
-delete-made = path-made delete-by (λ p t v e. rw (← delete-gives p t v e) (delete-kept p t))
+pub delete-made : (target path b : Bytes) (room : ℕ) → Octets target → on-path delete-by target path room ≡ result b
+    → PathMade delete-by target path b
+unfolding on-path
+delete-made = kept-made path-of (λ t p. delete-by p t) (λ p t v e. rw (← delete-gives p t v e) (delete-kept p t))

@@ -38,7 +38,7 @@ use Rattle.edits.specs.declared.strip.Stripped.the-variants.{Len, Repeat
 use Rattle.edits.proofs.Strips.{kind-stripped, strip-given, strip-refused}
 use Rattle.edits.proofs.Tables.{contains}
 use Rattle.edits.proofs.Stripped.{own-strip, neither}
-use Rattle.edits.proofs.Lookups.{container-ready, nested-read, Passed, passed-tree}
+use Rattle.edits.proofs.Descents.{container-ready, nested-read, Passed, passed-tree}
 
 pub whole-strips : (s : Bytes) → checked (nested 64 s) ≡ Readable → length s ≤ 65536 → Strippable s 64
 whole-strips s c l = record { readable = c; allowed = omega arith; short = l }

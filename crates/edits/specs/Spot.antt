@@ -8,6 +8,7 @@ use lib.IntN.{ℤ, pos, negsuc}
 use Rattle.layout.specs.Bytes.{Bytes}
 use Rattle.layout.specs.declared.util.Header.{Header}
 use Rattle.layout.specs.declared.util.Header.the-variants.{Array, Object, Scalar, Refused}
+use Rattle.layout.specs.Entry.{lengths}
 use Rattle.layout.specs.Order.{same-bytes}
 use Rattle.layout.specs.Parts.{names-of, nth-part}
 use Rattle.edits.specs.Keypath.{Step}
@@ -20,6 +21,10 @@ use Rattle.edits.specs.declared.find.Spot.the-variants.{Nothing, At}
 abbrev pub place-told : Option ℕ → Place
 place-told nothing = NoPlace
 place-told (some k) = AtPlace k
+
+abbrev pub told-place : Place → Option ℕ
+told-place NoPlace = nothing
+told-place (AtPlace k) = some k
 
 -- A sum, which may be negative, as a place among `n` items.
 unfoldable pub among : ℤ → ℕ → Option ℕ
@@ -43,6 +48,11 @@ spot-at s n (some k) = At (nth-part s n k)
 unfoldable pub spot-member : Bytes → ℕ → Option ℕ → Spot
 spot-member s n nothing = Nothing
 spot-member s n (some k) = At (nth-part s (n + n) (n + k))
+
+-- The same by the part of its name: the names from there on, and the values before it, stand between the two.
+abbrev pub value-of : Bytes → ℕ → Spot → Spot
+value-of s n Nothing = Nothing
+value-of s n (At a) = At (record { index = n + a .index; place = a .place + lengths s (a .index) n })
 
 unfoldable pub spot : Header → Bytes → Step → Spot
 unfolding spot-at spot-member

@@ -12,13 +12,16 @@ use layout::util::Header;
 use layout::util::read_header;
 use layout::util::slice;
 ghost use mathlib.Core.Path.{_≡_};
-ghost use Prim.Native.Nat.{_+_, _-_, _*_, _^_, _≤_, _<_};
+ghost use Prim.Native.Nat.{ℕ, _+_, _-_, _*_, _^_, _≤_, _<_};
 ghost use Rattle.layout.specs.Entry.{«code-of» as codeOf, lengths};
 ghost use Rattle.layout.specs.Parts.{«names-of» as namesOf};
 ghost use Rattle.layout.specs.Read.{header};
 ghost use Rattle.edits.specs.Steps.{«code-key» as codeKey, «key-place» as keyPlace, step};
-ghost use Rattle.edits.specs.Spot.{«place-told» as placeTold, among, first, «spot-at» as spotAt};
-ghost use Rattle.edits.specs.Spot.{«spot-member» as spotMember, spot};
+ghost use Rattle.layout.specs.declared.parts.PartAt.{PartAt as Part};
+ghost use Rattle.edits.specs.Spot.{«place-told» as placeTold, «told-place» as toldPlace, among, first, «spot-at» as spotAt};
+ghost use Rattle.edits.specs.Spot.{«value-of» as valueOf, «spot-member» as spotMember, spot};
+ghost use Rattle.edits.specs.declared.find.Spot.the-variants.{At as AtSpot};
+ghost use Rattle.edits.specs.declared.find.Place.the-variants.{At as AtPlace};
 ghost use Rattle.edits.specs.Find.{place, «step-name» as stepName};
 
 // Room for the decimal text of an index: a sign and ten digits.
@@ -80,18 +83,41 @@ fn find_name(s: &[u8], n: usize, name: &[u8]) -> Spot
     Spot::Nothing
 }
 
-// The value of the first of n members whose name has equal bytes.
-pub fn find_member(s: &[u8], n: usize, name: &[u8]) -> Spot
-    requires { ⌜ n < 2 ^ 29 ⌝ }
-    ensures { λ r. ⌜ r ≡ spotMember (now (s .entry)) n (first (now (name .entry)) (namesOf (now (s .entry)) n)) ⌝ }
+// The value of the one of n members whose name is there.
+pub fn value_of(s: &[u8], n: usize, name: Spot) -> Spot
+    requires { ⌜ (n < 2 ^ 29) × ((a : Part) → name ≡ AtSpot a → (a .index < n) × (a .place < 2 ^ 60)) ⌝ }
+    ensures { λ r. ⌜ r ≡ valueOf (now (s .entry)) n name ⌝ }
 {
-    let Spot::At(key) = find_name(s, n, name) else {
+    let Spot::At(key) = name else {
         return Spot::Nothing;
     };
     let index = n + key.index;
     Spot::At(PartAt {
         index,
         place: place_after(s, key, index),
+    })
+}
+
+// The value of the first of n members whose name has equal bytes.
+pub fn find_member(s: &[u8], n: usize, name: &[u8]) -> Spot
+    requires { ⌜ n < 2 ^ 29 ⌝ }
+    ensures { λ r. ⌜ r ≡ spotMember (now (s .entry)) n (first (now (name .entry)) (namesOf (now (s .entry)) n)) ⌝ }
+{
+    value_of(s, n, find_name(s, n, name))
+}
+
+// The item of an array of n that is at a place.
+pub fn item_at(s: &[u8], n: usize, place: Place) -> Spot
+    requires { ⌜ (n < 2 ^ 29) × ((k : ℕ) → place ≡ AtPlace k → k < n) ⌝ }
+    ensures { λ r. ⌜ r ≡ spotAt (now (s .entry)) n (toldPlace place) ⌝ }
+{
+    let Place::At(index) = place else {
+        return Spot::Nothing;
+    };
+    let first = first_part(n);
+    Spot::At(PartAt {
+        index,
+        place: place_after(s, first, index),
     })
 }
 
@@ -103,14 +129,7 @@ fn find_item(s: &[u8], n: usize, key: KeyPath) -> Spot
     let KeyPath::Index(i) = key else {
         return Spot::Nothing;
     };
-    let Place::At(index) = place_of(i, n) else {
-        return Spot::Nothing;
-    };
-    let first = first_part(n);
-    Spot::At(PartAt {
-        index,
-        place: place_after(s, first, index),
-    })
+    item_at(s, n, place_of(i, n))
 }
 
 // The value of an object that a step finds: an index stands for its decimal text.

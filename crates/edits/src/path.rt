@@ -38,7 +38,10 @@ ghost use Rattle.layout.specs.Room.{EndedIn};
 ghost use Rattle.layout.specs.declared.check.Check.the-variants.{Readable};
 ghost use Rattle.edits.specs.Steps.{«code-key» as codeKey, step, «part-steps» as partSteps};
 ghost use Rattle.edits.specs.Path.{«get-by» as getBy, «delete-by» as deleteBy, «on-path» as onPath};
-ghost use Rattle.edits.specs.Held.{Stands, Leads, Finds, «item-record» as itemRecord};
+ghost use Rattle.edits.specs.Held.{Stands, Leads, Finds, «item-in» as itemIn, «item-record» as itemRecord};
+ghost use Rattle.layout.specs.declared.parts.PartAt.{PartAt as Part};
+ghost use Rattle.edits.specs.Find.{«step-into» as stepInto, «look-up» as lookUp};
+ghost use Rattle.edits.specs.declared.find.Spot.the-variants.{At as AtSpot};
 
 // What a path finds in a record.
 pub enum Item {
@@ -46,28 +49,36 @@ pub enum Item {
     At(ItemAt),
 }
 
+// The item that a part of a container is, where the container's bytes start at a place of the record.
+pub fn item_in(inner: &[u8], place: usize, spot: Spot) -> Item
+    requires { ⌜ ((a : Part) → spot ≡ AtSpot a → (a .index < 2 ^ 61) × (place + a .place < 2 ^ 64)) ⌝ }
+    ensures { λ r. ⌜ r ≡ itemIn (now (inner .entry)) place spot ⌝ }
+{
+    let Spot::At(part) = spot else {
+        return Item::Nothing;
+    };
+    Item::At(ItemAt {
+        jentry: jentry_at(inner, part.index),
+        place: place + part.place,
+    })
+}
+
 // The item that a step finds, from an item of the record on.
 fn step_from(s: &[u8], item: ItemAt, jentry: u32, text: &[u8]) -> Item
     requires { ⌜ Stands (now s) item ⌝ }
-    ensures { λ r. ⌜ Leads (now (s .entry)) item (step (codeKey (codeOf jentry) (now (text .entry))) (now (text .entry))) r ⌝ }
+    ensures { λ r. ⌜ Leads (now (s .entry)) item (stepInto (step (codeKey (codeOf jentry) (now (text .entry))) (now (text .entry)))) r ⌝ }
 {
     if type_code(item.jentry) != CONTAINER_CODE {
         return Item::Nothing;
     }
     let inner = payload_at(s, item);
-    let Spot::At(part) = find_step(inner, jentry, text) else {
-        return Item::Nothing;
-    };
-    Item::At(ItemAt {
-        jentry: jentry_at(inner, part.index),
-        place: item.place + part.place,
-    })
+    item_in(inner, item.place, find_step(inner, jentry, text))
 }
 
 // What a path of n steps finds in a container.
 fn find_path(s: &[u8], path: &[u8], n: usize) -> Item
     requires { ⌜ (length (now s) ≤ 65536) × (checked (nested 64 (now s)) ≡ Readable) × (n < 2 ^ 29) ⌝ }
-    ensures { λ r. ⌜ Finds (now (s .entry)) (partSteps (partsOf (now (path .entry)) n)) r ⌝ }
+    ensures { λ r. ⌜ Finds (now (s .entry)) (lookUp (partSteps (partsOf (now (path .entry)) n))) r ⌝ }
 {
     let mut item = ItemAt {
         jentry: encoded(CONTAINER_CODE, s.len() as u32),

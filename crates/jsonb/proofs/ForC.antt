@@ -8,7 +8,7 @@ use Rattle.layout.specs.Bytes.{Bytes}
 use Rattle.layout.specs.Refusal.{number}
 use Rattle.layout.specs.Ended.{Outcome, result, absence, refusal, ending, Ended}
 use Rattle.layout.specs.declared.refusal.Refusal.{Refusal}
-use Rattle.layout.specs.declared.refusal.Refusal.the-variants.{Short, Layout, Text, Number, Limit, Path, Kind, Repeated, Result, Buffer}
+use Rattle.layout.specs.declared.refusal.Refusal.the-variants.{Short, Layout, Text, Number, Limit, Path, Kind, Repeated, Result, Buffer, Pointer}
 use Rattle.layout.specs.declared.check.Check.{Check}
 use Rattle.layout.specs.declared.check.Check.the-variants.{Readable, Refused as NotReadable}
 use Rattle.layout.specs.declared.ending.Ending.{Ending}
@@ -18,7 +18,7 @@ use Rattle.edits.proofs.Limited.{Limited}
 
 -- ---- the functions
 
-pub number-range : (r : Refusal) → (1 ≤ number r) × (number r ≤ 10)
+pub number-range : (r : Refusal) → (1 ≤ number r) × (number r ≤ 11)
 number-range Short = (omega arith, omega arith)
 number-range Layout = (omega arith, omega arith)
 number-range Text = (omega arith, omega arith)
@@ -29,6 +29,7 @@ number-range Kind = (omega arith, omega arith)
 number-range Repeated = (omega arith, omega arith)
 number-range Result = (omega arith, omega arith)
 number-range Buffer = (omega arith, omega arith)
+number-range Pointer = (omega arith, omega arith)
 
 pub ended-c : (e : Ending) (o o′ : Bytes) (x : Outcome) → Ended e o o′ x → (r : ℕ) → r ≡ c-ending e → EndedC r o o′ x
 ended-c e o o′ x h r q = record { answer = q ∙ ap c-ending (h .answer); bytes = h .bytes }
@@ -41,7 +42,7 @@ c-below o h b e = rw e (omega (arith, h b e))
 
 -- A refusal by its number.
 of-number : ℕ → Refusal
-of-number n = getD (Short ∷ Layout ∷ Text ∷ Number ∷ Limit ∷ Path ∷ Kind ∷ Repeated ∷ Result ∷ Buffer ∷ []) (n - 1) Short
+of-number n = getD (Short ∷ Layout ∷ Text ∷ Number ∷ Limit ∷ Path ∷ Kind ∷ Repeated ∷ Result ∷ Buffer ∷ Pointer ∷ []) (n - 1) Short
 
 of-number-is : (r : Refusal) → of-number (number r) ≡ r
 unfolding of-number
@@ -55,6 +56,7 @@ of-number-is Kind = refl
 of-number-is Repeated = refl
 of-number-is Result = refl
 of-number-is Buffer = refl
+of-number-is Pointer = refl
 
 pub number-apart : (r q : Refusal) → number r ≡ number q → r ≡ q
 number-apart r q e = sym (of-number-is r) ∙ (ap of-number e ∙ of-number-is q)

@@ -1,4 +1,5 @@
-// Why a call is refused: document 01, "Who can cause each number". It stands for the Rust's error type.
+// Why a call is refused: document 01, "Who can cause each number", and what document 02 adds to it. It stands for the Rust's error
+// type.
 ghost use mathlib.Core.Path.{_≡_};
 ghost use Rattle.layout.specs.Refusal.{number};
 
@@ -17,10 +18,12 @@ pub enum Refusal {
     Result,
     // The lender of the result buffer.
     Buffer,
+    // The writer of a pointer.
+    Pointer,
 }
 
 impl Refusal {
-    // The number that document 01 gives the refusal.
+    // The number that the documents give the refusal.
     pub fn number(self) -> u64
         ensures { λ r. ⌜ r ≡ number self ⌝ }
     {
@@ -35,6 +38,7 @@ impl Refusal {
             Refusal::Repeated => 8,
             Refusal::Result => 9,
             Refusal::Buffer => 10,
+            Refusal::Pointer => 11,
         }
     }
 }

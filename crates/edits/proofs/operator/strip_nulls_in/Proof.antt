@@ -3,7 +3,7 @@ use native.Mathlib.Omega.{arith}
 use mathlib.Core.Path.{sym, _∙_}
 use Rattle.layout.proofs.Words.{octets-of}
 use Rattle.layout.proofs.Walks.{none-of}
-use Rattle.edits.proofs.Lookups.{Passed}
+use Rattle.edits.proofs.Descents.{Passed}
 use Rattle.edits.proofs.StripWrites.{Container-at, strip-left, strip-scalar, strip-ready, strip-ends}
 use borrow.Author.Needs.{needs}
 use Rattle.edits.proofs.operator.strip_nulls_in.Statement.{statement}

@@ -7,13 +7,16 @@ use Rattle.layout.specs.Parts.{start-of}
 use Rattle.layout.proofs.Fields.{length-lt}
 use Rattle.layout.proofs.Words.{octets-of}
 use Rattle.layout.proofs.Pieces.{same-part}
-use Rattle.edits.proofs.Lookups.{Going, going-start, going-stop, going-on, going-end}
+use Rattle.edits.specs.Find.{step-into, look-up}
+use Rattle.edits.proofs.Descents.{Going, going-start, going-stop, going-on, going-end}
+use Rattle.edits.proofs.Lookups.{steps-in, steps-left, left-first, left-none, left-all}
 use Rattle.edits.proofs.path.find_path.Statement.{statement}
 use Rattle.edits.proofs.path.find_path.Tie as tie
 
 -- What the whole path finds is what the steps that are left find, from the item on.
 abbrev Inv-loop : tie.InvT-loop
-Inv-loop s path n item₀ place₀ i₀ item place i = (i ≤ n) × (place ≤ start-of n + 2 ^ 28 * i) × Going s path n item place i
+Inv-loop s path n item₀ place₀ i₀ item place i =
+    (i ≤ n) × (place ≤ start-of n + 2 ^ 28 * i) × Going s (look-up (steps-in path n)) item (steps-left path n place i)
 
 abbrev μ-loop : tie.MeasureT-loop
 μ-loop s path n item₀ place₀ i₀ item place i = n - i
@@ -52,7 +55,9 @@ loop-holds c =
     let encoded = to-encoded c in
     let start = to-start encoded in
     rw (same-part (c .first-part .ensures) .1)
-    (omega arith, omega arith, going-start _ _ _ _ (octets encoded) (start .pre .0) (start .pre .1) (encoded .encoded .ensures))
+    (omega arith, omega arith,
+    rw (← left-all (start .args .path .now) (start .args .n))
+    (going-start _ _ _ (octets encoded) (start .pre .0) (start .pre .1) (encoded .encoded .ensures)))
 
 step-from-requires : tie.Need-step-from-requires Inv-loop μ-loop
 step-from-requires c κs =
@@ -64,8 +69,10 @@ returns c =
     let turn = c .before .before in
     let sliced = turn .before in
     let entry = to-entry turn in
-    going-stop _ _ _ _ _ _ (to-head turn .loop .inv .2) (entry .before .loop-test .taken) _ _ _ _ (entry .jentry-at .ensures)
-    (sliced .before .payload-len .ensures) (sliced .slice .ensures) (turn .step-from .ensures) (c .enum-told .given .1)
+    going-stop (to-head turn .loop .inv .2) (step-into _) (steps-left _ _ _ _)
+    (left-first _ _ _ _ _ _ _ (entry .before .loop-test .taken) (entry .jentry-at .ensures) (sliced .before .payload-len .ensures)
+    (sliced .slice .ensures))
+    _ (turn .step-from .ensures) (c .enum-told .given .1)
 
 add-place : tie.Need-add-place Inv-loop μ-loop
 add-place c =
@@ -83,12 +90,14 @@ loop-again c =
     let head = to-head turn in (
       omega (arith, entry .before .loop-test .taken),
       omega (arith, head .loop .inv .1, near turn),
-      going-on _ _ _ _ _ _ (head .loop .inv .2) (entry .before .loop-test .taken) _ _ _ _ (entry .jentry-at .ensures)
-          (sized .payload-len .ensures) (sliced .slice .ensures) (turn .step-from .ensures) _ (found .next .given .1),
+      going-on (head .loop .inv .2) (step-into _) (steps-left _ _ _ _)
+          (left-first _ _ _ _ _ _ _ (entry .before .loop-test .taken) (entry .jentry-at .ensures) (sized .payload-len .ensures)
+          (sliced .slice .ensures))
+          _ (turn .step-from .ensures) _ (found .next .given .1),
     )
 
 returns-2 : tie.Need-returns-2 Inv-loop μ-loop
-returns-2 c = going-end _ _ _ _ _ _ (c .before .loop .inv .2) (c .loop-test .left)
+returns-2 c = going-end (c .before .loop .inv .2) (left-none _ _ _ _ (c .loop-test .left))
 
 pub find-path-spec : {M : Type 1} → statement M
 find-path-spec =
