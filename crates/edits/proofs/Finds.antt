@@ -98,6 +98,10 @@ told-back nothing = refl
 told-back (some k) = refl
 
 -- A place that was told, as the code goes on with it.
+pub told-in : (n : ℕ) (o : Option ℕ) → ((k : ℕ) → o ≡ some k → k < n) → (place : Place) → place ≡ place-told o
+    → (k : ℕ) → place ≡ AtPlace k → k < n
+told-in n o lt place h k q = lt k (told-some o k (sym h ∙ q))
+
 module _ (s : Bytes) (n : ℕ) (place : Place) where
   pub place-none : place ≡ NoPlace → Nothing ≡ spot-at s n (told-place place)
   unfolding spot-at
@@ -109,12 +113,8 @@ module _ (s : Bytes) (n : ℕ) (place : Place) where
   unfolding spot-at
   place-found k q first p f e = rw q (ap At (nth-is s n k p first f e))
 
-  module _ (o : Option ℕ) (h : place ≡ place-told o) where
-    pub told-in : ((k : ℕ) → o ≡ some k → k < n) → (k : ℕ) → place ≡ AtPlace k → k < n
-    told-in lt k q = lt k (told-some o k (sym h ∙ q))
-
-    pub told-at : (r : Spot) → r ≡ spot-at s n (told-place place) → r ≡ spot-at s n o
-    told-at r e = e ∙ ap (spot-at s n) (ap told-place h ∙ told-back o)
+  pub told-at : (o : Option ℕ) → place ≡ place-told o → (r : Spot) → r ≡ spot-at s n (told-place place) → r ≡ spot-at s n o
+  told-at o h r e = e ∙ ap (spot-at s n) (ap told-place h ∙ told-back o)
 
 -- The item that an index of a path finds.
 module _ (n : ℕ) (key : KeyPath) (v z : ℤ) (hk : key ≡ Index z) (hv : v ≡ z) where

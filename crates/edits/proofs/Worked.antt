@@ -4,20 +4,21 @@
 use Prim.Native.Nat.{ℕ}
 use mathlib.Core.Path.{_≡_, refl}
 use mathlib.Core.Bool.{true}
-use mathlib.Core.List.{List, [], _∷_, _++_}
+use mathlib.Core.List.{List, [], _∷_}
 use Rattle.layout.specs.Bytes.{Bytes, be32, be-value}
 use Rattle.layout.specs.Answer.{gives}
 use Rattle.layout.specs.Tree.{Tree, null, boolean, number, object, empty, member}
 use Rattle.layout.specs.Number.{signed, number-of}
 use Rattle.layout.specs.Read.{read}
 use Rattle.layout.specs.Check.{checked, soundness}
-use Rattle.layout.specs.Ended.{Outcome, result, absence, refusal, into}
+use Rattle.layout.specs.Ended.{Outcome, result, absence, refusal}
 use Rattle.layout.specs.Order.{order, before, same-bytes}
 use Rattle.layout.specs.declared.refusal.Refusal.the-variants.{Short, Layout, Repeated}
 use Rattle.layout.specs.declared.check.Check.{Check}
 use Rattle.layout.specs.declared.check.Check.the-variants.{Readable, Refused}
 use Rattle.layout.specs.declared.sound.Soundness.{Soundness}
 use Rattle.layout.specs.declared.sound.Soundness.the-variants.{Unsound}
+use Rattle.layout.proofs.Cases.{_▸_, told, _also_}
 use Rattle.builders.specs.Order.{has}
 use Rattle.builders.specs.Build.{on-two}
 use Rattle.edits.specs.Find.{place}
@@ -27,11 +28,6 @@ use Rattle.edits.specs.Strip.{strip, on-one}
 
 -- ---- what a line says
 
--- Bytes in the document's groups: four bytes, and what follows them.
-infixr 67 _▸_
-abbrev _▸_ : ℕ → Bytes → Bytes
-w ▸ b = be32 w ++ b
-
 data Line : Type 0 where
   reads : Bytes → Tree → Line
   checks : Bytes → Check → Line
@@ -40,12 +36,6 @@ data Line : Type 0 where
   deletes : Bytes → Bytes → Outcome → Line
   strips : Bytes → Outcome → Line
   concats : Bytes → Bytes → Outcome → Line
-
--- A result goes into a buffer that is long enough; an absence and a number are so with every buffer.
-abbrev told : Outcome → ℕ → Outcome
-told (result b) room = into room b
-told absence room = absence
-told (refusal r) room = refusal r
 
 abbrev Holds : Line → Type 0
 Holds (reads s t) = read s ≡ gives t
@@ -59,10 +49,6 @@ Holds (concats l r o) = (room : ℕ) → on-two concat l r room ≡ told o room
 abbrev AllHold : List Line → Type 0
 AllHold [] = Unit {0}
 AllHold (line ∷ lines) = Holds line × AllHold lines
-
-infixr 20 _also_
-abbrev _also_ : {A B : Type 0} → A → B → A × B
-a also b = (a, b)
 
 -- ---- records and paths
 

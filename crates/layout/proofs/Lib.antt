@@ -12,6 +12,7 @@ pub mod Decoding
 pub mod Encoding
 pub mod Readables
 pub mod Pipelines
+pub mod Cases
 pub mod ReadCases
 pub mod Values
 pub mod Places

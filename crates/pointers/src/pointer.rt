@@ -2,8 +2,8 @@
 use crate::token::find_token;
 use crate::token::is_pointer;
 use crate::token::token_end;
-use edits::find::Spot;
 use edits::path::Item;
+use edits::path::item_in;
 use edits::path::write_copy;
 use edits::path::write_item;
 use layout::check::Check;
@@ -11,7 +11,6 @@ use layout::check::check_record;
 use layout::constants::CONTAINER_CODE;
 use layout::ending::Ending;
 use layout::jentry::encoded;
-use layout::jentry::jentry_at;
 use layout::jentry::type_code;
 use layout::parts::ItemAt;
 use layout::parts::payload_at;
@@ -27,32 +26,25 @@ ghost use Rattle.layout.specs.Check.{checked};
 ghost use Rattle.layout.specs.Ended.{Ended};
 ghost use Rattle.layout.specs.Room.{EndedIn};
 ghost use Rattle.layout.specs.declared.check.Check.the-variants.{Readable};
-ghost use Rattle.edits.specs.Held.{Stands, Agree};
-ghost use Rattle.pointers.specs.Pointer.{tokens, «on-pointer» as onPointer};
-ghost use Rattle.pointers.specs.Token.{Points, pointing};
+ghost use Rattle.edits.specs.Held.{Stands, Leads, Finds};
+ghost use Rattle.pointers.specs.Pointer.{undo, tokens, «token-into» as tokenInto, point, «on-pointer» as onPointer};
 
 // The item that a token finds, from an item of the record on.
 fn step_from(s: &[u8], item: ItemAt, token: &[u8]) -> Item
     requires { ⌜ Stands (now s) item ⌝ }
-    ensures { λ r. ⌜ Points (now (s .entry)) item (now (token .entry)) r ⌝ }
+    ensures { λ r. ⌜ Leads (now (s .entry)) item (tokenInto (undo (now (token .entry)))) r ⌝ }
 {
     if type_code(item.jentry) != CONTAINER_CODE {
         return Item::Nothing;
     }
     let inner = payload_at(s, item);
-    let Spot::At(part) = find_token(inner, token) else {
-        return Item::Nothing;
-    };
-    Item::At(ItemAt {
-        jentry: jentry_at(inner, part.index),
-        place: item.place + part.place,
-    })
+    item_in(inner, item.place, find_token(inner, token))
 }
 
 // What a pointer finds in a container: each turn starts at the slash before a token.
 fn find_pointer(s: &[u8], pointer: &[u8]) -> Item
     requires { ⌜ (length (now s) ≤ 65536) × (checked (nested 64 (now s)) ≡ Readable) ⌝ }
-    ensures { λ r. ⌜ Agree (now (s .entry)) (pointing (now (s .entry)) (tokens (now (pointer .entry)))) r ⌝ }
+    ensures { λ r. ⌜ Finds (now (s .entry)) (point (tokens (now (pointer .entry)))) r ⌝ }
 {
     let mut item = ItemAt {
         jentry: encoded(CONTAINER_CODE, s.len() as u32),

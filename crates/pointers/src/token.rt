@@ -1,41 +1,44 @@
 // Pointers as text: which texts are pointers, their tokens, and what a token finds in a container.
 use edits::find::Place;
 use edits::find::Spot;
+use edits::find::item_at;
+use edits::find::value_of;
 use layout::jentry::jentry_at;
 use layout::jentry::payload_len;
 use layout::parts::PartAt;
 use layout::parts::first_part;
-use layout::parts::place_after;
 use layout::utf8::is_utf8;
 use layout::util::Header;
+use layout::util::byte;
 use layout::util::read_header;
 use layout::util::slice;
 ghost use mathlib.Core.Path.{_≡_};
-ghost use Prim.Native.Nat.{_+_, _*_, _^_, _≤_, _<_};
+ghost use Prim.Native.Nat.{_+_, _^_, _≤_, _<_};
 ghost use lib.ListN.{length, drop};
 ghost use Rattle.layout.specs.Order.{«same-bytes» as sameBytes};
 ghost use Rattle.layout.specs.Parts.{«names-of» as namesOf};
 ghost use Rattle.layout.specs.Read.{header};
-ghost use Rattle.edits.specs.Spot.{«place-told» as placeTold, first, «spot-at» as spotAt};
-ghost use Rattle.edits.specs.Spot.{«spot-member» as spotMember, spot};
-ghost use Rattle.pointers.specs.Pointer.{«has-slash» as hasSlash, escaped, undo, «index-of» as indexOf};
-ghost use Rattle.pointers.specs.Token.{«escape-good» as escapeGood, «is-pointer» as isPointer, «token-length» as tokenLength};
-ghost use Rattle.pointers.specs.Token.{Undoes, padded, «index-in» as indexIn, «token-at» as tokenAt};
+ghost use Rattle.edits.specs.Spot.{«place-told» as placeTold, first, «spot-at» as spotAt, spot};
+ghost use Rattle.pointers.specs.Pointer.{«has-slash» as hasSlash, «escape-good» as escapeGood, escaped, «is-pointer» as isPointer};
+ghost use Rattle.pointers.specs.Pointer.{undo, «index-of» as indexOf};
+ghost use Rattle.pointers.specs.Token.{«token-length» as tokenLength, Undoes, padded, «index-in» as indexIn, «token-at» as tokenAt};
+
+// What stands before each token, and what an escape starts with.
+const SLASH: u8 = b'/';
+
+const TILDE: u8 = b'~';
 
 // A byte of a token, undone, and the place behind what it is written in.
-pub struct Undone {
-    pub byte: u8,
-    pub next: usize,
+pub(crate) struct Undone {
+    byte: u8,
+    next: usize,
 }
 
 // Whether the text is empty or starts with a slash.
 fn has_slash(text: &[u8]) -> bool
     ensures { λ r. ⌜ r ≡ hasSlash (now (text .entry)) ⌝ }
 {
-    if text.len() == 0 {
-        return true;
-    }
-    text[0] == b'/'
+    (text.len() == 0) | (byte(text, 0) == SLASH)
 }
 
 // Whether 0 or 1 stands behind the byte at a place, where that is a ~.
@@ -43,15 +46,8 @@ fn is_escape(text: &[u8], i: usize) -> bool
     requires { ⌜ i < length (now text) ⌝ }
     ensures { λ r. ⌜ r ≡ escapeGood (drop i (now (text .entry))) ⌝ }
 {
-    if text[i] != b'~' {
-        return true;
-    }
-    let next = i + 1;
-    if text.len() <= next {
-        return false;
-    }
-    let mark = text[next];
-    (b'0' <= mark) & (mark <= b'1')
+    let mark = byte(text, i + 1);
+    (text[i] != TILDE) | ((b'0' <= mark) & (mark <= b'1'))
 }
 
 // Whether behind each ~ stands 0 or 1.
@@ -82,13 +78,13 @@ pub fn is_pointer(text: &[u8]) -> bool
 }
 
 // Where the token that starts at a place ends: at the next slash, or at the end.
-pub fn token_end(text: &[u8], start: usize) -> usize
+pub(crate) fn token_end(text: &[u8], start: usize) -> usize
     requires { ⌜ start ≤ length (now text) ⌝ }
     ensures { λ r. ⌜ (r ≡ start + tokenLength (drop start (now (text .entry)))) × (r ≤ length (now (text .entry))) ⌝ }
 {
     let mut end = start;
     while end < text.len() {
-        if text[end] == b'/' {
+        if text[end] == SLASH {
             return end;
         }
         end += 1;
@@ -101,28 +97,22 @@ fn unescaped(token: &[u8], i: usize) -> Undone
     requires { ⌜ i < length (now token) ⌝ }
     ensures { λ r. ⌜ Undoes (now (token .entry)) i r ⌝ }
 {
-    let byte = token[i];
+    let first = token[i];
     let next = i + 1;
-    if byte != b'~' {
-        return Undone { byte, next };
+    if first != TILDE {
+        return Undone { byte: first, next };
     }
-    if token.len() <= next {
-        return Undone { byte, next };
-    }
-    let mark = token[next];
-    if mark == b'1' {
-        return Undone {
-            byte: b'/',
+    match byte(token, next) {
+        b'1' => Undone {
+            byte: SLASH,
             next: next + 1,
-        };
-    }
-    if mark == b'0' {
-        return Undone {
-            byte: b'~',
+        },
+        b'0' => Undone {
+            byte: TILDE,
             next: next + 1,
-        };
+        },
+        _ => Undone { byte: first, next },
     }
-    Undone { byte, next }
 }
 
 // Whether a token, undone, is this name.
@@ -132,15 +122,15 @@ fn is_named(token: &[u8], name: &[u8]) -> bool
     let mut i = 0;
     let mut j = 0;
     while i < token.len() {
-        let u = unescaped(token, i);
-        let byte = u.byte;
+        let undone = unescaped(token, i);
+        let byte = undone.byte;
         if name.len() <= j {
             return false;
         }
         if byte != name[j] {
             return false;
         }
-        i = u.next;
+        i = undone.next;
         j += 1;
     }
     name.len() <= j
@@ -150,19 +140,11 @@ fn is_named(token: &[u8], name: &[u8]) -> bool
 fn is_padded(token: &[u8]) -> bool
     ensures { λ r. ⌜ r ≡ padded (now (token .entry)) ⌝ }
 {
-    if token.len() <= 1 {
-        return false;
-    }
-    token[0] == b'0'
+    (1 < token.len()) & (byte(token, 0) == b'0')
 }
 
-fn wide(x: u8) -> usize
-    ensures { λ r. ⌜ r ≡ x ⌝ }
-{
-    x as usize
-}
-
-// Which of n items a token means: 0, or digits without a leading zero. The number only grows, so that it is enough to have reached n.
+// Which of n items a token means: 0, or digits without a leading zero. A token with a ~ is no index, undone or not, so that its
+// bytes are read as they stand. The number only grows, so that it is enough to have reached n: no sum wraps.
 fn token_place(token: &[u8], n: usize) -> Place
     requires { ⌜ n < 2 ^ 29 ⌝ }
     ensures { λ r. ⌜ r ≡ placeTold (indexIn (indexOf (undo (now (token .entry)))) n) ⌝ }
@@ -176,19 +158,12 @@ fn token_place(token: &[u8], n: usize) -> Place
     let mut k = 0;
     let mut i = 0;
     while i < token.len() {
-        if n <= k {
+        let digit = token[i];
+        if (n <= k) | ((digit < b'0') | (b'9' < digit)) {
             return Place::Nothing;
         }
-        let u = unescaped(token, i);
-        let byte = u.byte;
-        if byte < b'0' {
-            return Place::Nothing;
-        }
-        if b'9' < byte {
-            return Place::Nothing;
-        }
-        k = k * 10 + wide(byte - b'0');
-        i = u.next;
+        k = k * 10 + (digit - b'0') as usize;
+        i += 1;
     }
     if k < n {
         return Place::At(k);
@@ -199,8 +174,7 @@ fn token_place(token: &[u8], n: usize) -> Place
 // The first of n names that a token is.
 fn find_named(s: &[u8], n: usize, token: &[u8]) -> Spot
     requires { ⌜ n < 2 ^ 29 ⌝ }
-    ensures { λ r. ⌜ r
-        ≡ spotAt (now (s .entry)) (n + n) (first (undo (now (token .entry))) (namesOf (now (s .entry)) n)) ⌝ }
+    ensures { λ r. ⌜ r ≡ spotAt (now (s .entry)) (n + n) (first (undo (now (token .entry))) (namesOf (now (s .entry)) n)) ⌝ }
 {
     let first = first_part(n + n);
     let mut place = first.place;
@@ -216,44 +190,13 @@ fn find_named(s: &[u8], n: usize, token: &[u8]) -> Spot
     Spot::Nothing
 }
 
-// The value of the first of n members whose name a token is.
-fn find_value(s: &[u8], n: usize, token: &[u8]) -> Spot
-    requires { ⌜ n < 2 ^ 29 ⌝ }
-    ensures { λ r. ⌜ r
-        ≡ spotMember (now (s .entry)) n (first (undo (now (token .entry))) (namesOf (now (s .entry)) n)) ⌝ }
-{
-    let Spot::At(key) = find_named(s, n, token) else {
-        return Spot::Nothing;
-    };
-    let index = n + key.index;
-    Spot::At(PartAt {
-        index,
-        place: place_after(s, key, index),
-    })
-}
-
-// The item of an array of n that a token means.
-fn find_index(s: &[u8], n: usize, token: &[u8]) -> Spot
-    requires { ⌜ n < 2 ^ 29 ⌝ }
-    ensures { λ r. ⌜ r ≡ spotAt (now (s .entry)) n (indexIn (indexOf (undo (now (token .entry)))) n) ⌝ }
-{
-    let Place::At(index) = token_place(token, n) else {
-        return Spot::Nothing;
-    };
-    let first = first_part(n);
-    Spot::At(PartAt {
-        index,
-        place: place_after(s, first, index),
-    })
-}
-
 // The part that a token finds in a record; a token on a scalar finds nothing.
-pub fn find_token(s: &[u8], token: &[u8]) -> Spot
+pub(crate) fn find_token(s: &[u8], token: &[u8]) -> Spot
     ensures { λ r. ⌜ r ≡ spot (header (now (s .entry))) (now (s .entry)) (tokenAt (header (now (s .entry))) (now (token .entry))) ⌝ }
 {
     match read_header(s) {
-        Header::Array(n) => find_index(s, n, token),
-        Header::Object(n) => find_value(s, n, token),
+        Header::Array(n) => item_at(s, n, token_place(token, n)),
+        Header::Object(n) => value_of(s, n, find_named(s, n, token)),
         Header::Scalar(_) => Spot::Nothing,
         Header::Refused(_) => Spot::Nothing,
     }

@@ -40,7 +40,7 @@ returns c = item-name _ _ _ (λ z e. ⊎-elim (λ q. omega arith) (λ q. omega a
 item-at-requires : tie.Need-item-at-requires
 item-at-requires c κs =
     let start = to-start (to-key c) in
-    (start .pre, told-in (start .args .s .now) _ _ _ (c .place-of .ensures) (place-lt _ _))
+    (start .pre, told-in _ _ (place-lt _ _) _ (c .place-of .ensures))
 
 returns-2 : tie.Need-returns-2
 returns-2 c = told-at _ _ _ _ (placed (c .before)) _ (c .item-at .ensures)
