@@ -4,6 +4,7 @@ use Prim.Native.Nat.{ℕ}
 use mathlib.Core.Path.{_≡_, refl, sym, ap, subst, _∙_}
 use mathlib.Core.Bool.{Bool, true, false, cond}
 use mathlib.Core.List.{List, [], _∷_, _++_}
+use Rattle.layout.proofs.Lists.{Each}
 use Rattle.layout.specs.Bytes.{Bytes}
 use Rattle.layout.specs.Order.{order, is-less, before}
 use Rattle.layout.specs.declared.order.Ordering.{Ordering}
@@ -135,11 +136,7 @@ module _ (key : MemberAt → Bytes) (last : Bound) (x : Bytes) (h : over last x 
   pub search-later : (ms : List MemberAt) (r : Found) → least key last Nothing ms ≡ r → Below key x r → least key (after x) Nothing ms ≡ r
   search-later ms r e l = least-later Nothing ms (subst (Below key x) (sym e) l) ∙ e
 
--- What holds of each of some members, and of the one that was found.
-abbrev pub Each : (MemberAt → Type 0) → List MemberAt → Type 0
-Each P [] = Unit {0}
-Each P (m ∷ ms) = P m × Each P ms
-
+-- What holds of the member that was found, where it holds of each.
 abbrev OfFound : (MemberAt → Type 0) → Found → Type 0
 OfFound P Nothing = Unit {0}
 OfFound P (At m) = P m

@@ -20,7 +20,7 @@ use Rattle.layout.specs.declared.parts.MemberAt.{MemberAt}
 use Rattle.builders.proofs.Searches.{bytes-short}
 use Rattle.builders.proofs.Stands.{Stands, Stand}
 use Rattle.edits.specs.Merge.{moved, moved-member, moved-all}
-use Rattle.edits.proofs.Choices.{Each}
+use Rattle.layout.proofs.Lists.{Each}
 
 module _ (r l : Bytes) where
   -- Moved behind the right record, an item has the payload that it had.

@@ -18,6 +18,7 @@ use Rattle.layout.specs.declared.check.Check.{Check}
 use Rattle.layout.specs.declared.check.Check.the-variants.{Readable, Refused}
 use Rattle.layout.specs.declared.sound.Soundness.{Soundness}
 use Rattle.layout.specs.declared.sound.Soundness.the-variants.{Unsound}
+use Rattle.layout.proofs.Lists.{Each}
 use Rattle.layout.proofs.Cases.{_▸_, told, _also_}
 use Rattle.builders.specs.Order.{has}
 use Rattle.builders.specs.Build.{on-two}
@@ -45,10 +46,6 @@ Holds (gets s path o) = (room : ℕ) → on-path get-by s path room ≡ told o r
 Holds (deletes s path o) = (room : ℕ) → on-path delete-by s path room ≡ told o room
 Holds (strips s o) = (room : ℕ) → on-one strip s room ≡ told o room
 Holds (concats l r o) = (room : ℕ) → on-two concat l r room ≡ told o room
-
-abbrev AllHold : List Line → Type 0
-AllHold [] = Unit {0}
-AllHold (line ∷ lines) = Holds line × AllHold lines
 
 -- ---- records and paths
 
@@ -113,7 +110,7 @@ table =
     ∷ checks (0x80000000 ▸ 0x00 ∷ []) (Refused Layout)
     ∷ []
 
-worked : AllHold table
+worked : Each Holds table
 unfolding read before order same-bytes has on-path on-two on-one concat be32 place number-of signed be-value
 worked =
     refl

@@ -1,4 +1,5 @@
 -- The laws of the layout, from the leaf up.
+pub mod Lists
 pub mod Words
 pub mod Fields
 pub mod Patches

@@ -54,10 +54,12 @@ loop-holds : tie.Need-loop-holds Inv-loop μ-loop
 loop-holds c =
     let encoded = to-encoded c in
     let start = to-start encoded in
-    rw (same-part (c .first-part .ensures) .1)
-    (omega arith, omega arith,
-    rw (← left-all (start .args .path .now) (start .args .n))
-    (going-start _ _ _ (octets encoded) (start .pre .0) (start .pre .1) (encoded .encoded .ensures)))
+    rw (same-part (c .first-part .ensures) .1) (
+      omega arith,
+      omega arith,
+      rw (← left-all (start .args .path .now) (start .args .n))
+          (going-start _ _ _ (octets encoded) (start .pre .0) (start .pre .1) (encoded .encoded .ensures)),
+    )
 
 step-from-requires : tie.Need-step-from-requires Inv-loop μ-loop
 step-from-requires c κs =
