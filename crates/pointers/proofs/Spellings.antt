@@ -17,7 +17,8 @@ use Rattle.layout.specs.declared.utf8.Lead.the-variants.{Tails, Bad}
 use Rattle.layout.proofs.Decimals.{decimal-one, decimal-more}
 use Rattle.layout.proofs.Places.{and-both}
 use Rattle.edits.proofs.Deletes.{false-true}
-use Rattle.pointers.specs.Pointer.{has-slash, escape-good, escaped, is-pointer, put-front, split, undo, undo-all, tokens, digits, digits-value, index-of}
+use Rattle.pointers.specs.Pointer.{has-slash, escape-good, escaped, is-pointer, put-front, split, undo, undo-all, tokens}
+use Rattle.pointers.specs.Pointer.{digits, digits-value, index-of}
 use Rattle.pointers.specs.Token.{unescape}
 use Rattle.pointers.proofs.Tokens.{undo-once, front-plain}
 use Rattle.pointers.proofs.Indexes.{between-one}
