@@ -16,6 +16,49 @@ class Refused(Exception):
     """A call that ends in this number."""
 
 
+# ---- a record's bytes as a line has them
+
+
+def digits(b):
+    return b.hex() or "-"
+
+
+def data(digits):
+    return bytes.fromhex("".join(digits.replace("-", "").split()))
+
+
+# ---- values as they are written here
+
+NULL, TRUE, FALSE = ("null", None), ("true", None), ("false", None)
+
+
+def text(s):
+    return ("string", s.encode())
+
+
+def num(payload):
+    return ("number", bytes.fromhex(payload))
+
+
+def obj(**values):
+    return members(values, *values.values())
+
+
+def members(names, *values):
+    """An object whose names may be repeated."""
+    return ("object", [(n.encode(), v) for n, v in zip(names, values)])
+
+
+def arr(*items):
+    return ("array", list(items))
+
+
+def nested(depth, v):
+    for _ in range(depth):
+        v = arr(v)
+    return v
+
+
 # ---- from values to records
 
 
@@ -127,20 +170,21 @@ DAMAGED = [("", "1 short"), ("400000", "1 short"), ("80000001", "1 short"), ("80
 DAMAGED += [("8000000180000000", "2 layout"), ("2000000010000001ff", "3 text"), ("200000002000000101", "4 number")]
 
 
-def some_value(r, deep):
+def some_value(r, deep, names=NAMES):
+    """A value with so many levels of containers; of seven names, so that many are repeated."""
     kinds = ["null", "true", "false", "number", "string", "extension", "array", "object", "object", "object"]
     kind = r.choice(kinds if deep else kinds[:6])
     if kind == "number":
         return (kind, r.choice(NUMBERS))
     if kind == "string":
-        return (kind, r.choice(NAMES))
+        return (kind, r.choice(names))
     if kind == "extension":
         return (kind, r.randbytes(r.randrange(3)))
     if kind == "array":
-        return (kind, [some_value(r, deep - 1) for _ in range(r.randrange(4))])
+        return (kind, [some_value(r, deep - 1, names) for _ in range(r.randrange(4))])
     if kind == "object":
-        names = r.choices(NAMES[: r.choice([2, 7])], k=r.randrange(5))
-        return (kind, [(n, some_value(r, deep - 1)) for n in names])
+        drawn = r.choices(names[: r.choice([2, 7])], k=r.randrange(5))
+        return (kind, [(n, some_value(r, deep - 1, names)) for n in drawn])
     return (kind, None)
 
 
@@ -170,3 +214,8 @@ def changed(r, v):
     if how == 3 and kind == "object":
         return (kind, x[:i] + [(r.choice(NAMES), part[1])] + x[i + 1 :])
     return (kind, x[:i] + [changed(r, part) if kind == "array" else (part[0], changed(r, part[1]))] + x[i + 1 :])
+
+
+def spoiled(r, b):
+    i = r.randrange(len(b))
+    return r.choice([b[:i], b + b"\0", b[:i] + bytes([b[i] ^ 1 << r.randrange(8)]) + b[i + 1 :], data(r.choice(DAMAGED)[0])])
