@@ -5,6 +5,7 @@ use crate::hex::RECORD_ROOM;
 use crate::hex::decode;
 use crate::make::answer_make;
 use crate::make::answer_number;
+use crate::pointer::answer_pointer;
 use crate::run::answer_run;
 use crate::say::say;
 use crate::say::say_fault;
@@ -107,6 +108,9 @@ fn answer_other(word: &[u8], rest: &[u8]) {
     if is_same_bytes(word, b"show") {
         return answer_one(Call::Show, rest);
     }
+    if is_same_bytes(word, b"pointer") {
+        return answer_pointer(rest);
+    }
     if is_same_bytes(word, b"grade") {
         return answer_grade(rest);
     }
@@ -126,9 +130,9 @@ fn answer_other(word: &[u8], rest: &[u8]) {
         return answer_run(rest);
     }
     say(
-        b"? there is no such call; there are check, sound, show, get, delete, concat, strip, append, ",
+        b"? there is no such call; there are check, sound, show, get, pointer, delete, concat, strip, ",
     );
-    say(b"build, grade, same, make, number, step and run\n");
+    say(b"append, build, grade, same, make, number, step and run\n");
 }
 
 // The answer to a line, which comes without its end.

@@ -1,4 +1,5 @@
 // Bytes in hexadecimal, as arguments and in answers.
+use crate::LINE_LIMIT;
 use crate::text::Fault;
 use crate::text::Taken;
 use crate::text::is_space;
@@ -10,6 +11,9 @@ ghost use Prim.Native.Nat.{_<_, _≤_};
 
 // Room for a record of one byte too many: what is longer is refused as that is.
 pub(crate) const RECORD_ROOM: usize = RECORD_LIMIT + 1;
+
+// Room for bytes that no document limits. The longest line has fewer, since two letters stand for each, so that none is cut.
+pub(crate) const LINE_ROOM: usize = LINE_LIMIT / 2;
 
 // How many digits there are, and those of them that are decimal.
 const BASE: u8 = 16;

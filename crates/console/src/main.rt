@@ -4,6 +4,8 @@
 //   sound R            sound, unsound, or refused N WORDS
 //   show R             an outline, a line for each item at every level, or refused N WORDS; show.rt says more
 //   get R ; PATH       result HEX, absent, or refused N WORDS: what the path finds in the record R
+//   pointer R ; POINTER
+//                      the same by a JSON Pointer, as it stands where it starts with a slash, else its bytes in hexadecimal
 //   delete R ; PATH    result HEX, or refused N WORDS: the record R without what the path finds in it
 //   concat L ; R       result HEX, or refused N WORDS: the record L overlaid with the record R
 //   strip R            result HEX, or refused N WORDS: the record R without the members whose value is null, at every level
@@ -36,6 +38,7 @@ mod decimal;
 mod grade;
 mod hex;
 mod make;
+mod pointer;
 mod run;
 mod say;
 mod shelf;

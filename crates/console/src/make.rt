@@ -24,6 +24,7 @@ use crate::text::count_arguments;
 use crate::text::count_words;
 use crate::text::trim;
 use crate::text::word;
+use crate::writing::lent;
 use layout::ending::Ending;
 use layout::number::Number;
 use layout::number::encode_decimal64;
@@ -33,7 +34,6 @@ use layout::number::encode_uint64;
 use layout::order::is_same_bytes;
 use layout::util::read_u32;
 use layout::util::slice;
-use layout::writer::least;
 
 // The longest payload that is made, a decimal's: its first byte, eight of the value and the scale.
 const MADE_ROOM: usize = 10;
@@ -167,16 +167,9 @@ fn encode_number(making: Making, out: &mut [u8]) -> Ending {
     }
 }
 
-// Makes a number with a buffer of a length, out of the room for one. The room is as long as the longest payload, so that a longer
-// buffer serves as it does.
-fn lend(making: Making, room: &mut [u8], length: usize) -> Ending {
-    let lent = least(length, room.len());
-    encode_number(making, &mut room[..lent])
-}
-
 fn answer_lent(making: Making, length: usize) {
     let mut room = [0u8; MADE_ROOM];
-    let ending = lend(making, &mut room, length);
+    let ending = encode_number(making, lent(&mut room, length));
     say_ending(ending, &room);
 }
 

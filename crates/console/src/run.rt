@@ -43,10 +43,11 @@ ghost use Prim.Native.Nat.{_≤_};
 // Room for how many calls.
 const CALLS: usize = 4_096;
 
-// How a call ended, as a number: a refusal's own, an absence, or a result and its place.
+// How a call ended, as a number: a refusal's own, an absence, or a result and its place, which start above every number of the
+// documents.
 const ABSENT: u64 = 0;
 
-const RESULT: u64 = 16;
+const RESULT: u64 = 64;
 
 // How a call ended, or why it is none.
 enum Ran {

@@ -100,6 +100,10 @@ fn say_why(fault: Fault) {
             b"step object takes KEY_JENTRY VAL_JENTRY KEY VAL LEFT, five numbers in decimal, from 0 to 18446744073709551615\n",
         ),
         Fault::NoSlice => say(b"the slice is missing; an empty one is -\n"),
+        Fault::NoPointer => say(b"the pointer is missing; an empty one is -\n"),
+        Fault::NotPointer => say(
+            b"a pointer is written with its leading slash, or its bytes in hexadecimal\n",
+        ),
     }
 }
 

@@ -2,9 +2,9 @@
 //
 //   step array 4 8 1 ; 80000001 20000002 5001
 //   item number 8 2 then 8 10 0
-use crate::LINE_LIMIT;
 use crate::decimal::Decimal;
 use crate::decimal::read_decimal;
+use crate::hex::LINE_ROOM;
 use crate::hex::decode;
 use crate::say::say;
 use crate::say::say_decimal;
@@ -26,9 +26,6 @@ use layout::iterator::ObjectMember;
 use layout::iterator::ObjectStep;
 use layout::order::is_same_bytes;
 use layout::util::slice;
-
-// Room for the bytes of a slice. The longest line has fewer, since two letters stand for each, so that none is cut.
-const SLICE_ROOM: usize = LINE_LIMIT / 2;
 
 // The numbers of a walk.
 const ARRAY_NUMBERS: usize = 3;
@@ -173,7 +170,7 @@ fn take_slice(text: &[u8], out: &mut [u8]) -> Taken {
 
 // Takes the slice behind the walk.
 fn answer_walk(walk: Walk, text: &[u8]) {
-    let mut bytes = [0u8; SLICE_ROOM];
+    let mut bytes = [0u8; LINE_ROOM];
     match take_slice(argument(text, 1), &mut bytes) {
         Taken::Length(n) => step(walk, slice(&bytes, 0, n)),
         Taken::Wrong(fault) => say_fault(fault),

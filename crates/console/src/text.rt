@@ -26,6 +26,8 @@ pub(crate) enum Fault {
     NotArrayWalk,
     NotObjectWalk,
     NoSlice,
+    NoPointer,
+    NotPointer,
 }
 
 // An argument as it was taken: how many bytes it spells, or is the length of.

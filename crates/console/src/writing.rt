@@ -38,8 +38,14 @@ pub(crate) const ONE_RECORD: usize = 1;
 
 pub(crate) const TWO_RECORDS: usize = 2;
 
-// Makes an edit with a buffer of a length, out of the room for one. The room is as long as the longest result, so that a longer
-// buffer serves as it does.
+// What is lent of the room for a result: a buffer of a length. The room is as long as the longest result, so that a longer buffer
+// serves as it does.
+pub(crate) fn lent(room: &mut [u8], length: usize) -> &mut [u8] {
+    let n = least(length, room.len());
+    &mut room[..n]
+}
+
+// Makes an edit with a buffer of a length, out of the room for one.
 pub(crate) fn lend(
     edit: Edit,
     left: &[u8],
@@ -48,8 +54,7 @@ pub(crate) fn lend(
     room: &mut [u8],
     length: usize,
 ) -> Ending {
-    let lent = least(length, room.len());
-    make_edit(edit, left, right, path, &mut room[..lent])
+    make_edit(edit, left, right, path, lent(room, length))
 }
 
 // Of the two records the second is the path where the call has one.
