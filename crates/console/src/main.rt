@@ -29,10 +29,11 @@
 //   run R ; R : CALL : CALL
 //                      ENDING : ENDING : shelf R ; R ; R: the calls one after the other, with places for records; run.rt says more
 //
-// A record stands in hexadecimal, and so do a path, which is one, a payload and a slice; spaces in it are ignored, and an empty
-// one is -. Behind the arguments of a call that gives a result may stand one more, as in `append A ; R ; 100`: the length of the
-// result's buffer in decimal; where it is left out, one that serves, of 65,536 bytes at most. An empty line and a line that starts
-// with # are copied. A line that is none of these gets `? WHY`, and the next one is answered as ever.
+// A record stands in hexadecimal, and so do a path, which is one, a pointer that does not start with a slash, a payload and a
+// slice; spaces in it are ignored, and an empty one is -. Behind the arguments of a call that gives a result may stand one more, as
+// in `append A ; R ; 100`: the length of the result's buffer in decimal; where it is left out, one that serves, of 65,536 bytes at
+// most. An empty line and a line that starts with # are copied. A line that is none of these gets `? WHY`, and the next one is
+// answered as ever.
 mod calls;
 mod decimal;
 mod grade;
