@@ -9,6 +9,7 @@ use layout::check::Check;
 use layout::check::check_record;
 use layout::ending::Ending;
 use layout::refusal::Refusal;
+use pointers::pointer::get_by_pointer;
 ghost use mathlib.Core.Path.{_≡_};
 ghost use Prim.Native.Nat.{_+_, _^_};
 ghost use lib.ListN.{length};
@@ -19,6 +20,7 @@ ghost use Rattle.builders.specs.Build.{append as appendOf, build, «on-two» as
 ghost use Rattle.edits.specs.Path.{«get-by» as getBy, «delete-by» as deleteBy, «on-path» as onPath};
 ghost use Rattle.edits.specs.Concat.{concat as concatOf};
 ghost use Rattle.edits.specs.Strip.{strip, «on-one» as onOne};
+ghost use Rattle.pointers.specs.Pointer.{«on-pointer» as onPointer};
 ghost use Rattle.jsonb.specs.C.{«c-check» as cCheck, «c-ending» as cEnding, EndedC};
 
 // The answer where the record is readable, and that of an absence, which is above every length. A refusal's number is added to
@@ -61,6 +63,15 @@ pub extern "C" fn jsonb_get_by_keypath(target: &[u8], path: &[u8], out: &mut [u8
         (onPath getBy (now (target .entry)) (now (path .entry)) (length (now (out .entry)))) ⌝ }
 {
     c_ending(get_by_keypath(target, path, out))
+}
+
+// Looks up what a pointer finds in a record.
+#[no_mangle]
+pub extern "C" fn jsonb_get_by_pointer(target: &[u8], pointer: &[u8], out: &mut [u8]) -> u64
+    ensures { λ r. ⌜ EndedC r (now (out .entry)) (now (out .exit))
+        (onPointer (now (target .entry)) (now (pointer .entry)) (length (now (out .entry)))) ⌝ }
+{
+    c_ending(get_by_pointer(target, pointer, out))
 }
 
 // Deletes what a path finds in a record.
