@@ -2,30 +2,31 @@
  * JSONB records for the flight computer: the check and the edits.
  *
  * The functions are those of the static library that tools/library makes, target/staticlib/libjsonb.a, for x86-64 Linux.
- * Each is proved to end, and to answer what Path.antt, Concat.antt and Strip.antt of crates/edits/specs and
- * crates/builders/specs/Build.antt define (the check: crates/layout/specs/Read.antt) as a number by crates/jsonb/specs/C.antt, on
- * every record, path and buffer. They keep nothing between calls, take no memory but the stack, and may be called from several
- * threads at once. 64 KiB of stack serve every call: measured at 64 levels, the deepest that a record can be, delete takes 61,900
- * bytes at the most, strip 33,100 and each of the others 20,000 (tests/c/stack.c).
+ * Each is proved to end, and to answer what Path.antt, Concat.antt and Strip.antt of crates/edits/specs,
+ * crates/builders/specs/Build.antt and crates/pointers/specs/Pointer.antt define (the check: crates/layout/specs/Read.antt) as a
+ * number by crates/jsonb/specs/C.antt, on every record, path, JSON Pointer and buffer. They keep nothing between calls, take no
+ * memory but the stack, and may be called from several threads at once. 64 KiB of stack serve every call: measured at 64 levels,
+ * the deepest that a record can be, delete takes 61,900 bytes at the most, strip 33,100 and each of the others 20,000
+ * (tests/c/stack.c).
  *
- * A record, a path and a buffer are each a pointer and a length in bytes. What the caller owes:
+ * A record, a path, the text of a JSON Pointer and a buffer are each a C pointer and a length in bytes. What the caller owes:
  *
- *   - A pointer is to as many bytes as its length says. It is never null, also where the length is 0.
- *   - The buffer overlaps no record and no path of the call. Records and paths may overlap each other, or be the same.
- *   - Nobody else changes a record or a path, or uses the buffer, before the call returns.
+ *   - A C pointer is to as many bytes as its length says. It is never null, also where the length is 0.
+ *   - The buffer overlaps nothing else of the call. Records, paths and texts may overlap each other, or be the same.
+ *   - Nobody else changes a record, a path or a text, or uses the buffer, before the call returns.
  *
- * What the bytes are is owed by no one: any bytes at all may be given as a record or as a path.
+ * What the bytes are is owed by no one: any bytes at all may be given as a record, as a path or as a JSON Pointer.
  *
  * An answer is one number:
  *
  *   below JSONB_ABSENT      done. It is the length of the result, which fills that many first bytes of the buffer; the bytes
  *                           behind them are unchanged. No result is longer than JSONB_ROOM. The check has no result and no
  *                           buffer: it answers JSONB_READABLE.
- *   JSONB_ABSENT            the path finds nothing. No byte is changed.
+ *   JSONB_ABSENT            the path or the JSON Pointer finds nothing. No byte is changed.
  *   above JSONB_ABSENT      refused, with one of the numbers below. No byte is changed.
  *
- * Of several faults the first in this order is told: that of the first record, that of the second, that of the path, 7, an
- * absence, 8, 9, 10.
+ * Of several faults the first in this order is told: that of the first record, that of the second, that of the path or of the
+ * JSON Pointer (6, 11), 7, an absence, 8, 9, 10.
  */
 #ifndef JSONB_H
 #define JSONB_H
@@ -46,7 +47,7 @@ extern "C" {
 #define JSONB_READABLE UINT64_C(0)
 #define JSONB_ABSENT UINT64_C(0x100000000)
 
-/* The answer that has a number; and the number of an answer that is no length, 1 to 10 of a refusal and 0 of an absence. */
+/* The answer that has a number; and the number of an answer that is no length, 1 to 11 of a refusal and 0 of an absence. */
 #define JSONB_REFUSED(number) (JSONB_ABSENT + (number))
 #define JSONB_NUMBER_OF(answer) ((int)((answer) - JSONB_ABSENT))
 
@@ -68,6 +69,8 @@ extern "C" {
  *                                      keeps, in an object build
  *    9  the author of an edit          the result would be over 65,536 bytes or deeper than 64: concat, append and object build
  *   10  the lender of the buffer       it is shorter than the result
+ *   11  the writer of a JSON Pointer   the text is not UTF-8, is not empty and does not start with a slash, or has a ~ that is not
+ *                                      followed by 0 or 1
  */
 #define JSONB_SHORT JSONB_REFUSED(1)
 #define JSONB_LAYOUT JSONB_REFUSED(2)
@@ -79,6 +82,7 @@ extern "C" {
 #define JSONB_REPEATED JSONB_REFUSED(8)
 #define JSONB_RESULT JSONB_REFUSED(9)
 #define JSONB_BUFFER JSONB_REFUSED(10)
+#define JSONB_POINTER JSONB_REFUSED(11)
 
 /* Checks a record: JSONB_READABLE, or refused with 1 to 5. The edits check their records too. */
 uint64_t jsonb_check(const uint8_t *record, size_t record_length);
@@ -90,6 +94,18 @@ uint64_t jsonb_check(const uint8_t *record, size_t record_length);
  * empty path finds the record itself.
  */
 uint64_t jsonb_get_by_keypath(const uint8_t *target, size_t target_length, const uint8_t *path, size_t path_length,
+                              uint8_t *out, size_t out_length);
+
+/*
+ * Looks up what a JSON Pointer (RFC 6901) finds in a record: "/heater/0" is the first item of the array that the name "heater" has.
+ * The pointer is its bytes, of any length: no 0 need stand behind them, and a 0 among them is a character like any other. The empty
+ * pointer finds the record itself. Behind each slash stands a token. On an object it is a name, in which ~1 stands for a slash and
+ * ~0 for a ~; of a repeated name the first member is found. On an array it is an index, 0 or digits that do not start with 0; an
+ * index from the count on, however many digits it has, and any other token, "-" too, find nothing. So does a token on a scalar. A
+ * scalar that is found is written as a scalar record. Text that is not UTF-8, that is not empty and does not start with a slash, or
+ * that has a ~ not followed by 0 or 1 gives 11, wherever in the text that is.
+ */
+uint64_t jsonb_get_by_pointer(const uint8_t *target, size_t target_length, const uint8_t *pointer, size_t pointer_length,
                               uint8_t *out, size_t out_length);
 
 /*

@@ -1,7 +1,7 @@
 /*
- * The functions of include/jsonb.h as a C program calls them, on the worked bytes of document 01 and on the limits that it names.
- * The expectations are taken from that document by hand. A line is printed for each that does not hold, and at the end how many
- * did.
+ * The functions of include/jsonb.h as a C program calls them, on the worked bytes of document 01 and on the limits that it names,
+ * and on the pointers of document 02 §1. The expectations are taken from these documents by hand. A line is printed for each that
+ * does not hold, and at the end how many did.
  */
 #include <stdint.h>
 #include <stdio.h>
@@ -39,6 +39,9 @@
 #define INDEX_LAST "80000001 20000002 40FF"
 #define INDEX_BEFORE "80000001 20000002 40FE"
 #define NO_STEPS "80000000"
+
+/* A text as bytes: those before its last 0, so that a 0 may stand among them. */
+#define TEXT(text) (text), sizeof(text) - 1
 
 typedef struct {
     uint8_t bytes[ROOM];
@@ -153,6 +156,13 @@ static void long_name(size_t length, Record *record) {
     fill("80000001 10000000", 4, length, record);
 }
 
+/* A pointer of so many tokens, each the index 0. */
+static void point_at_0(size_t tokens, Record *record) {
+    for (record->length = 0; record->length < 2 * tokens; record->length += 2) {
+        memcpy(record->bytes + record->length, "/0", 2);
+    }
+}
+
 static Record left_record, right_record, wanted, kept_left, kept_right;
 static uint8_t lent[WATCHED + ROOM + WATCHED];
 static uint8_t *const buffer = lent + WATCHED;
@@ -238,6 +248,7 @@ static void test_numbers(void) {
     expect(JSONB_NUMBER_OF(JSONB_REPEATED) == 8, "repeated name", "its number");
     expect(JSONB_NUMBER_OF(JSONB_RESULT) == 9, "result too long or deep", "its number");
     expect(JSONB_NUMBER_OF(JSONB_BUFFER) == 10, "buffer too short", "its number");
+    expect(JSONB_NUMBER_OF(JSONB_POINTER) == 11, "pointer", "its number");
 }
 
 static void test_check(void) {
@@ -344,6 +355,144 @@ static void test_get(void) {
     extend(65536, &wanted);
     spell(NO_STEPS, &right_record);
     gives_made("get of a record of 65,536 bytes", get);
+}
+
+/* The text of a pointer in the place of the right record. */
+static void point(const char *text, size_t length) {
+    memcpy(right_record.bytes, text, length);
+    right_record.length = length;
+}
+
+/* Look-up by a pointer: a result; an absence, or a number that stands before 10. */
+static void finds(const char *record, const char *text, size_t length, const char *result) {
+    spell(record, &left_record);
+    point(text, length);
+    spell(result, &wanted);
+    gives_made(text, jsonb_get_by_pointer);
+}
+
+static void points_to(const char *record, const char *text, size_t length, uint64_t answer) {
+    spell(record, &left_record);
+    point(text, length);
+    ends_made(text, jsonb_get_by_pointer, answer);
+}
+
+static void test_pointer_names(void) {
+    finds(A, TEXT("/a"), "20000000 20000002 5001");
+    finds(D, TEXT("/a"), ROOT_NULL);
+    finds("40000001 10000001 5000000F 61 " A, TEXT("/a"), A);
+    finds("40000001 10000001 5000000F 61 " A, TEXT("/a/a"), "20000000 20000002 5001");
+    points_to(A, TEXT("/b"), JSONB_ABSENT);
+    points_to(A, TEXT("/aa"), JSONB_ABSENT);
+    points_to(A, TEXT("/a/"), JSONB_ABSENT);
+    points_to(A, TEXT("/a/a"), JSONB_ABSENT);
+    points_to(EMPTY_OBJECT, TEXT("/a"), JSONB_ABSENT);
+    /* An empty name; and names that would be indexes, or none, on an array. */
+    finds("40000001 10000000 40000000", TEXT("/"), "20000000 40000000");
+    points_to("40000001 10000000 40000000", TEXT("//"), JSONB_ABSENT);
+    points_to(A, TEXT("/"), JSONB_ABSENT);
+    finds("40000001 10000001 40000000 30", TEXT("/0"), "20000000 40000000");
+    finds("40000001 10000002 40000000 3030", TEXT("/00"), "20000000 40000000");
+    finds("40000001 10000001 40000000 2D", TEXT("/-"), "20000000 40000000");
+    finds("40000001 10000002 40000000 C3A9", TEXT("/\xc3\xa9"), "20000000 40000000");
+    /* Escapes: the names "/", "~", "~1" and "a/b~c". */
+    finds("40000001 10000001 40000000 2F", TEXT("/~1"), "20000000 40000000");
+    finds("40000001 10000001 40000000 7E", TEXT("/~0"), "20000000 40000000");
+    finds("40000001 10000002 40000000 7E31", TEXT("/~01"), "20000000 40000000");
+    points_to("40000001 10000001 40000000 2F", TEXT("/~01"), JSONB_ABSENT);
+    finds("40000001 10000005 40000000 612F627E63", TEXT("/a~1b~0c"), "20000000 40000000");
+    points_to("40000001 10000005 40000000 612F627E63", TEXT("/a/b~0c"), JSONB_ABSENT);
+    /* A 0 is a character: "a" and then 0 is another name than "a". */
+    finds("40000001 10000002 40000000 6100", TEXT("/a\0"), "20000000 40000000");
+    finds("40000001 10000003 40000000 610062", TEXT("/a\0b"), "20000000 40000000");
+    points_to(A, TEXT("/a\0"), JSONB_ABSENT);
+    points_to("40000001 10000002 40000000 6100", TEXT("/a"), JSONB_ABSENT);
+}
+
+static void test_pointer_indexes(void) {
+    static const char *const none[] = {
+        "/1", "/2", "/10", "/-", "/-0", "/-1", "/+0", "/00", "/01", "/", "/a", "/0a", "/ 0", "/0 ", "/0.0", "/0/", "/0/0", "/~0",
+        "/~10",
+        /* 2^8, 2^29, 2^32 and 2^64, and a hundred digits: none may be taken for 0. */
+        "/256", "/536870912", "/4294967296", "/18446744073709551616",
+        "/1000000000000000000000000000000000000000000000000000000000000000000000000000000000000000000000000000",
+    };
+    size_t i;
+    finds(NULLS, TEXT("/0"), ROOT_NULL);
+    finds("80000002 00000000 40000000", TEXT("/1"), "20000000 40000000");
+    finds("80000002 00000000 50000009 80000001 20000001 00", TEXT("/1/0"), "20000000 20000001 00");
+    points_to(EMPTY_ARRAY, TEXT("/0"), JSONB_ABSENT);
+    for (i = 0; i < sizeof none / sizeof none[0]; i++) {
+        points_to(NULLS, none[i], strlen(none[i]), JSONB_ABSENT);
+    }
+    /* The eleventh of eleven, by two digits. */
+    finds("8000000B 00000000 00000000 00000000 00000000 00000000 00000000 00000000 00000000 00000000 00000000 40000000",
+          TEXT("/10"), "20000000 40000000");
+}
+
+/* Texts that are no pointers, by each cause: no slash in front, not UTF-8, a ~ with neither 0 nor 1 behind it. */
+static const struct {
+    const char *text;
+    size_t length;
+} no_pointers[] = {
+    {TEXT("a")},        {TEXT("a/b")},          {TEXT("#/a")},         {TEXT(" /a")},
+    {TEXT("\0/a")},     {TEXT("-")},            {TEXT("\xff")},        {TEXT("/\xff")},
+    {TEXT("/a/\xc3")},  {TEXT("/\xc0\xaf")},    {TEXT("/\xed\xa0\x80")}, {TEXT("/\xf4\x90\x80\x80")},
+    {TEXT("/~")},       {TEXT("/~2")},          {TEXT("/~/0")},        {TEXT("/~~0")},
+    {TEXT("/a~")},      {TEXT("/~0~")},         {TEXT("/nothing/~a")}, {TEXT("/~\0")},
+};
+
+static void test_pointer_refusals(void) {
+    size_t i, j;
+    refuses_one("get by the empty pointer of a damaged record", jsonb_get_by_pointer);
+    for (i = 0; i < sizeof no_pointers / sizeof no_pointers[0]; i++) {
+        points_to(A, no_pointers[i].text, no_pointers[i].length, JSONB_POINTER);
+        points_to(NULLS, no_pointers[i].text, no_pointers[i].length, JSONB_POINTER);
+        points_to(ROOT_NULL, no_pointers[i].text, no_pointers[i].length, JSONB_POINTER);
+        /* The record's own number stands before 11. */
+        for (j = 0; j < sizeof damaged / sizeof damaged[0]; j++) {
+            points_to(damaged[j].record, no_pointers[i].text, no_pointers[i].length, damaged[j].answer);
+        }
+    }
+}
+
+static void test_pointer(void) {
+    Edit *get = jsonb_get_by_pointer;
+    test_pointer_names();
+    test_pointer_indexes();
+    test_pointer_refusals();
+    /* The empty pointer finds the record; any other finds nothing in a scalar. */
+    finds(A, TEXT(""), A);
+    finds(D, TEXT(""), D);
+    finds(NULLS, TEXT(""), NULLS);
+    finds(ROOT_EXTENSION, TEXT(""), ROOT_EXTENSION);
+    points_to(ROOT_NULL, TEXT("/"), JSONB_ABSENT);
+    points_to(ROOT_STRING, TEXT("/0"), JSONB_ABSENT);
+    points_to(ROOT_EXTENSION, TEXT("/a"), JSONB_ABSENT);
+    nest(64, &left_record);
+    point_at_0(63, &right_record);
+    spell(EMPTY_ARRAY, &wanted);
+    gives_made("a pointer to depth 64", get);
+    point_at_0(64, &right_record);
+    ends_made("a pointer to depth 65", get, JSONB_ABSENT);
+    extend(65536, &left_record);
+    extend(65536, &wanted);
+    point(TEXT(""));
+    gives_made("the empty pointer in a record of 65,536 bytes", get);
+    /* A pointer may be longer than a record: a slash and 32,768 times ~0, the name of as many ~; and a ~ more. */
+    spell("40000001 10008000 40000000", &left_record);
+    memset(left_record.bytes + left_record.length, '~', 32768);
+    left_record.length += 32768;
+    right_record.bytes[0] = '/';
+    for (right_record.length = 1; right_record.length < 65537; right_record.length += 2) {
+        memcpy(right_record.bytes + right_record.length, "~0", 2);
+    }
+    spell("20000000 40000000", &wanted);
+    gives_made("a pointer of 65,537 bytes", get);
+    spell(A, &left_record);
+    ends_made("a pointer of 65,537 bytes that finds nothing", get, JSONB_ABSENT);
+    right_record.length--;
+    ends_made("a pointer of 65,536 bytes that ends with a ~", get, JSONB_POINTER);
 }
 
 static void test_delete(void) {
@@ -600,7 +749,7 @@ static void test_build(void) {
 
 /*
  * Records and paths may be the same bytes: [0] looked up by itself, whose one step is the index 0, appended to itself and put
- * behind itself.
+ * behind itself. A pointer may stand in its record: the name "/a" of {"/a":true,"a":1}.
  */
 static void test_same_bytes(void) {
     spell("80000001 20000001 00", &left_record);
@@ -613,12 +762,17 @@ static void test_same_bytes(void) {
     spell("80000002 20000001 20000001 00 00", &wanted);
     answer = jsonb_concat(left_record.bytes, left_record.length, left_record.bytes, left_record.length, buffer, ROOM);
     expect(answer == wanted.length && memcmp(buffer, wanted.bytes, wanted.length) == 0, "concat", "one slice as both records");
+    spell("40000002 10000002 10000001 40000000 20000002 2F61 61 5001", &left_record);
+    spell("20000000 20000002 5001", &wanted);
+    answer = jsonb_get_by_pointer(left_record.bytes, left_record.length, left_record.bytes + 20, 2, buffer, ROOM);
+    expect(answer == wanted.length && memcmp(buffer, wanted.bytes, wanted.length) == 0, "get", "a pointer in its record");
 }
 
 int main(void) {
     test_numbers();
     test_check();
     test_get();
+    test_pointer();
     test_delete();
     test_overlay();
     test_join();

@@ -24,9 +24,9 @@
 
 static uint8_t stack[STACK] __attribute__((aligned(4096)));
 
-/* The record and the path of the call, and its buffer. */
-static uint8_t record[JSONB_ROOM], path[JSONB_ROOM], out[JSONB_ROOM];
-static size_t record_length, path_length, out_length;
+/* The record, the path and the JSON Pointer of the call, and its buffer. */
+static uint8_t record[JSONB_ROOM], path[JSONB_ROOM], pointer[JSONB_ROOM], out[JSONB_ROOM];
+static size_t record_length, path_length, pointer_length, out_length;
 
 /* ---- records */
 
@@ -88,7 +88,7 @@ static void put_level(char kind, uint32_t code) {
     }
 }
 
-/* All levels of one kind but the innermost, of another, around a text; and the path that leads to it. */
+/* All levels of one kind but the innermost, of another, around a text; and the path and the pointer that lead to it. */
 static void make(char outer, char inner, const char *text) {
     int level;
     record_length = strlen(text);
@@ -96,6 +96,7 @@ static void make(char outer, char inner, const char *text) {
     put_level(inner, 1);
     put_word(path, 0x80000000u | LEVELS);
     path_length = 4 + 4 * LEVELS;
+    pointer_length = 2 * LEVELS;
     for (level = 0; level < LEVELS; level++) {
         char kind = level + 1 == LEVELS ? inner : outer;
         int is_name = kind != 'a' && kind != 's';
@@ -104,6 +105,8 @@ static void make(char outer, char inner, const char *text) {
         put_word(path + 4 + 4 * level, (is_name ? 0x10000000u : 0x20000000u) | (uint32_t)length);
         memcpy(path + path_length, step, length);
         path_length += length;
+        pointer[2 * level] = '/';
+        pointer[2 * level + 1] = is_name ? 'k' : kind == 'a' ? '0' : '1';
     }
     for (level = 1; level < LEVELS; level++) {
         put_level(outer, 5);
@@ -115,6 +118,7 @@ static void make(char outer, char inner, const char *text) {
 static void nothing(void) {}
 static void check(void) { jsonb_check(record, record_length); }
 static void get(void) { jsonb_get_by_keypath(record, record_length, path, path_length, out, out_length); }
+static void point(void) { jsonb_get_by_pointer(record, record_length, pointer, pointer_length, out, out_length); }
 static void delete(void) { jsonb_delete_by_keypath(record, record_length, path, path_length, out, out_length); }
 static void concat(void) { jsonb_concat(record, record_length, record, record_length, out, out_length); }
 static void strip(void) { jsonb_strip_nulls(record, record_length, out, out_length); }
@@ -129,9 +133,9 @@ typedef struct {
 } Function;
 
 static Function functions[] = {
-    {"check", check, OTHERS_MOST, 0},   {"get", get, OTHERS_MOST, 0},       {"delete", delete, DELETE_MOST, 0},
-    {"concat", concat, OTHERS_MOST, 0}, {"strip", strip, STRIP_MOST, 0},    {"append", append, OTHERS_MOST, 0},
-    {"build", build, OTHERS_MOST, 0},
+    {"check", check, OTHERS_MOST, 0},   {"get", get, OTHERS_MOST, 0},       {"get by a pointer", point, OTHERS_MOST, 0},
+    {"delete", delete, DELETE_MOST, 0}, {"concat", concat, OTHERS_MOST, 0}, {"strip", strip, STRIP_MOST, 0},
+    {"append", append, OTHERS_MOST, 0}, {"build", build, OTHERS_MOST, 0},
 };
 
 #define FUNCTIONS (sizeof functions / sizeof functions[0])
@@ -192,6 +196,10 @@ int main(void) {
             out_length = JSONB_ROOM;
             if (jsonb_get_by_keypath(record, record_length, path, path_length, out, out_length) != 10) {
                 printf("wrong: a path that is made here does not lead to the innermost text\n");
+                wrong++;
+            }
+            if (jsonb_get_by_pointer(record, record_length, pointer, pointer_length, out, out_length) != 10) {
+                printf("wrong: a pointer that is made here does not lead to the innermost text\n");
                 wrong++;
             }
             measure(start);
