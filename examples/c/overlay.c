@@ -38,10 +38,9 @@ static const uint8_t OVERLAY[] = {
     0x40, 0, 0, 1, 0x10, 0, 0, 6, 0x20, 0, 0, 2, 'h', 'e', 'a', 't', 'e', 'r', 0x50, 45,
 };
 
-/* The path of the names "zone1" and "heater". */
-static const uint8_t HEATER[] = {
-    0x80, 0, 0, 2, 0x10, 0, 0, 5, 0x10, 0, 0, 6, 'z', 'o', 'n', 'e', '1', 'h', 'e', 'a', 't', 'e', 'r',
-};
+/* Where the limit is, as a JSON Pointer: the bytes before the 0 that C puts behind them. */
+static const char HEATER[] = "/zone1/heater";
+#define HEATER_LENGTH (sizeof HEATER - 1)
 
 static void print(const char *what, const Record *record) {
     printf("%s ", what);
@@ -72,7 +71,8 @@ static void report(uint64_t answer) {
 }
 
 static void look_up(void) {
-    uint64_t answer = jsonb_get_by_keypath(table.bytes, table.length, HEATER, sizeof HEATER, work.bytes, sizeof work.bytes);
+    uint64_t answer = jsonb_get_by_pointer(table.bytes, table.length, (const uint8_t *)HEATER, HEATER_LENGTH,
+                                           work.bytes, sizeof work.bytes);
     if (JSONB_IS_DONE(answer)) {
         work.length = (size_t)answer;
         print("heater", &work);

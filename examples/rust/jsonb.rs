@@ -1,15 +1,14 @@
 //! A safe wrapper over the functions of include/jsonb.h: slices in, slices out.
 //!
 //! What the header asks of a C caller is kept by the types: a slice's pointer is never null and has as many bytes as its length
-//! says, and a buffer that is lent `&mut` overlaps no record and no path. So nothing here can be called wrongly; any bytes at all
-//! will do.
+//! says, and a buffer that is lent `&mut` overlaps nothing else. So nothing here can be called wrongly; any bytes at all will do.
 //!
 //! A result is the front part of the buffer that was lent. A refusal and an absence leave the buffer as it was.
 
 /// A buffer of this length serves every call: no result is longer.
 pub const ROOM: usize = 65_536;
 
-/// Why a call was refused: the ten numbers, and who can cause each.
+/// Why a call was refused: the eleven numbers, and who can cause each.
 #[derive(Clone, Copy, PartialEq, Eq, Debug)]
 pub enum Refusal {
     /// The sender of a record: it is cut short.
@@ -32,9 +31,11 @@ pub enum Refusal {
     Result = 9,
     /// The lender of the buffer: it is shorter than the result.
     Buffer = 10,
+    /// The writer of a pointer: it is not empty and does not start with a slash, or has a `~` not followed by 0 or 1.
+    Pointer = 11,
 }
 
-const REFUSALS: [Refusal; 10] = [
+const REFUSALS: [Refusal; 11] = [
     Refusal::Short,
     Refusal::Layout,
     Refusal::Text,
@@ -45,6 +46,7 @@ const REFUSALS: [Refusal; 10] = [
     Refusal::Repeated,
     Refusal::Result,
     Refusal::Buffer,
+    Refusal::Pointer,
 ];
 
 impl Refusal {
@@ -66,6 +68,7 @@ impl std::fmt::Display for Refusal {
             Refusal::Repeated => "repeated name",
             Refusal::Result => "result too long or deep",
             Refusal::Buffer => "buffer too short",
+            Refusal::Pointer => "pointer",
         };
         write!(f, "{} {}", self.number(), words)
     }
@@ -80,7 +83,7 @@ mod c {
         pub fn jsonb_strip_nulls(target: *const u8, target_length: usize, out: *mut u8, out_length: usize) -> u64;
     }
 
-    /// The other edits take two records, or a record and a path, and a buffer.
+    /// The other edits take two records, or a record and a path or a pointer, and a buffer.
     pub type Edit = unsafe extern "C" fn(*const u8, usize, *const u8, usize, *mut u8, usize) -> u64;
 
     macro_rules! edits {
@@ -92,7 +95,7 @@ mod c {
         };
     }
 
-    edits! { jsonb_get_by_keypath jsonb_delete_by_keypath jsonb_concat jsonb_append jsonb_build_object }
+    edits! { jsonb_get_by_keypath jsonb_get_by_pointer jsonb_delete_by_keypath jsonb_concat jsonb_append jsonb_build_object }
 }
 
 /// JSONB_ABSENT: below it an answer is a length, above it 2^32 and the number of a refusal.
@@ -109,9 +112,9 @@ fn ending(answer: u64) -> Result<Option<usize>, Refusal> {
     Err(REFUSALS[(answer - ABSENT) as usize - 1])
 }
 
-/// An edit of two records, or of a record and a path.
+/// An edit of two records, or of a record and a path or a pointer.
 fn edit<'a>(call: c::Edit, first: &[u8], second: &[u8], out: &'a mut [u8]) -> Result<Option<&'a [u8]>, Refusal> {
-    // Each pointer comes with the length of its slice, and `out` is borrowed for writing, so that it overlaps neither record.
+    // Each pointer comes with the length of its slice, and `out` is borrowed for writing, so that it overlaps neither of them.
     let answer = unsafe { call(first.as_ptr(), first.len(), second.as_ptr(), second.len(), out.as_mut_ptr(), out.len()) };
     Ok(ending(answer)?.map(move |length| &out[..length]))
 }
@@ -130,6 +133,14 @@ pub fn check(record: &[u8]) -> Result<(), Refusal> {
 /// indexes.
 pub fn get_by_keypath<'a>(target: &[u8], path: &[u8], out: &'a mut [u8]) -> Result<Option<&'a [u8]>, Refusal> {
     edit(c::jsonb_get_by_keypath, target, path, out)
+}
+
+/// What a JSON Pointer (RFC 6901), as `/heater/0`, finds in a record, as a record of its own; `None` where it finds nothing. On an
+/// object a token is a name, with `~1` for a slash and `~0` for a `~`; on an array it is an index. The empty pointer finds the
+/// record. A `&str` is UTF-8, so that of the causes of [`Refusal::Pointer`] two are left: a slash that lacks in front, and a `~`
+/// without 0 or 1 behind it.
+pub fn get_by_pointer<'a>(target: &[u8], pointer: &str, out: &'a mut [u8]) -> Result<Option<&'a [u8]>, Refusal> {
+    edit(c::jsonb_get_by_pointer, target, pointer.as_bytes(), out)
 }
 
 /// The record without what a path finds in it; the record itself where it finds nothing.

@@ -1,5 +1,6 @@
-//! A ground tool that turns one switch of a table on. An overlay takes a member's place whole: `{"switch":{"camera":true}}` over
-//! the table would drop every other switch. So the switches are looked up, overlaid by themselves, and put back.
+//! A ground tool that turns one switch of a table on, and shows what pointers find in the new table. An overlay takes a member's
+//! place whole: `{"switch":{"camera":true}}` over the table would drop every other switch. So the switches are looked up, overlaid
+//! by themselves, and put back.
 
 use jsonb::Refusal;
 
@@ -7,6 +8,9 @@ use jsonb::Refusal;
 const TABLE: &str = "40000002 10000006 10000005 5000001f 50000014 737769746368 7a6f6e6531 \
     40000002 10000006 10000005 30000000 40000000 63616d657261 726164696f \
     40000001 10000006 20000002 686561746572 5028";
+
+/// A switch that the table has, one that it has not, and what is no pointer, since it lacks its first slash.
+const POINTERS: [&str; 3] = ["/switch/camera", "/switch/beacon", "switch/camera"];
 
 /// `{"camera":true}`
 const CAMERA_ON: &str = "40000001 10000006 40000000 63616d657261";
@@ -49,11 +53,24 @@ fn overlay_member(table: &[u8], name: &str, overlay: &[u8]) -> Result<Vec<u8>, R
     Ok(jsonb::concat(table, &whole, &mut room)?.to_vec())
 }
 
+fn show(table: &[u8], pointer: &str) {
+    match jsonb::get_by_pointer(table, pointer, &mut [0; jsonb::ROOM]) {
+        Ok(Some(found)) => println!("{} {}", pointer, to_hex(found)),
+        Ok(None) => println!("{} absent", pointer),
+        Err(refusal) => println!("{} refused {}", pointer, refusal),
+    }
+}
+
 fn main() {
     let table = from_hex(TABLE);
     let camera_on = from_hex(CAMERA_ON);
     match overlay_member(&table, "switch", &camera_on) {
-        Ok(table) => println!("table {}", to_hex(&table)),
+        Ok(table) => {
+            println!("table {}", to_hex(&table));
+            for pointer in POINTERS {
+                show(&table, pointer);
+            }
+        }
         Err(refusal) => println!("refused {}", refusal),
     }
     // A table that lost its last byte is refused, and a buffer that is too short too.
