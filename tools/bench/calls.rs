@@ -1,6 +1,7 @@
 // One call, to the port and to the client's Rust.
 use jsonb::{Answer, Edit, Error, KeyPath};
 
+use crate::pointers::pointer_of;
 use crate::port;
 use crate::port::Refusal;
 use crate::tree::{record, Tree};
@@ -49,6 +50,14 @@ impl Call {
         Vec::new()
     }
 
+    /// The pointer that means what the path of a look-up means, where there is one.
+    pub fn pointer(&self) -> Option<String> {
+        if self.edit != Edit::Get {
+            return None;
+        }
+        pointer_of(&self.first, &self.second)
+    }
+
     /// The port's check of all that it is given, which is part of its every call.
     pub fn check(&self) -> Result<(), Refusal> {
         port::check(&self.first)?;
@@ -58,12 +67,18 @@ impl Call {
         port::check(&self.second)
     }
 
-    /// Whether both sides give the same bytes. A refusal is nothing that is measured, and none of them.
+    /// Whether both sides give the same bytes, by a pointer too. A refusal is nothing that is measured, and none of them.
     pub fn is_same(&self, out: &mut [u8]) -> bool {
-        match (self.ask_port(out), self.ask_rust(&self.steps())) {
-            (Ok(Some(ours)), Ok(Answer::Result(theirs))) => ours == theirs,
-            (Ok(None), Ok(Answer::Absent)) => true,
-            _ => false,
-        }
+        let theirs = self.ask_rust(&self.steps());
+        let by_pointer = self.pointer().map_or(true, |pointer| is_rusts(port::get_by_pointer(&self.first, &pointer, out), &theirs));
+        by_pointer && is_rusts(self.ask_port(out), &theirs)
+    }
+}
+
+fn is_rusts(ours: Result<Option<&[u8]>, Refusal>, theirs: &Result<Answer, Error>) -> bool {
+    match (ours, theirs) {
+        (Ok(Some(ours)), Ok(Answer::Result(theirs))) => ours == theirs,
+        (Ok(None), Ok(Answer::Absent)) => true,
+        _ => false,
     }
 }

@@ -3,6 +3,8 @@
 //   bench times      the tables of docs/PERFORMANCE.md
 //   bench answers    no times: whether both sides give the same bytes to every call that is measured
 mod calls;
+#[path = "../compare/pointers.rs"]
+mod pointers;
 #[path = "../../examples/rust/jsonb.rs"]
 mod port;
 mod tables;
@@ -17,7 +19,8 @@ use std::process::exit;
 
 use calls::Call;
 use tables::{
-    calls_on, calls_on_items, calls_on_members, calls_on_search, count_searched, fallen_tables, sound_tables, texts, Table,
+    calls_on, calls_on_items, calls_on_members, calls_on_search, count_searched, fallen_tables, look_up_on, sound_tables, texts,
+    Table,
 };
 use timing::{median, rounds, time};
 use tree::record;
@@ -82,6 +85,49 @@ fn say_calls(tables: &[Table], out: &mut [u8]) {
     }
 }
 
+/// The times of look-up by a pointer, by the path that means the same, of the record's check in both, and of the Rust by the path.
+fn say_pointer(name: &str, call: &Call, out: &mut [u8]) {
+    let pointer = call.pointer().expect("a path that is measured has a pointer");
+    let steps = call.steps();
+    let mut room = vec![0; port::ROOM];
+    let times = rounds([
+        &mut || {
+            let _ = black_box(port::get_by_pointer(black_box(&call.first), black_box(&pointer), black_box(&mut room)));
+        },
+        &mut || {
+            let _ = black_box(call.ask_port(black_box(out)));
+        },
+        &mut || {
+            let _ = black_box(port::check(black_box(&call.first)));
+        },
+        &mut || {
+            let _ = black_box(call.ask_rust(black_box(&steps)));
+        },
+    ]);
+    let of = |i: usize| median(times.iter().map(|round| round[i] / MICRO));
+    println!(
+        "| {name} | `{pointer}` | {:.2} | {:.2} | {:.2} | {:.2} | {:.2} | {:.2} | {:.2} |",
+        of(0),
+        of(1),
+        of(2),
+        of(3),
+        median(times.iter().map(|round| round[0] / round[1])),
+        median(times.iter().map(|round| round[0] / round[3])),
+        median(times.iter().map(|round| (round[0] - round[2]) / round[3])),
+    );
+}
+
+fn say_pointers(tables: &[Table], out: &mut [u8]) {
+    println!(
+        "| record | pointer | ours, us | ours by the path | of both the record's check | the Rust by the path, us \
+         | pointer to path | pointer to the Rust's path | the same without the check |"
+    );
+    println!("|---|---|---:|---:|---:|---:|---:|---:|---:|");
+    for table in tables {
+        say_pointer(table.name, &look_up_on(table), out);
+    }
+}
+
 fn say_factor(what: &str, word: &str, few: &mut dyn FnMut(), many: &mut dyn FnMut()) {
     let times = rounds([few, many]);
     let of = |i: usize| median(times.iter().map(|round| round[i] / MICRO));
@@ -125,6 +171,8 @@ fn say_times(out: &mut [u8]) {
     say_calls(&sound, out);
     println!("\n### The same with names that fall\n");
     say_calls(&fallen_tables(), out);
+    println!("\n### Look-up by a pointer\n");
+    say_pointers(&sound, out);
     println!("\n### Growth\n");
     println!("| record | call | few, us | many, us | factor |");
     println!("|---|---|---:|---:|---:|");

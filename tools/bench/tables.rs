@@ -215,6 +215,10 @@ pub fn calls_on(table: &Table) -> Vec<Call> {
     calls(&table.tree, &table.path, &table.tree, &table.overlay)
 }
 
+pub fn look_up_on(table: &Table) -> Call {
+    Call::new(Edit::Get, &table.tree, &table.path)
+}
+
 /// Texts, whose every byte is read: of one byte a character, and of two.
 pub fn texts() -> Vec<(&'static str, Vec<u8>)> {
     let room = RECORD_LIMIT - 8;

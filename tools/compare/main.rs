@@ -12,6 +12,7 @@
 mod codec;
 mod list;
 mod numbers;
+mod pointers;
 #[path = "../../examples/rust/jsonb.rs"]
 mod port;
 mod random;
@@ -73,7 +74,7 @@ fn read_list(path: &str, buffer: &mut Vec<u8>) -> List {
 // ---- random calls
 
 fn random_calls(list: &List, count: usize, seed: u64, buffer: &mut Vec<u8>) -> bool {
-    let mut r = Random(seed);
+    let mut r = Random::with_escapes(seed);
     let mut tally = Tally::new(list, count);
     for _ in 0..count {
         let with_damage = r.percent(40);

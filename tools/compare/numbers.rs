@@ -210,7 +210,7 @@ impl Calls {
     /// The boundaries, all small integers, all exponents of floats, and so many random numbers; the payloads of all these, as many
     /// random ones, and others. No number and no payload stands twice.
     pub fn new(random: usize, seed: u64) -> Calls {
-        let mut r = Random(seed);
+        let mut r = Random::new(seed);
         let mut calls = Calls { makings: Vec::new(), payloads: any_payloads(&mut r), seen: HashSet::new() };
         calls.payloads.extend(wide_payloads());
         for number in boundary_numbers() {

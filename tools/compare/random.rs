@@ -5,13 +5,25 @@ use jsonb::{Edit, Request, EDITS};
 use crate::reading::{largest_count, DEPTH_LIMIT, RECORD_LIMIT};
 use crate::tree::{record, scalar_record, Tree};
 
-/// A stream of numbers (splitmix64).
-pub struct Random(pub u64);
+/// A stream of numbers (splitmix64), and the names that members mostly have.
+pub struct Random {
+    state: u64,
+    names: &'static [&'static str],
+}
 
 impl Random {
+    /// Without the names that a pointer escapes: tests/rust-answers was recorded so.
+    pub fn new(seed: u64) -> Random {
+        Random { state: seed, names: &NAMES[..PLAIN] }
+    }
+
+    pub fn with_escapes(seed: u64) -> Random {
+        Random { state: seed, names: &NAMES }
+    }
+
     pub fn next(&mut self) -> u64 {
-        self.0 = self.0.wrapping_add(0x9e37_79b9_7f4a_7c15);
-        let mut z = self.0;
+        self.state = self.state.wrapping_add(0x9e37_79b9_7f4a_7c15);
+        let mut z = self.state;
         z = (z ^ z >> 30).wrapping_mul(0xbf58_476d_1ce4_e5b9);
         z = (z ^ z >> 27).wrapping_mul(0x94d0_49bb_1331_11eb);
         z ^ z >> 31
@@ -52,14 +64,19 @@ struct Shape {
     spoiled: bool,
 }
 
-const NAMES: [&str; 16] =
-    ["", "a", "b", "c", "aa", "ab", "zone", "heater", "limit", "0", "1", "-1", "a\0", "é", "\u{1f6f0}", "\u{ffff}"];
+/// Names, and behind so many of them those with a slash or a ~.
+const PLAIN: usize = 16;
+
+const NAMES: [&str; PLAIN + 6] = [
+    "", "a", "b", "c", "aa", "ab", "zone", "heater", "limit", "0", "1", "-1", "a\0", "é", "\u{1f6f0}", "\u{ffff}", "/", "~", "~1",
+    "~01", "a/b", "m~n/",
+];
 
 fn some_name(r: &mut Random) -> Vec<u8> {
     match r.below(20) {
         0 => "ab".repeat(r.below(40)).into_bytes(),
         1 => format!("{}", r.below(1000)).into_bytes(),
-        _ => r.of(&NAMES).as_bytes().to_vec(),
+        _ => r.of(r.names).as_bytes().to_vec(),
     }
 }
 

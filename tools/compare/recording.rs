@@ -52,7 +52,7 @@ fn limit_requests() -> Vec<Request> {
 pub fn record_calls(folder: &str, count: usize, seed: u64) -> Result<()> {
     let mut calls = BufWriter::new(File::create(format!("{folder}/answers.in"))?);
     let mut answers = BufWriter::new(File::create(format!("{folder}/answers.out"))?);
-    let mut r = Random(seed);
+    let mut r = Random::new(seed);
     let mut made = 0;
     let mut limits = limit_requests().into_iter();
     while made < count {

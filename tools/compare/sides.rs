@@ -3,6 +3,7 @@ use std::fmt;
 
 use jsonb::{answer, Answer, Edit, Error, Request};
 
+use crate::pointers::pointer_of;
 use crate::port;
 use crate::port::Refusal;
 use crate::reading::{depth, faults, Fault, DEPTH_LIMIT, RECORD_LIMIT};
@@ -43,21 +44,17 @@ const FILL: u8 = 0xa5;
 /// Bytes that were not written. A buffer is held against these part by part, which is faster than byte by byte.
 static UNWRITTEN: [u8; 4096] = [FILL; 4096];
 
-/// Answers, and makes sure that no byte was written that should not be.
-pub fn ask_port(request: &Request, buffer: &mut Vec<u8>) -> Result<Ours, &'static str> {
-    let room = request.room.unwrap_or(port::ROOM);
+type Ended<'a> = Result<Option<&'a [u8]>, Refusal>;
+
+/// Calls with a request's buffer, and makes sure that no byte was written that should not be.
+fn watched(
+    request: &Request,
+    buffer: &mut Vec<u8>,
+    call: impl for<'a> FnOnce(&'a mut [u8]) -> Ended<'a>,
+) -> Result<Ours, &'static str> {
     buffer.clear();
-    buffer.resize(room, FILL);
-    let (first, second) = (&request.first[..], &request.second[..]);
-    let ended = match request.edit {
-        Edit::Get => port::get_by_keypath(first, second, buffer),
-        Edit::Delete => port::delete_by_keypath(first, second, buffer).map(Some),
-        Edit::Concat => port::concat(first, second, buffer).map(Some),
-        Edit::Strip => port::strip_nulls(first, buffer).map(Some),
-        Edit::Append => port::append(first, second, buffer).map(Some),
-        Edit::Build => port::build_object(first, second, buffer).map(Some),
-    };
-    let ours = match ended {
+    buffer.resize(request.room.unwrap_or(port::ROOM), FILL);
+    let ours = match call(buffer) {
         Ok(Some(result)) => Ours::Result(result.to_vec()),
         Ok(None) => Ours::Absent,
         Err(refusal) => Ours::Refused(refusal),
@@ -67,6 +64,18 @@ pub fn ask_port(request: &Request, buffer: &mut Vec<u8>) -> Result<Ours, &'stati
         return Err("the port wrote behind its result");
     }
     Ok(ours)
+}
+
+pub fn ask_port(request: &Request, buffer: &mut Vec<u8>) -> Result<Ours, &'static str> {
+    let (first, second) = (&request.first[..], &request.second[..]);
+    watched(request, buffer, |out| match request.edit {
+        Edit::Get => port::get_by_keypath(first, second, out),
+        Edit::Delete => port::delete_by_keypath(first, second, out).map(Some),
+        Edit::Concat => port::concat(first, second, out).map(Some),
+        Edit::Strip => port::strip_nulls(first, out).map(Some),
+        Edit::Append => port::append(first, second, out).map(Some),
+        Edit::Build => port::build_object(first, second, out).map(Some),
+    })
 }
 
 // ---- both
@@ -154,7 +163,24 @@ pub fn judge(request: &Request, ours: &Ours, theirs: &Answer) -> Verdict {
     }
 }
 
-/// Asks both and judges. `QuotedName` must act as `Name`, and the check must say what the reading of document 01 says.
+/// The verdict on a look-up in a readable record, which a pointer that means the same must end as the path does.
+fn judge_pointer(request: &Request, ours: &Ours, verdict: Verdict, buffer: &mut Vec<u8>) -> Verdict {
+    let Some(pointer) = pointer_of(&request.first, &request.second) else {
+        return verdict;
+    };
+    match watched(request, buffer, |out| port::get_by_pointer(&request.first, &pointer, out)) {
+        Err(why) => Verdict::Wrong(why),
+        Ok(ended) if ended != *ours => Verdict::Wrong("the pointer ends otherwise than the path"),
+        Ok(_) => match verdict {
+            Verdict::Alike("the same result") => Verdict::Alike("the same result, by a pointer too"),
+            Verdict::Alike("an absence") => Verdict::Alike("an absence, by a pointer too"),
+            other => other,
+        },
+    }
+}
+
+/// Asks both and judges. `QuotedName` must act as `Name`, a pointer as the path that means the same, and the check must say what
+/// the reading of document 01 says.
 pub fn compare(request: &Request, buffer: &mut Vec<u8>) -> (Ours, Answer, Verdict) {
     let theirs = answer(request, false);
     let ours = match ask_port(request, buffer) {
@@ -168,6 +194,10 @@ pub fn compare(request: &Request, buffer: &mut Vec<u8>) -> (Ours, Answer, Verdic
     let checked = port::check(&request.first).err().map(Refusal::number);
     if checked != faults(&request.first).first().map(|fault| fault.number) {
         return (ours, theirs, Verdict::Wrong("the check is not document 01's"));
+    }
+    if request.edit == Edit::Get && faults(&request.first).is_empty() && faults(&request.second).is_empty() {
+        let verdict = judge_pointer(request, &ours, verdict, buffer);
+        return (ours, theirs, verdict);
     }
     (ours, theirs, verdict)
 }
