@@ -2,7 +2,7 @@
 -- the definitions of Pointer.antt.
 use Prim.Native.Nat.{ℕ, suc, _≤_, _<_}
 use mathlib.Core.Path.{_≡_}
-use mathlib.Core.Bool.{Bool, false, cond, _&&_}
+use mathlib.Core.Bool.{Bool, true, false, not, cond, _&&_}
 use mathlib.Core.List.{[], _∷_}
 use mathlib.Core.Option.{Option, none as nothing, some}
 use lib.Dec.{eqb, ltb}
@@ -20,6 +20,11 @@ use Rattle.pointers.specs.declared.token.Undone.{Undone}
 unfoldable pub token-length : Bytes → ℕ
 token-length [] = 0
 token-length (x ∷ b) = cond (eqb x 0x2F) 0 (suc (token-length b))
+
+-- Whether there is no ~.
+unfoldable pub plain : Bytes → Bool
+plain [] = true
+plain (x ∷ b) = not (eqb x 0x7E) && plain b
 
 -- ~1 and ~0 undone in one pass.
 unfoldable pub unescape : Bytes → Bytes

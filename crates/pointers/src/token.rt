@@ -1,6 +1,7 @@
 // Pointers as text: which texts are pointers, their tokens, and what a token finds in a container.
 use edits::find::Place;
 use edits::find::Spot;
+use edits::find::find_member;
 use edits::find::item_at;
 use edits::find::value_of;
 use layout::jentry::jentry_at;
@@ -18,10 +19,11 @@ ghost use lib.ListN.{length, drop};
 ghost use Rattle.layout.specs.Order.{«same-bytes» as sameBytes};
 ghost use Rattle.layout.specs.Parts.{«names-of» as namesOf};
 ghost use Rattle.layout.specs.Read.{header};
-ghost use Rattle.edits.specs.Spot.{«place-told» as placeTold, first, «spot-at» as spotAt, spot};
+ghost use Rattle.edits.specs.Spot.{«place-told» as placeTold, first, «spot-at» as spotAt, «spot-member» as spotMember, spot};
 ghost use Rattle.pointers.specs.Pointer.{«has-slash» as hasSlash, «escape-good» as escapeGood, escaped, «is-pointer» as isPointer};
 ghost use Rattle.pointers.specs.Pointer.{undo, «index-of» as indexOf};
-ghost use Rattle.pointers.specs.Token.{«token-length» as tokenLength, Undoes, padded, «index-in» as indexIn, «token-at» as tokenAt};
+ghost use Rattle.pointers.specs.Token.{«token-length» as tokenLength, plain, Undoes, padded};
+ghost use Rattle.pointers.specs.Token.{«index-in» as indexIn, «token-at» as tokenAt};
 
 // What stands before each token, and what an escape starts with.
 const SLASH: u8 = b'/';
@@ -115,6 +117,20 @@ fn unescaped(token: &[u8], i: usize) -> Undone
     }
 }
 
+// Whether a token has no ~, so that it is the name that it stands for.
+fn is_plain(token: &[u8]) -> bool
+    ensures { λ r. ⌜ r ≡ plain (now (token .entry)) ⌝ }
+{
+    let mut i = 0;
+    while i < token.len() {
+        if token[i] == TILDE {
+            return false;
+        }
+        i += 1;
+    }
+    true
+}
+
 // Whether a token, undone, is this name.
 fn is_named(token: &[u8], name: &[u8]) -> bool
     ensures { λ r. ⌜ r ≡ sameBytes (undo (now (token .entry))) (now (name .entry)) ⌝ }
@@ -190,13 +206,24 @@ fn find_named(s: &[u8], n: usize, token: &[u8]) -> Spot
     Spot::Nothing
 }
 
+// The value of the first of n members that a token names. Most tokens have nothing to be undone, and are compared as they stand.
+fn find_value(s: &[u8], n: usize, token: &[u8]) -> Spot
+    requires { ⌜ n < 2 ^ 29 ⌝ }
+    ensures { λ r. ⌜ r ≡ spotMember (now (s .entry)) n (first (undo (now (token .entry))) (namesOf (now (s .entry)) n)) ⌝ }
+{
+    if is_plain(token) {
+        return find_member(s, n, token);
+    }
+    value_of(s, n, find_named(s, n, token))
+}
+
 // The part that a token finds in a record; a token on a scalar finds nothing.
 pub(crate) fn find_token(s: &[u8], token: &[u8]) -> Spot
     ensures { λ r. ⌜ r ≡ spot (header (now (s .entry))) (now (s .entry)) (tokenAt (header (now (s .entry))) (now (token .entry))) ⌝ }
 {
     match read_header(s) {
         Header::Array(n) => item_at(s, n, token_place(token, n)),
-        Header::Object(n) => value_of(s, n, find_named(s, n, token)),
+        Header::Object(n) => find_value(s, n, token),
         Header::Scalar(_) => Spot::Nothing,
         Header::Refused(_) => Spot::Nothing,
     }
