@@ -1,5 +1,5 @@
--- Pointers and tokens as the code goes through them. `tokens-next`, `undo-once`, `index-counted`, `token-is-step` of proofs/ tie these to
--- the definitions of Pointer.antt.
+-- Pointers and tokens as the code goes through them. `tokens-next` and `token-is-step` (proofs/Steps.antt), `undo-once` and `undo-plain`
+-- (Tokens), `index-counted` (Indexes) tie these to the definitions of Pointer.antt.
 use Prim.Native.Nat.{ℕ, suc, _≤_, _<_}
 use mathlib.Core.Path.{_≡_}
 use mathlib.Core.Bool.{Bool, true, false, not, cond, _&&_}
