@@ -17,6 +17,8 @@ mod tree;
 use std::hint::black_box;
 use std::process::exit;
 
+use jsonb::Edit;
+
 use calls::Call;
 use tables::{
     calls_on, calls_on_items, calls_on_members, calls_on_search, count_searched, fallen_tables, look_up_on, sound_tables, texts,
@@ -148,7 +150,7 @@ fn say_growth(what: &str, counts: [usize; 2], make: fn(usize) -> Vec<Call>) {
 }
 
 fn say_search(length: usize, out: &mut [u8]) {
-    for call in calls_on_search(length) {
+    for call in calls_on_search(length).into_iter().filter(|call| call.edit != Edit::Get) {
         let time = time(&mut || {
             let _ = black_box(call.ask_port(black_box(out)));
         });

@@ -99,7 +99,7 @@ pub fn value_of(s: &[u8], n: usize, name: Spot) -> Spot
 }
 
 // The value of the first of n members whose name has equal bytes.
-pub fn find_member(s: &[u8], n: usize, name: &[u8]) -> Spot
+fn find_member(s: &[u8], n: usize, name: &[u8]) -> Spot
     requires { ⌜ n < 2 ^ 29 ⌝ }
     ensures { λ r. ⌜ r ≡ spotMember (now (s .entry)) n (first (now (name .entry)) (namesOf (now (s .entry)) n)) ⌝ }
 {
@@ -146,7 +146,7 @@ fn find_value(s: &[u8], n: usize, key: KeyPath, text: &[u8]) -> Spot
 }
 
 // The part that the step with this entry and payload finds in a record; a step into a scalar finds nothing.
-pub(crate) fn find_step(s: &[u8], jentry: u32, text: &[u8]) -> Spot
+pub fn find_step(s: &[u8], jentry: u32, text: &[u8]) -> Spot
     ensures { λ r. ⌜ r ≡ spot (header (now (s .entry))) (now (s .entry)) (step (codeKey (codeOf jentry) (now (text .entry))) (now (text .entry))) ⌝ }
 {
     let key = key_of(jentry, text);

@@ -1,9 +1,11 @@
 // Pointers as text: which texts are pointers, their tokens, and what a token finds in a container.
 use edits::find::Place;
 use edits::find::Spot;
-use edits::find::find_member;
+use edits::find::find_step;
 use edits::find::item_at;
 use edits::find::value_of;
+use layout::constants::STRING_CODE;
+use layout::jentry::encoded;
 use layout::jentry::jentry_at;
 use layout::jentry::payload_len;
 use layout::parts::PartAt;
@@ -19,6 +21,7 @@ ghost use lib.ListN.{length, drop};
 ghost use Rattle.layout.specs.Order.{«same-bytes» as sameBytes};
 ghost use Rattle.layout.specs.Parts.{«names-of» as namesOf};
 ghost use Rattle.layout.specs.Read.{header};
+ghost use Rattle.layout.specs.declared.util.Header.the-variants.{Object};
 ghost use Rattle.edits.specs.Spot.{«place-told» as placeTold, first, «spot-at» as spotAt, «spot-member» as spotMember, spot};
 ghost use Rattle.pointers.specs.Pointer.{«has-slash» as hasSlash, «escape-good» as escapeGood, escaped, «is-pointer» as isPointer};
 ghost use Rattle.pointers.specs.Pointer.{undo, «index-of» as indexOf};
@@ -206,13 +209,14 @@ fn find_named(s: &[u8], n: usize, token: &[u8]) -> Spot
     Spot::Nothing
 }
 
-// The value of the first of n members that a token names. Most tokens have nothing to be undone, and are compared as they stand.
+// The value of the first of n members that a token names. Most tokens have nothing to be undone: such a one is the name of a path's
+// step, of whose entry the code alone counts.
 fn find_value(s: &[u8], n: usize, token: &[u8]) -> Spot
-    requires { ⌜ n < 2 ^ 29 ⌝ }
+    requires { ⌜ (n < 2 ^ 29) × (header (now s) ≡ Object n) ⌝ }
     ensures { λ r. ⌜ r ≡ spotMember (now (s .entry)) n (first (undo (now (token .entry))) (namesOf (now (s .entry)) n)) ⌝ }
 {
     if is_plain(token) {
-        return find_member(s, n, token);
+        return find_step(s, encoded(STRING_CODE, 0), token);
     }
     value_of(s, n, find_named(s, n, token))
 }
