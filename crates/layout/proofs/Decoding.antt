@@ -61,11 +61,11 @@ heads b o =
 
 -- Payloads.
 
-text-is : (b : Bytes) {s : Bytes} → text b ≡ gives s → s ≡ b
+pub text-is : (b : Bytes) {s : Bytes} → text b ≡ gives s → s ≡ b
 unfolding text
 text-is b e = from-require _ _ _ e λ _ e₁. sym (gives-inj e₁)
 
-text-valid : (b s : Bytes) → text b ≡ gives s → T (utf8 s)
+pub text-valid : (b s : Bytes) → text b ≡ gives s → T (utf8 s)
 unfolding text
 text-valid b s e = from-require _ _ _ e λ h e₁. rw (← gives-inj {x = b} e₁) h
 

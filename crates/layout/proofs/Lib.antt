@@ -18,6 +18,8 @@ pub mod ReadCases
 pub mod Values
 pub mod Places
 pub mod Texts
+pub mod Points
+pub mod TextCases
 pub mod Checks
 pub mod Pieces
 pub mod Passes

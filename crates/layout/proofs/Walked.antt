@@ -7,18 +7,22 @@ use mathlib.Core.List.{List}
 use mathlib.Core.Option.{some}
 use lib.Dec.{ltb, eqb}
 use lib.ListN.{length, take, drop}
-use borrow.Author.Tests.{le-leb, lt-ltb, ne-eqb}
+use borrow.Author.Tests.{le-leb, lt-ltb, ne-eqb, eqb-true}
 use Rattle.layout.specs.Bytes.{Bytes, inside, word-at}
-use Rattle.layout.specs.Answer.{gives, refused}
-use Rattle.layout.specs.Entry.{top-of, code-of, length-of, entry-at, lengths, entry-good}
+use Rattle.layout.specs.Answer.{Answer, gives, refused, _>>=_}
+use Rattle.layout.specs.Entry.{top-of, code-of, length-of, kind-of, entry-at, lengths, entry-good}
+use Rattle.layout.specs.Text.{code-points}
 use Rattle.layout.specs.Tree.{Tree, array, object, Items, Members, pair}
 use Rattle.layout.specs.Encode.{Part}
-use Rattle.layout.specs.Read.{header, entry-ok, number-in, payload-in, items-in, names-in, scalar-in, nested, root-in, read}
+use Rattle.layout.specs.Read.{header, entry-ok, text, number-in, payload-in, items-in, names-in, scalar-in, nested, root-in, read}
 use Rattle.layout.specs.Place.{table-ok, parts-at}
-use Rattle.layout.specs.Walk.{item-of, array-step, member-step, object-step, array-walk, object-walk, opening}
+use Rattle.layout.specs.Walk.{item-of, counted, characters-of, item-at, ends-with, array-step, member-at, member-step, object-step}
+use Rattle.layout.specs.Walk.{array-walk, object-walk, opening}
 use Rattle.layout.specs.Walk.{array-opened, array-open, object-opened, object-open, walked, object-walked, paired}
 use Rattle.layout.specs.declared.item.Kind.{Kind}
 use Rattle.layout.specs.declared.item.Kind.the-variants.{Null, String, Number, False, True, Container, Extension}
+use Rattle.layout.specs.declared.item.Characters.{Characters}
+use Rattle.layout.specs.declared.item.Characters.the-variants.{Count, NoText}
 use Rattle.layout.specs.declared.refusal.Refusal.{Refusal}
 use Rattle.layout.specs.declared.refusal.Refusal.the-variants.{Layout}
 use Rattle.layout.specs.declared.util.Header.{Header}
@@ -30,7 +34,8 @@ use Rattle.layout.specs.declared.iterator.ObjectIterator.{ObjectIterator
 use Rattle.layout.specs.declared.iterator.ObjectOpen.the-variants.{Opened as OpenedObject, Absent as NoObject, Refused as NotOpenedObject}
 use Rattle.layout.specs.declared.iterator.ObjectStep.the-variants.{Member}
 use Rattle.layout.proofs.Answers.{from-bind, from-require, refused-gives, gives-inj}
-use Rattle.layout.proofs.Decoding.{read-is}
+use Rattle.layout.proofs.Texts.{utf8-some}
+use Rattle.layout.proofs.Decoding.{text-is, text-valid, read-is}
 use Rattle.layout.proofs.Places.{and-both, table-head, table-split, lengths-split, laid, length-parts, take-parts, drop-parts}
 use Rattle.layout.proofs.Checks.{told-array, told-object}
 use Rattle.layout.proofs.Walks.{array-other, object-other}
@@ -59,15 +64,39 @@ good-item true e q =
     rw (h .0, (and-both (not (eqb (code-of e) 7)) (eqb (code-of e) 1) (h .1)) .0)
 good-item false e q = q
 
+-- What reads as a text, or as an item of any kind, is handed out.
+module _ (s : Bytes) (e p : ℕ) where
+  abbrev Given : Type 0
+  Given = (c : Characters) × (item-at s e p ≡ gives (item-of e p c))
+
+  text-given : (x : Bytes) → text (take (length-of e) (drop p s)) ≡ gives x → Given
+  unfolding item-at characters-of counted _>>=_
+  text-given x h =
+      let n = utf8-some (take (length-of e) (drop p s)) (rw (text-is (take (length-of e) (drop p s)) h) at (text-valid _ x h)) in
+      by-code (n .0) (n .1) (eqb (code-of e) 1) refl
+    where
+      by-code : (n : ℕ) → code-points (take (length-of e) (drop p s)) ≡ some n → (b : Bool) → eqb (code-of e) 1 ≡ b → Given
+      by-code n h true q = (Count n, rw (q, h))
+      by-code n h false q = (NoText, rw q)
+
+  item-given : (inner : Bytes → Answer Tree) (t : Tree) → payload-in inner (kind-of (code-of e)) (take (length-of e) (drop p s)) ≡ gives t → Given
+  unfolding item-at characters-of kind-of _>>=_
+  item-given inner t h = by-code (eqb (code-of e) 1) refl
+    where
+      by-code : (b : Bool) → eqb (code-of e) 1 ≡ b → Given
+      by-code true q = from-bind (rw (eqb-true (code-of e) 1 q) at h) λ x hx _. text-given x hx
+      by-code false q = (NoText, rw q)
+
 -- The walk at entry `i` and payload place `p`, with `k` items left.
 abbrev walk-at : ℕ → ℕ → ℕ → ArrayIterator
 walk-at i p k = record { «jentry_offset» = 4 + 4 * i; «item_offset» = p; remaining = k }
 
 step-at : (s : Bytes) (i p k : ℕ) → entry-good false (entry-at s i) ≡ true
     → 4 + 4 * (i + 1) ≤ length s → p + length-of (entry-at s i) ≤ length s
-    → array-step s (walk-at i p (suc k)) ≡ Item (item-of (entry-at s i) p) (walk-at (i + 1) (p + length-of (entry-at s i)) k)
-unfolding array-step entry-at
-step-at s i p k good table payload =
+    → (c : Characters) → item-at s (entry-at s i) p ≡ gives (item-of (entry-at s i) p c)
+    → array-step s (walk-at i p (suc k)) ≡ Item (item-of (entry-at s i) p c) (walk-at (i + 1) (p + length-of (entry-at s i)) k)
+unfolding array-step ends-with entry-at
+step-at s i p k good table payload c given =
     let a : 4 + 4 * i + 4 ≡ 4 + 4 * (i + 1) = omega arith in
     let b : suc k - 1 ≡ k = omega arith in
     rw (
@@ -75,28 +104,34 @@ step-at s i p k good table payload =
       inside-yes s (4 + 4 * i) 4 (omega arith),
       good,
       inside-yes s p (length-of (word-at s (4 + 4 * i))) payload,
+      given,
       a,
       b,
     )
 
--- A walk over entries that pass rule 5, with table and payloads inside the slice, hands out their parts and ends.
+-- A walk over entries that pass rule 5, with table and payloads inside the slice, and payloads that read, hands out their parts and
+-- ends.
 walked-at : (s : Bytes) (m i p k : ℕ) → table-ok s m i k ≡ true → 4 + 4 * (i + k) ≤ length s → p + lengths s i k ≤ length s
+    → (inner : Bytes → Answer Tree) (ts : Items) → items-in inner (parts-at s i p k) ≡ gives ts
     → walked s (walk-at i p k) (suc k) ≡ some (parts-at s i p k)
 unfolding walked array-step item-of parts-at
-walked-at s m i p zero ok table payload = refl
-walked-at s m i p (suc k) ok table payload =
+walked-at s m i p zero ok table payload inner ts reads = refl
+walked-at s m i p (suc k) ok table payload inner ts reads =
     let h = table-head s m i k ok in
     let l = lengths-cons s i k in
+    from-bind reads λ t ht reads₁. from-bind reads₁ λ us hu _.
+    let g = item-given s (entry-at s i) p inner t ht in
     rw (
-      step-at s i p k (good-item (ltb i m) _ (ok-good (ltb i m) _ (h .0))) (omega arith) (omega arith),
-      walked-at s m (i + 1) (p + length-of (entry-at s i)) k (h .1) (omega arith) (omega arith),
+      step-at s i p k (good-item (ltb i m) _ (ok-good (ltb i m) _ (h .0))) (omega arith) (omega arith) (g .0) (g .1),
+      walked-at s m (i + 1) (p + length-of (entry-at s i)) k (h .1) (omega arith) (omega arith) inner us hu,
     )
 
 -- The walk before the first item of an array of `n` hands out its `n` parts in turn, and then answers the end.
 pub walked-array : (s : Bytes) (n : ℕ) → table-ok s 0 0 n ≡ true → 4 + 4 * n + lengths s 0 n ≤ length s
+    → (inner : Bytes → Answer Tree) (ts : Items) → items-in inner (parts-at s 0 (4 + 4 * n) n) ≡ gives ts
     → walked s (array-walk n) (suc n) ≡ some (parts-at s 0 (4 + 4 * n) n)
 unfolding array-walk
-walked-array s n ok fits = walked-at s 0 0 (4 + 4 * n) n ok (omega arith) fits
+walked-array s n ok fits inner ts reads = walked-at s 0 0 (4 + 4 * n) n ok (omega arith) fits inner ts reads
 
 -- The same for an object: name entry `i`, value entry `j`, name at `q`, value at `p`.
 abbrev walk-over : ℕ → ℕ → ℕ → ℕ → ℕ → ObjectIterator
@@ -106,11 +141,13 @@ walk-over i j q p k =
 step-over : (s : Bytes) (i j q p k : ℕ) → entry-good true (entry-at s i) ≡ true → entry-good false (entry-at s j) ≡ true
     → 4 + 4 * (i + 1) ≤ length s → 4 + 4 * (j + 1) ≤ length s
     → q + length-of (entry-at s i) ≤ length s → p + length-of (entry-at s j) ≤ length s
+    → (c c′ : Characters) → item-at s (entry-at s i) q ≡ gives (item-of (entry-at s i) q c)
+    → item-at s (entry-at s j) p ≡ gives (item-of (entry-at s j) p c′)
     → object-step s (walk-over i j q p (suc k))
-    ≡ Member (record { key = item-of (entry-at s i) q; val = item-of (entry-at s j) p })
+    ≡ Member (record { key = item-of (entry-at s i) q c; val = item-of (entry-at s j) p c′ })
     (walk-over (i + 1) (j + 1) (q + length-of (entry-at s i)) (p + length-of (entry-at s j)) k)
-unfolding object-step member-step entry-at
-step-over s i j q p k name value table table′ payload payload′ =
+unfolding object-step member-step member-at ends-with entry-at _>>=_
+step-over s i j q p k name value table table′ payload payload′ c c′ given given′ =
     let a : 4 + 4 * i + 4 ≡ 4 + 4 * (i + 1) = omega arith in
     let a′ : 4 + 4 * j + 4 ≡ 4 + 4 * (j + 1) = omega arith in
     let b : suc k - 1 ≡ k = omega arith in
@@ -122,6 +159,8 @@ step-over s i j q p k name value table table′ payload payload′ =
       value,
       inside-yes s q (length-of (word-at s (4 + 4 * i))) payload,
       inside-yes s p (length-of (word-at s (4 + 4 * j))) payload′,
+      given,
+      given′,
       a,
       a′,
       b,
@@ -130,34 +169,42 @@ step-over s i j q p k name value table table′ payload payload′ =
 walked-over : (s : Bytes) (m i j q p k : ℕ) → i + k ≤ m → table-ok s m i k ≡ true → table-ok s m j k ≡ true
     → 4 + 4 * (i + k) ≤ length s → 4 + 4 * (j + k) ≤ length s
     → q + lengths s i k ≤ length s → p + lengths s j k ≤ length s
+    → (ns : List Bytes) → names-in (parts-at s i q k) ≡ gives ns
+    → (inner : Bytes → Answer Tree) (ts : Items) → items-in inner (parts-at s j p k) ≡ gives ts
     → object-walked s (walk-over i j q p k) (suc k) ≡ some (paired (parts-at s i q k) (parts-at s j p k))
 unfolding object-walked object-step item-of parts-at
-walked-over s m i j q p zero names ok ok′ table table′ payload payload′ = refl
-walked-over s m i j q p (suc k) names ok ok′ table table′ payload payload′ =
+walked-over s m i j q p zero names ok ok′ table table′ payload payload′ ns texts inner ts reads = refl
+walked-over s m i j q p (suc k) names ok ok′ table table′ payload payload′ ns texts inner ts reads =
     let h = table-head s m i k ok in
     let h′ = table-head s m j k ok′ in
     let l = lengths-cons s i k in
     let l′ = lengths-cons s j k in
     let name : entry-ok true (entry-at s i) ≡ true = rw (lt-ltb i m (omega arith)) at (h .0) in
+    from-bind texts λ x hx texts₁. from-bind texts₁ λ xs hxs _.
+    from-bind reads λ t ht reads₁. from-bind reads₁ λ us hu _.
+    let g = text-given s (entry-at s i) q x hx in
+    let g′ = item-given s (entry-at s j) p inner t ht in
     rw (
       step-over s i j q p k (ok-good true _ name) (good-item (ltb j m) _ (ok-good (ltb j m) _ (h′ .0)))
-          (omega arith) (omega arith) (omega arith) (omega arith),
+          (omega arith) (omega arith) (omega arith) (omega arith) (g .0) (g′ .0) (g .1) (g′ .1),
       walked-over s m (i + 1) (j + 1) (q + length-of (entry-at s i)) (p + length-of (entry-at s j)) k
-          (omega arith) (h .1) (h′ .1) (omega arith) (omega arith) (omega arith) (omega arith),
+          (omega arith) (h .1) (h′ .1) (omega arith) (omega arith) (omega arith) (omega arith) xs hxs inner us hu,
     )
 
 -- The walk before the first member of an object of `n` hands out its `n` names with their values in turn, and then answers
 -- the end.
 pub walked-object : (s : Bytes) (n : ℕ) → table-ok s n 0 (n + n) ≡ true → 4 + 8 * n + lengths s 0 (n + n) ≤ length s
+    → (ns : List Bytes) → names-in (parts-at s 0 (4 + 8 * n) n) ≡ gives ns
+    → (inner : Bytes → Answer Tree) (ts : Items) → items-in inner (parts-at s n (4 + 8 * n + lengths s 0 n) n) ≡ gives ts
     → object-walked s (object-walk s n) (suc n)
     ≡ some (paired (parts-at s 0 (4 + 8 * n) n) (parts-at s n (4 + 8 * n + lengths s 0 n) n))
 unfolding object-walk
-walked-object s n ok fits =
+walked-object s n ok fits ns texts inner ts reads =
     let e : 0 + n ≡ n = omega arith in
     let h = table-split s n 0 n n ok in
     let l : lengths s 0 (n + n) ≡ lengths s 0 n + lengths s n n = rw e at (lengths-split s 0 n n) in
     walked-over s n 0 n (4 + 8 * n) (4 + 8 * n + lengths s 0 n) n (omega arith) (h .0) (rw e at (h .1))
-    (omega arith) (omega arith) (omega arith) (omega arith)
+    (omega arith) (omega arith) (omega arith) (omega arith) ns texts inner ts reads
 
 -- A scalar record holds no container.
 abbrev Flat : Tree → Type 0
@@ -205,7 +252,7 @@ array-by s ts (Array n) hh e q =
       count = n;
       each = ps;
       opened = rw (e, ← hh);
-      handed-out = rw (l .same) (walked-array s n (l .table) (l .fits));
+      handed-out = rw (l .same) (walked-array s n (l .table) (l .fits) (nested 63) us (rw (l .same) at hu));
       items = hu ∙ ap gives same;
     }
 
@@ -250,7 +297,9 @@ object-by s ms (Object n) hh e q =
       texts = ns;
       trees = us;
       opened = rw (e, ← hh);
-      handed-out = rw (keys, vals) (walked-object s n (l .table) (rw a at (l .fits)));
+      handed-out =
+          rw (keys, vals)
+          (walked-object s n (l .table) (rw a at (l .fits)) ns (rw keys at hn) (nested 63) us (rw vals at hu));
       all-keys = rw (keys, length-parts s 0 (4 + 8 * n) n);
       all-vals = rw (vals, length-parts s n (4 + 8 * n + lengths s 0 n) n);
       names = hn;

@@ -4,23 +4,31 @@ use mathlib.Core.Path.{_≡_, refl}
 use mathlib.Core.Bool.{Bool, true, false, not}
 use native.Mathlib.Omega.{arith}
 use mathlib.Core.Logic.{_⊎_, inl, inr}
-use lib.ListN.{length}
+use lib.ListN.{length, take, drop}
 use borrow.Author.Tests.{ne-eqb}
 use Rattle.layout.specs.Bytes.{Bytes, inside, word-at}
-use Rattle.layout.specs.Answer.{Answer, gives, refused}
+use Rattle.layout.specs.Answer.{Answer, gives, refused, _>>=_}
 use Rattle.layout.specs.Tree.{Tree}
-use Rattle.layout.specs.Check.{checked}
-use Rattle.layout.specs.Entry.{length-of, entry-at, lengths, entry-good}
-use Rattle.layout.specs.Walk.{item-of, array-step, member-step, object-step, array-walk, object-walk, opening, array-opened, object-opened}
+use Rattle.layout.specs.Text.{code-points}
+use Rattle.layout.specs.Check.{checked, text-checked}
+use Rattle.layout.specs.Entry.{code-of, length-of, entry-at, lengths, entry-good}
+use Rattle.layout.specs.Walk.{item-of, counted, characters-of, item-at, handed, ends-with, array-step, member-at, member-step, object-step}
+use Rattle.layout.specs.Walk.{array-walk, object-walk, opening, array-opened, object-opened}
 use Rattle.layout.specs.Parts.{first-part, members-of}
 use Rattle.layout.proofs.Fields.{inside-le, length-lt}
+use Rattle.layout.proofs.Texts.{passed-some, refused-none}
 use Rattle.layout.specs.declared.refusal.Refusal.{Refusal}
 use Rattle.layout.specs.declared.refusal.Refusal.the-variants.{Short, Layout}
 use Rattle.layout.specs.declared.util.Header.{Header}
 use Rattle.layout.specs.declared.util.Header.the-variants.{Array, Object, Scalar, Refused as NoHeader}
 use Rattle.layout.specs.declared.check.Check.{Check}
 use Rattle.layout.specs.declared.check.Check.the-variants.{Readable, Refused as Fault}
+use Rattle.layout.specs.declared.utf8.TextCheck.{TextCheck}
+use Rattle.layout.specs.declared.utf8.TextCheck.the-variants.{Passed, Refused as NotPassed}
+use Rattle.layout.specs.declared.item.Characters.the-variants.{Count, NoText}
 use Rattle.layout.specs.declared.item.JsonbItem.{JsonbItem}
+use Rattle.layout.specs.declared.iterator.Handed.{Handed}
+use Rattle.layout.specs.declared.iterator.Handed.the-variants.{Item as HandedItem, Refused as NotHanded}
 use Rattle.layout.specs.declared.iterator.ArrayIterator.{ArrayIterator}
 use Rattle.layout.specs.declared.iterator.ArrayOpen.the-variants.{Opened, Absent}
 use Rattle.layout.specs.declared.iterator.ArrayStep.the-variants.{Item, End, Refused}
@@ -36,10 +44,33 @@ pub not-outside : (s : Bytes) (at n : ℕ) (g : Bool) → g ≡ inside s at n �
 not-outside s at n true hg q = inside-le s at n true hg refl
 not-outside s at n false hg q = let z : _≡_ {A = ℕ} 0 1 = cc in omega arith
 
--- The item of an entry has the entry's length.
-pub item-length : (e place : ℕ) (i : JsonbItem) → i ≡ item-of e place → i .length ≡ length-of e
-unfolding item-of
-item-length e place i hi = rw hi
+-- What is handed out of an entry, by its code and by the text check.
+module _ (s : Bytes) (w place code : ℕ) (hc : code ≡ code-of w) where
+  pub hand-other : (code ≡ 1 → ⊥) → (i : JsonbItem) → i ≡ item-of w place NoText → HandedItem i ≡ handed (item-at s w place)
+  unfolding item-at characters-of ends-with _>>=_
+  hand-other z i hi = rw (← hc, ne-eqb code 1 z, hi)
+
+  module _ (z : code ≡ 1) (l : ℕ) (hl : l ≡ length-of w) (b : Bytes) (hb : b ≡ take l (drop place s))
+      (r : TextCheck) (hr : r ≡ text-checked (code-points b)) where
+    pub hand-text : (n : ℕ) → r ≡ Passed n → (i : JsonbItem) → i ≡ item-of w place (Count n)
+        → HandedItem i ≡ handed (item-at s w place)
+    unfolding item-at characters-of counted ends-with _>>=_
+    hand-text n q i hi = rw (← hc, z, ← hl, ← hb, passed-some (code-points b) r n hr q, hi)
+
+    pub hand-bad : (x : Refusal) → r ≡ NotPassed x → NotHanded x ≡ handed (item-at s w place)
+    unfolding item-at characters-of counted ends-with _>>=_
+    hand-bad x q = let h = refused-none (code-points b) r x hr q in rw (← hc, z, ← hl, ← hb, h .0, h .1)
+
+-- What `hand_out` has answered.
+handed-item : (a : Answer JsonbItem) (h : Handed) (i : JsonbItem) → h ≡ handed a → h ≡ HandedItem i → a ≡ gives i
+unfolding ends-with
+handed-item (gives j) h i e q = cc
+handed-item (refused r) h i e q = cc
+
+handed-refusal : (a : Answer JsonbItem) (h : Handed) (r : Refusal) → h ≡ handed a → h ≡ NotHanded r → a ≡ refused r
+unfolding ends-with
+handed-refusal (gives j) h r e q = cc
+handed-refusal (refused x) h r e q = cc
 
 module _ (s : Bytes) (w : ArrayIterator) where
   pub array-end : w .remaining ≡ 0 → End ≡ array-step s w
@@ -56,44 +87,61 @@ module _ (s : Bytes) (w : ArrayIterator) where
       unfolding array-step
       array-layout t = rw (ne-eqb (w .remaining) 0 z, ← hg, q, ← he, ← hb, t)
 
-      module _ (t : not b ≡ false) (i : JsonbItem) (hi : i ≡ item-of e (w .«item_offset»))
-          (p : Bool) (hp : p ≡ inside s (w .«item_offset») (i .length)) where
+      module _ (t : not b ≡ false) (l : ℕ) (hl : l ≡ length-of e) (p : Bool) (hp : p ≡ inside s (w .«item_offset») l) where
         pub array-outside : not p ≡ true → Refused Layout ≡ array-step s w
         unfolding array-step
-        array-outside u = rw (ne-eqb (w .remaining) 0 z, ← hg, q, ← he, ← hb, t, ← item-length e _ i hi, ← hp, u)
+        array-outside u = rw (ne-eqb (w .remaining) 0 z, ← hg, q, ← he, ← hb, t, ← hl, ← hp, u)
 
-        pub array-item : not p ≡ false
-            → Item i (record {
-              «jentry_offset» = w .«jentry_offset» + 4;
-              «item_offset» = w .«item_offset» + i .length;
-              remaining = w .remaining - 1;
-            }) ≡ array-step s w
-        unfolding array-step
-        array-item u = rw (ne-eqb (w .remaining) 0 z, ← hg, q, ← he, ← hb, t, ← item-length e _ i hi, ← hp, u, ← hi)
+        module _ (u : not p ≡ false) (h : Handed) (hh : h ≡ handed (item-at s e (w .«item_offset»))) where
+          pub array-bad : (r : Refusal) → h ≡ NotHanded r → Refused r ≡ array-step s w
+          unfolding array-step ends-with
+          array-bad r v =
+              rw (ne-eqb (w .remaining) 0 z, ← hg, q, ← he, ← hb, t, ← hl, ← hp, u, handed-refusal (item-at s e (w .«item_offset»)) h r hh v)
+
+          pub array-item : (i : JsonbItem) → h ≡ HandedItem i
+              → Item i (record {
+                «jentry_offset» = w .«jentry_offset» + 4;
+                «item_offset» = w .«item_offset» + l;
+                remaining = w .remaining - 1;
+              }) ≡ array-step s w
+          unfolding array-step ends-with
+          array-item i v =
+              rw (ne-eqb (w .remaining) 0 z, ← hg, q, ← he, ← hb, t, ← hl, ← hp, u, handed-item (item-at s e (w .«item_offset»)) h i hh v)
 
 module _ (s : Bytes) (w : ObjectIterator) where
-  module _ (k v : ℕ) (i : JsonbItem) (hi : i ≡ item-of k (w .«key_offset»))
-      (p : Bool) (hp : p ≡ inside s (w .«key_offset») (i .length)) where
+  module _ (k v l : ℕ) (hl : l ≡ length-of k) (p : Bool) (hp : p ≡ inside s (w .«key_offset») l) where
     pub member-name : not p ≡ true → RefusedMember Layout ≡ member-step s w k v
     unfolding member-step
-    member-name q = rw (← item-length k _ i hi, ← hp, q)
+    member-name q = rw (← hl, ← hp, q)
 
-    module _ (q : not p ≡ false) (j : JsonbItem) (hj : j ≡ item-of v (w .«val_offset»))
-        (r : Bool) (hr : r ≡ inside s (w .«val_offset») (j .length)) where
+    module _ (q : not p ≡ false) (m : ℕ) (hm : m ≡ length-of v) (r : Bool) (hr : r ≡ inside s (w .«val_offset») m) where
       pub member-value : not r ≡ true → RefusedMember Layout ≡ member-step s w k v
       unfolding member-step
-      member-value u = rw (← item-length k _ i hi, ← hp, q, ← item-length v _ j hj, ← hr, u)
+      member-value u = rw (← hl, ← hp, q, ← hm, ← hr, u)
 
-      pub member-both : not r ≡ false
-          → Member (record { key = i; val = j }) (record {
-            «key_jentry_offset» = w .«key_jentry_offset» + 4;
-            «val_jentry_offset» = w .«val_jentry_offset» + 4;
-            «key_offset» = w .«key_offset» + i .length;
-            «val_offset» = w .«val_offset» + j .length;
-            remaining = w .remaining - 1;
-          }) ≡ member-step s w k v
-      unfolding member-step
-      member-both u = rw (← item-length k _ i hi, ← hp, q, ← item-length v _ j hj, ← hr, u, ← hi, ← hj)
+      module _ (u : not r ≡ false) (g : Handed) (hg : g ≡ handed (item-at s k (w .«key_offset»))) where
+        pub name-bad : (x : Refusal) → g ≡ NotHanded x → RefusedMember x ≡ member-step s w k v
+        unfolding member-step member-at ends-with _>>=_
+        name-bad x t = rw (← hl, ← hp, q, ← hm, ← hr, u, handed-refusal (item-at s k (w .«key_offset»)) g x hg t)
+
+        module _ (i : JsonbItem) (t : g ≡ HandedItem i) (h : Handed) (hh : h ≡ handed (item-at s v (w .«val_offset»))) where
+          key-is : item-at s k (w .«key_offset») ≡ gives i
+          key-is = handed-item (item-at s k (w .«key_offset»)) g i hg t
+
+          pub value-bad : (x : Refusal) → h ≡ NotHanded x → RefusedMember x ≡ member-step s w k v
+          unfolding member-step member-at ends-with _>>=_
+          value-bad x c = rw (← hl, ← hp, q, ← hm, ← hr, u, key-is, handed-refusal (item-at s v (w .«val_offset»)) h x hh c)
+
+          pub member-both : (j : JsonbItem) → h ≡ HandedItem j
+              → Member (record { key = i; val = j }) (record {
+                «key_jentry_offset» = w .«key_jentry_offset» + 4;
+                «val_jentry_offset» = w .«val_jentry_offset» + 4;
+                «key_offset» = w .«key_offset» + l;
+                «val_offset» = w .«val_offset» + m;
+                remaining = w .remaining - 1;
+              }) ≡ member-step s w k v
+          unfolding member-step member-at ends-with _>>=_
+          member-both j c = rw (← hl, ← hp, q, ← hm, ← hr, u, key-is, handed-item (item-at s v (w .«val_offset»)) h j hh c)
 
   pub object-end : w .remaining ≡ 0 → NoMember ≡ object-step s w
   unfolding object-step

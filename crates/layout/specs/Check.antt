@@ -1,17 +1,22 @@
 -- The answers of the check: readable, or the refusal by the first fault of document 01's rules; sound or not; and whether a record
--- can stand inside another.
+-- can stand inside another. The answers of the text check.
+use Prim.Native.Nat.{ℕ}
 use mathlib.Core.Bool.{cond}
+use mathlib.Core.Option.{Option, none as nothing, some}
 use lib.Dec.{leb}
 use Rattle.layout.specs.Answer.{Answer, gives, refused}
 use Rattle.layout.specs.Tree.{Tree}
 use Rattle.layout.specs.Limits.{depth}
 use Rattle.layout.specs.Every.{is-sound}
+use Rattle.layout.specs.declared.refusal.Refusal.the-variants.{Text}
 use Rattle.layout.specs.declared.check.Check.{Check}
 use Rattle.layout.specs.declared.check.Check.the-variants.{Readable, Refused}
 use Rattle.layout.specs.declared.check.Nesting.{Nesting}
 use Rattle.layout.specs.declared.check.Nesting.the-variants.{Fits, Deep, Refused as NotNested}
 use Rattle.layout.specs.declared.sound.Soundness.{Soundness}
 use Rattle.layout.specs.declared.sound.Soundness.the-variants.{Sound, Unsound, Refused as NotReadable}
+use Rattle.layout.specs.declared.utf8.TextCheck.{TextCheck}
+use Rattle.layout.specs.declared.utf8.TextCheck.the-variants.{Passed, Refused as NoText}
 
 abbrev pub checked : {A : Type 0} → Answer A → Check
 checked (gives a) = Readable
@@ -27,3 +32,9 @@ soundness (refused r) = NotReadable r
 abbrev pub nesting : Answer Tree → Nesting
 nesting (gives t) = cond (leb (depth t) 63) Fits Deep
 nesting (refused r) = NotNested r
+
+-- Document 02 §2: "Let the text check, where it passes, also answer the number of code points"; rule 6: "text that is not UTF-8 by RFC
+-- 3629: 3".
+unfoldable pub text-checked : Option ℕ → TextCheck
+text-checked nothing = NoText Text
+text-checked (some n) = Passed n

@@ -1,6 +1,7 @@
 -- The definitions of the layout, in reading order.
 
--- What document 01 says: all that the promises of the functions for users cite. From here a reader can work out every answer.
+-- What document 01 says, and document 02 §2: all that the promises of the functions for users cite. From here a reader can work out
+-- every answer.
 pub mod Refusal
 pub mod Bytes
 pub mod Answer
@@ -20,6 +21,8 @@ pub mod Check
 pub mod Ended
 pub mod Pipeline
 pub mod Walk
+-- The code points of a text in the RFC's own words, which no promise cites: a theorem says that they are those of `Text`.
+pub mod CodePoints
 -- Forms that follow the code, which the helpers for the crates above promise; theorems of proofs/ tie each to the definitions above.
 pub mod Patch
 pub mod Room

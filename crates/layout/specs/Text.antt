@@ -8,6 +8,7 @@
 use Prim.Native.Nat.{ℕ, zero, suc}
 use mathlib.Core.Bool.{Bool, true, false, _&&_, cond}
 use mathlib.Core.List.{[], _∷_}
+use mathlib.Core.Option.{Option, none as nothing, some}
 use lib.Dec.{leb, ltb}
 use Rattle.layout.specs.Bytes.{Bytes}
 use Rattle.layout.specs.declared.utf8.Lead.{Lead}
@@ -30,18 +31,30 @@ lead x =
     (cond (between 0xF4 0xF4 x) (Tails 3 0x80 0x8F)
     Bad))))))))
 
--- The tail bytes that are due, and then whole characters to the end.
-abbrev pub text-rest : Bytes → Lead → Bool
-text-rest [] Bad = false
-text-rest [] (Tails zero low high) = true
-text-rest [] (Tails (suc n) low high) = false
-text-rest (x ∷ b) Bad = false
-text-rest (x ∷ b) (Tails zero low high) = text-rest b (lead x)
-text-rest (x ∷ b) (Tails (suc n) low high) = between low high x && text-rest b (Tails n 0x80 0xBF)
+-- The tail bytes that are due, and then whole characters to the end: how many there are, `n` of them so far. A character counts
+-- with its first byte.
+abbrev pub points-rest : Bytes → ℕ → Lead → Option ℕ
+points-rest [] n Bad = nothing
+points-rest [] n (Tails zero low high) = some n
+points-rest [] n (Tails (suc k) low high) = nothing
+points-rest (x ∷ b) n Bad = nothing
+points-rest (x ∷ b) n (Tails zero low high) = points-rest b (suc n) (lead x)
+points-rest (x ∷ b) n (Tails (suc k) low high) = cond (between low high x) (points-rest b n (Tails k 0x80 0xBF)) nothing
 
-unfoldable pub utf8 : Bytes → Bool
+-- Document 02 §2: "the number of code points by RFC 3629"; nothing where the bytes are no text. `CodePoints` says it in the RFC's
+-- own words.
+unfoldable pub code-points : Bytes → Option ℕ
 unfolding lead
-utf8 b = text-rest b (Tails 0 0x80 0xBF)
+code-points b = points-rest b 0 (Tails 0 0x80 0xBF)
+
+abbrev pub is-some : Option ℕ → Bool
+is-some nothing = false
+is-some (some n) = true
+
+-- "Text that is not UTF-8 by RFC 3629" has no such number.
+unfoldable pub utf8 : Bytes → Bool
+unfolding code-points
+utf8 b = is-some (code-points b)
 
 -- Every byte is below 128: text of UTF8-1 alone.
 unfoldable pub ascii : Bytes → Bool

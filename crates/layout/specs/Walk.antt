@@ -1,5 +1,5 @@
 -- The walks: document 01, "Walks, `iterator.rs`". "The walk holds the places of the next entries and payloads; a step reads
--- there in whichever slice it is lent."
+-- there in whichever slice it is lent." Document 02 §2: a step tests the text that it hands out, and counts its characters.
 use Prim.Native.Nat.{ℕ, zero, suc, _+_, _*_, _-_}
 use mathlib.Core.Bool.{true, false, not, cond}
 use mathlib.Core.List.{List, [], _∷_}
@@ -8,14 +8,17 @@ use lib.Dec.{eqb}
 use lib.ListN.{take, drop}
 use Rattle.layout.specs.Bytes.{Bytes, inside, word-at}
 use Rattle.layout.specs.Entry.{code-of, length-of, kind-of, entry-good, lengths}
-use Rattle.layout.specs.Answer.{Answer, gives, refused}
+use Rattle.layout.specs.Answer.{Answer, gives, refused, _>>=_}
+use Rattle.layout.specs.Text.{code-points}
 use Rattle.layout.specs.Tree.{Tree}
 use Rattle.layout.specs.Encode.{Part}
 use Rattle.layout.specs.Read.{header, read}
 use Rattle.layout.specs.declared.refusal.Refusal.{Refusal}
-use Rattle.layout.specs.declared.refusal.Refusal.the-variants.{Short, Layout}
+use Rattle.layout.specs.declared.refusal.Refusal.the-variants.{Short, Layout, Text}
 use Rattle.layout.specs.declared.util.Header.{Header}
 use Rattle.layout.specs.declared.util.Header.the-variants.{Array, Object, Scalar, Refused as NoHeader}
+use Rattle.layout.specs.declared.item.Characters.{Characters}
+use Rattle.layout.specs.declared.item.Characters.the-variants.{Count, NoText}
 use Rattle.layout.specs.declared.item.JsonbItem.{JsonbItem}
 use Rattle.layout.specs.declared.iterator.ArrayIterator.{ArrayIterator}
 use Rattle.layout.specs.declared.iterator.ArrayOpen.{ArrayOpen}
@@ -25,16 +28,40 @@ use Rattle.layout.specs.declared.iterator.ArrayStep.the-variants.{Item, 
 use Rattle.layout.specs.declared.iterator.ObjectIterator.{ObjectIterator}
 use Rattle.layout.specs.declared.iterator.ObjectOpen.{ObjectOpen}
 use Rattle.layout.specs.declared.iterator.ObjectOpen.the-variants.{Opened as OpenedObject, Absent as NoObject, Refused as NotOpenedObject}
+use Rattle.layout.specs.declared.iterator.Handed.{Handed}
+use Rattle.layout.specs.declared.iterator.Handed.the-variants.{Item as HandedItem, Refused as NotHanded}
+use Rattle.layout.specs.declared.iterator.ObjectMember.{ObjectMember}
 use Rattle.layout.specs.declared.iterator.ObjectStep.{ObjectStep}
 use Rattle.layout.specs.declared.iterator.ObjectStep.the-variants.{Member, End as NoMember, Refused as RefusedMember}
 
--- "The item's kind, place and length."
-unfoldable pub item-of : ℕ → ℕ → JsonbItem
-item-of w place = record { kind = kind-of (code-of w); place = place; length = length-of w }
+-- "The item's kind, place and length", and its characters.
+unfoldable pub item-of : ℕ → ℕ → Characters → JsonbItem
+item-of w place c = record { kind = kind-of (code-of w); place = place; length = length-of w; characters = c }
+
+-- Document 02 §2: "Let walks hand this number out with every name and string item", which have code 1; the other kinds have none.
+-- "A step tests the text it hands out", and "can now meet 3".
+unfoldable pub counted : Option ℕ → Answer Characters
+counted nothing = refused Text
+counted (some n) = gives (Count n)
+
+unfoldable pub characters-of : Bytes → ℕ → ℕ → Answer Characters
+characters-of s w place =
+    cond (eqb (code-of w) 1) (counted (code-points (take (length-of w) (drop place s)))) (gives NoText)
+
+-- What is handed out of an entry whose payload stands at a place of the slice.
+unfoldable pub item-at : Bytes → ℕ → ℕ → Answer JsonbItem
+item-at s w place = do
+  c ← characters-of s w place
+  gives (item-of w place c)
+
+-- A step that has come so far ends with what it hands out, or with the refusal.
+unfoldable pub ends-with : {A B : Type 0} → (A → B) → (Refusal → B) → Answer A → B
+ends-with found fault (gives a) = found a
+ends-with found fault (refused r) = fault r
 
 -- "A step over an array gives the item's kind, place and length." "An entry outside the slice gives 1; a payload outside it,
 -- code 7, bit 31 set [..] gives 2"; "Past the last item a step answers the end." A length of null, true or false is not
--- asked about.
+-- asked about. Document 02 §2: "3, after all of that step's tests for 1 and 2, without moving".
 unfoldable pub array-step : Bytes → ArrayIterator → ArrayStep
 array-step s w =
     let e = word-at s (w .«jentry_offset») in
@@ -42,27 +69,38 @@ array-step s w =
     (cond (not (inside s (w .«jentry_offset») 4)) (Refused Short)
     (cond (not (entry-good false e)) (Refused Layout)
     (cond (not (inside s (w .«item_offset») (length-of e))) (Refused Layout)
-    (Item (item-of e (w .«item_offset»))
-    (record {
+    (ends-with
+    (λ i. Item i (record {
       «jentry_offset» = w .«jentry_offset» + 4;
       «item_offset» = w .«item_offset» + length-of e;
       remaining = w .remaining - 1;
-    })))))
+    }))
+    Refused
+    (item-at s e (w .«item_offset»))))))
 
 -- "Object order: name entry, value entry, name, value, each tested whole before the next." This is the second half of a step,
--- the name and the value, of entries `k` and `v`; `object-step` below comes to it behind its tests of the entries.
+-- the name and the value, of entries `k` and `v`, and then their texts; `object-step` below comes to it behind its tests of the
+-- entries.
+unfoldable pub member-at : Bytes → ObjectIterator → ℕ → ℕ → Answer ObjectMember
+member-at s w k v = do
+  key ← item-at s k (w .«key_offset»)
+  val ← item-at s v (w .«val_offset»)
+  gives (record { key = key; val = val })
+
 unfoldable pub member-step : Bytes → ObjectIterator → ℕ → ℕ → ObjectStep
 member-step s w k v =
     cond (not (inside s (w .«key_offset») (length-of k))) (RefusedMember Layout)
     (cond (not (inside s (w .«val_offset») (length-of v))) (RefusedMember Layout)
-    (Member (record { key = item-of k (w .«key_offset»); val = item-of v (w .«val_offset») })
-    (record {
+    (ends-with
+    (λ m. Member m (record {
       «key_jentry_offset» = w .«key_jentry_offset» + 4;
       «val_jentry_offset» = w .«val_jentry_offset» + 4;
       «key_offset» = w .«key_offset» + length-of k;
       «val_offset» = w .«val_offset» + length-of v;
       remaining = w .remaining - 1;
-    })))
+    }))
+    RefusedMember
+    (member-at s w k v)))
 
 -- The first half: the end, the name's entry ("a name whose code is not 1" is a fault of it), the value's entry.
 unfoldable pub object-step : Bytes → ObjectIterator → ObjectStep
@@ -114,6 +152,10 @@ object-opened s (NoHeader r) = NoObject
 
 abbrev pub object-open : Bytes → ObjectOpen
 object-open s = opening NotOpenedObject (object-opened s) (read s) (header s)
+
+-- What `hand_out` answers.
+abbrev pub handed : Answer JsonbItem → Handed
+handed a = ends-with HandedItem NotHanded a
 
 -- The part of the record that an item names.
 abbrev pub part-of : Bytes → JsonbItem → Part

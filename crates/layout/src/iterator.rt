@@ -4,6 +4,8 @@ use crate::check::Check;
 use crate::check::check_record;
 use crate::constants::HEADER_SIZE;
 use crate::constants::JENTRY_SIZE;
+use crate::constants::STRING_CODE;
+use crate::item::Characters;
 use crate::item::JsonbItem;
 use crate::jentry::is_item_jentry;
 use crate::jentry::kind_of;
@@ -12,14 +14,17 @@ use crate::jentry::type_code;
 use crate::parts::first_part;
 use crate::parts::members_of;
 use crate::refusal::Refusal;
+use crate::utf8::TextCheck;
+use crate::utf8::check_text;
 use crate::util::Header;
 use crate::util::is_inside;
 use crate::util::read_header;
 use crate::util::read_u32;
+use crate::util::slice;
 ghost use mathlib.Core.Path.{_≡_};
 ghost use Prim.Native.Nat.{_+_, _^_, _≤_, _<_};
 ghost use lib.ListN.{length};
-ghost use Rattle.layout.specs.Walk.{«item-of» as itemOf};
+ghost use Rattle.layout.specs.Walk.{«item-of» as itemOf, «item-at» as itemAt, handed};
 ghost use Rattle.layout.specs.Walk.{«array-step» as arrayStep, «array-walk» as arrayWalk, «array-open» as arrayOpen};
 ghost use Rattle.layout.specs.Walk.{«object-step» as objectStep, «member-step» as memberStep};
 ghost use Rattle.layout.specs.Walk.{«object-walk» as objectWalk, «object-open» as objectOpen};
@@ -72,14 +77,38 @@ pub enum ObjectStep {
     Refused(Refusal),
 }
 
-// The item of an entry whose payload stands at a place.
-fn jentry_to_jsonb_item(entry: u32, place: usize) -> JsonbItem
-    ensures { λ r. ⌜ r ≡ itemOf entry place ⌝ }
+// The item of an entry whose payload stands at a place, with its characters.
+fn jentry_to_jsonb_item(jentry: u32, place: usize, characters: Characters) -> JsonbItem
+    ensures { λ r. ⌜ r ≡ itemOf jentry place characters ⌝ }
 {
     JsonbItem {
-        kind: kind_of(type_code(entry)),
+        kind: kind_of(type_code(jentry)),
         place: place,
-        length: payload_len(entry) as usize,
+        length: payload_len(jentry) as usize,
+        characters: characters,
+    }
+}
+
+// What a step hands out of an entry: the item, or the refusal of a string that is no text.
+enum Handed {
+    Item(JsonbItem),
+    Refused(Refusal),
+}
+
+// The text of a string is tested, and its characters are counted.
+fn hand_out(s: &[u8], jentry: u32, place: usize) -> Handed
+    ensures { λ r. ⌜ r ≡ handed (itemAt (now (s .entry)) jentry place) ⌝ }
+{
+    if type_code(jentry) != STRING_CODE {
+        return Handed::Item(jentry_to_jsonb_item(jentry, place, Characters::NoText));
+    }
+    match check_text(slice(s, place, payload_len(jentry) as usize)) {
+        TextCheck::Passed(count) => Handed::Item(jentry_to_jsonb_item(
+            jentry,
+            place,
+            Characters::Count(count),
+        )),
+        TextCheck::Refused(refusal) => Handed::Refused(refusal),
     }
 }
 
@@ -124,18 +153,21 @@ impl ArrayIterator {
         if !is_item_jentry(false, jentry) {
             return ArrayStep::Refused(Refusal::Layout);
         }
-        let item = jentry_to_jsonb_item(jentry, self.item_offset);
-        if !is_inside(s, self.item_offset, item.length) {
+        let length = payload_len(jentry) as usize;
+        if !is_inside(s, self.item_offset, length) {
             return ArrayStep::Refused(Refusal::Layout);
         }
-        ArrayStep::Item(
-            item,
-            ArrayIterator {
-                jentry_offset: self.jentry_offset + JENTRY_SIZE,
-                item_offset: self.item_offset + item.length,
-                remaining: self.remaining - 1,
-            },
-        )
+        match hand_out(s, jentry, self.item_offset) {
+            Handed::Item(item) => ArrayStep::Item(
+                item,
+                ArrayIterator {
+                    jentry_offset: self.jentry_offset + JENTRY_SIZE,
+                    item_offset: self.item_offset + length,
+                    remaining: self.remaining - 1,
+                },
+            ),
+            Handed::Refused(refusal) => ArrayStep::Refused(refusal),
+        }
     }
 }
 
@@ -168,7 +200,7 @@ impl ObjectIterator {
         }
     }
 
-    // The next member and the walk behind it. Both entries are tested before either payload.
+    // The next member and the walk behind it. Both entries are tested before either payload, and both payloads before either text.
     pub fn next(self, s: &[u8]) -> ObjectStep
         ensures { λ r. ⌜ r ≡ objectStep (now (s .entry)) self ⌝ }
     {
@@ -199,23 +231,29 @@ impl ObjectIterator {
             × (self .«val_jentry_offset» + 4 ≤ length (now s)) ⌝ }
         ensures { λ r. ⌜ r ≡ memberStep (now (s .entry)) self «key_jentry» «val_jentry» ⌝ }
     {
-        let key = jentry_to_jsonb_item(key_jentry, self.key_offset);
-        if !is_inside(s, self.key_offset, key.length) {
+        let key_length = payload_len(key_jentry) as usize;
+        if !is_inside(s, self.key_offset, key_length) {
             return ObjectStep::Refused(Refusal::Layout);
         }
-        let val = jentry_to_jsonb_item(val_jentry, self.val_offset);
-        if !is_inside(s, self.val_offset, val.length) {
+        let val_length = payload_len(val_jentry) as usize;
+        if !is_inside(s, self.val_offset, val_length) {
             return ObjectStep::Refused(Refusal::Layout);
         }
-        ObjectStep::Member(
-            ObjectMember { key: key, val: val },
-            ObjectIterator {
-                key_jentry_offset: self.key_jentry_offset + JENTRY_SIZE,
-                val_jentry_offset: self.val_jentry_offset + JENTRY_SIZE,
-                key_offset: self.key_offset + key.length,
-                val_offset: self.val_offset + val.length,
-                remaining: self.remaining - 1,
+        match hand_out(s, key_jentry, self.key_offset) {
+            Handed::Refused(refusal) => ObjectStep::Refused(refusal),
+            Handed::Item(key) => match hand_out(s, val_jentry, self.val_offset) {
+                Handed::Refused(refusal) => ObjectStep::Refused(refusal),
+                Handed::Item(val) => ObjectStep::Member(
+                    ObjectMember { key: key, val: val },
+                    ObjectIterator {
+                        key_jentry_offset: self.key_jentry_offset + JENTRY_SIZE,
+                        val_jentry_offset: self.val_jentry_offset + JENTRY_SIZE,
+                        key_offset: self.key_offset + key_length,
+                        val_offset: self.val_offset + val_length,
+                        remaining: self.remaining - 1,
+                    },
+                ),
             },
-        )
+        }
     }
 }

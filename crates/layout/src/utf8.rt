@@ -1,6 +1,14 @@
 // Text by RFC 3629. The Rust leaves it to its standard library.
+use crate::refusal::Refusal;
 ghost use mathlib.Core.Path.{_≡_};
-ghost use Rattle.layout.specs.Text.{between, lead, utf8, ascii};
+ghost use Rattle.layout.specs.Text.{between, lead, «code-points» as codePoints, utf8, ascii};
+ghost use Rattle.layout.specs.Check.{«text-checked» as textChecked};
+
+// How the text check ends: the number of code points, or the refusal of bytes that are no text.
+pub enum TextCheck {
+    Passed(usize),
+    Refused(Refusal),
+}
 
 // What a first byte asks for: how many tail bytes, and the range of the first of them; or no character starts so.
 pub enum Lead {
@@ -64,10 +72,12 @@ pub(crate) fn is_ascii(s: &[u8]) -> bool
     greatest < 0x80
 }
 
-// Whether the bytes are UTF-8, character by character: `due` tail bytes are still to come, the next of them from `low` to `high`.
-fn are_characters(s: &[u8]) -> bool
-    ensures { λ r. ⌜ r ≡ utf8 (now (s .entry)) ⌝ }
+// The code points of a text, character by character: `count` so far. `due` tail bytes are still to come, the next of them from `low`
+// to `high`.
+fn count_code_points(s: &[u8]) -> TextCheck
+    ensures { λ r. ⌜ r ≡ textChecked (codePoints (now (s .entry))) ⌝ }
 {
+    let mut count = 0;
     let mut due: u8 = 0;
     let mut low: u8 = 0x80;
     let mut high: u8 = 0xbf;
@@ -77,8 +87,9 @@ fn are_characters(s: &[u8]) -> bool
         i += 1;
         if due == 0 {
             let Lead::Tails(n, from, to) = lead_of(x) else {
-                return false;
+                return TextCheck::Refused(Refusal::Text);
             };
+            count += 1;
             due = n;
             low = from;
             high = to;
@@ -90,17 +101,30 @@ fn are_characters(s: &[u8]) -> bool
             high = 0xbf;
             continue;
         }
-        return false;
+        return TextCheck::Refused(Refusal::Text);
     }
-    due == 0
+    if due == 0 {
+        return TextCheck::Passed(count);
+    }
+    TextCheck::Refused(Refusal::Text)
 }
 
-// Whether the bytes are UTF-8. Most texts are ASCII, which is told at once.
+// The number of code points of a text. Most texts are ASCII, which is told at once: there each byte is one.
+pub fn check_text(s: &[u8]) -> TextCheck
+    ensures { λ r. ⌜ r ≡ textChecked (codePoints (now (s .entry))) ⌝ }
+{
+    if is_ascii(s) {
+        return TextCheck::Passed(s.len());
+    }
+    count_code_points(s)
+}
+
+// Whether the bytes are UTF-8.
 pub fn is_utf8(s: &[u8]) -> bool
     ensures { λ r. ⌜ r ≡ utf8 (now (s .entry)) ⌝ }
 {
-    if is_ascii(s) {
-        return true;
+    match check_text(s) {
+        TextCheck::Passed(_) => true,
+        TextCheck::Refused(_) => false,
     }
-    are_characters(s)
 }

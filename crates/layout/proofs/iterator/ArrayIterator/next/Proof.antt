@@ -1,6 +1,6 @@
 -- `layout::iterator::ArrayIterator::next` meets its contract.
 use native.Mathlib.Omega.{arith}
-use Rattle.layout.proofs.Walks.{not-outside, array-end, array-short, array-layout, array-outside, array-item}
+use Rattle.layout.proofs.Walks.{not-outside, array-end, array-short, array-layout, array-outside, array-bad, array-item}
 use borrow.Author.Needs.{needs}
 use Rattle.layout.proofs.iterator.ArrayIterator.next.Statement.{statement}
 use Rattle.layout.proofs.iterator.ArrayIterator.next.Tie as tie
@@ -31,8 +31,8 @@ returns-3 c =
 returns-4 : tie.Need-returns-4
 returns-4 c =
     let fits = c .before in
-    let item = fits .before in
-    let legal = item .before in
+    let sized = fits .before in
+    let legal = sized .before in
     let good = legal .before in
     let entry = good .before in
     let near = entry .before in
@@ -41,27 +41,36 @@ returns-4 c =
     let start = more .before .before .before in
     array-outside _ (start .args .self) (more .if1 .left) _ (seen .is-inside .ensures) (near .if2 .left)
     _ (entry .read-u32 .ensures) _ (good .is-item-jentry .ensures) (legal .if3 .left)
-    _ (item .jentry-to-jsonb-item .ensures) _ (fits .is-inside2 .ensures) (c .if4 .taken)
+    _ (sized .payload-len .ensures) _ (fits .is-inside2 .ensures) (c .if4 .taken)
 
-add-t10 : tie.Need-add-t10
-add-t10 c =
-    let near = c .before .before .before .before .before .before .before in
+-- Back from the item that is handed out to the payload's test.
+abbrev to-room : tie.After-known-told → tie.Else4
+to-room c = c .before .before .before .before
+
+add-t15 : tie.Need-add-t15
+add-t15 c =
+    let legal = to-room (c .before) .before .before .before in
+    let near = legal .before .before .before in
     let seen = near .before in
     omega (arith, not-outside _ _ _ _ (seen .is-inside .ensures) (near .if2 .left))
 
-add-t11 : tie.Need-add-t11
-add-t11 c =
-    let room = c .before .before .before in
+add-t16 : tie.Need-add-t16
+add-t16 c =
+    let room = to-room (c .before .before) in
     let fits = room .before in
-    let start = fits .before .before .before .before .before .before .before .before .before .before in
+    let entry = fits .before .before .before .before in
+    let more = entry .before .before .before in
+    let start = more .before .before .before in
     omega (arith, start .good, not-outside _ _ _ _ (fits .is-inside2 .ensures) (room .if4 .left))
 
 returns-5 : tie.Need-returns-5
 returns-5 c =
-    let room = c .before .before .before .before in
+    let item = c .before .before .before .before in
+    let handed = item .before .before in
+    let room = handed .before in
     let fits = room .before in
-    let item = fits .before in
-    let legal = item .before in
+    let sized = fits .before in
+    let legal = sized .before in
     let good = legal .before in
     let entry = good .before in
     let near = entry .before in
@@ -70,7 +79,27 @@ returns-5 c =
     let start = more .before .before .before in
     array-item _ (start .args .self) (more .if1 .left) _ (seen .is-inside .ensures) (near .if2 .left)
     _ (entry .read-u32 .ensures) _ (good .is-item-jentry .ensures) (legal .if3 .left)
-    _ (item .jentry-to-jsonb-item .ensures) _ (fits .is-inside2 .ensures) (room .if4 .left)
+    _ (sized .payload-len .ensures) _ (fits .is-inside2 .ensures) (room .if4 .left)
+    _ (handed .hand-out .ensures) _ (item .item .given .1)
+
+returns-6 : tie.Need-returns-6
+returns-6 c =
+    let refusal = c .before in
+    let handed = refusal .before .before in
+    let room = handed .before in
+    let fits = room .before in
+    let sized = fits .before in
+    let legal = sized .before in
+    let good = legal .before in
+    let entry = good .before in
+    let near = entry .before in
+    let seen = near .before in
+    let more = seen .before in
+    let start = more .before .before .before in
+    array-bad _ (start .args .self) (more .if1 .left) _ (seen .is-inside .ensures) (near .if2 .left)
+    _ (entry .read-u32 .ensures) _ (good .is-item-jentry .ensures) (legal .if3 .left)
+    _ (sized .payload-len .ensures) _ (fits .is-inside2 .ensures) (room .if4 .left)
+    _ (handed .hand-out .ensures) _ (refusal .refusal .given .1)
 
 pub next-spec : {M : Type 1} → statement M
 next-spec =
@@ -83,9 +112,14 @@ next-spec =
     (λ c κs. search needs)
     returns-3
     (λ c κs. search needs)
+    (λ c. search needs)
     (λ c κs. search needs)
     returns-4
-    add-t10
-    add-t11
+    (λ c κs. search needs)
     (λ c. search needs)
-    returns-5)
+    add-t15
+    add-t16
+    (λ c. search needs)
+    (λ c. search needs)
+    returns-5
+    returns-6)
