@@ -31,4 +31,5 @@ pub mod Sames
 pub mod InLines
 pub mod Walks
 pub mod Walked
+pub mod Numbered
 pub mod WalkCases

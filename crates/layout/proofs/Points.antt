@@ -337,8 +337,7 @@ all-written (suc most) (x ∷ b) n m l e =
 
 pub code-points-counted : Counted
 unfolding code-points
-code-points-counted b n =
-    (
-      (λ e. let (cs, points, same, count) = all-written (length b) b 0 n (omega arith) e in (cs, points, same, omega (arith, count))),
-      (λ w. let e : 0 + length (w .0) ≡ n = omega (arith, w .3) in rw (← w .2, ← e) (all-count (w .0) 0 (w .1)))
-    )
+code-points-counted b n = (
+  (λ e. let (cs, points, same, count) = all-written (length b) b 0 n (omega arith) e in (cs, points, same, omega (arith, count))),
+  (λ w. let e : 0 + length (w .0) ≡ n = omega (arith, w .3) in rw (← w .2, ← e) (all-count (w .0) 0 (w .1))),
+)

@@ -1,6 +1,8 @@
 -- The walks: document 01, "Walks, `iterator.rs`". "The walk holds the places of the next entries and payloads; a step reads
 -- there in whichever slice it is lent." Document 02 §2: a step tests the text that it hands out, and counts its characters.
 use Prim.Native.Nat.{ℕ, zero, suc, _+_, _*_, _-_}
+use mathlib.Core.Path.{_≡_}
+use mathlib.Core.Logic.{_⊎_}
 use mathlib.Core.Bool.{true, false, not, cond}
 use mathlib.Core.List.{List, [], _∷_}
 use mathlib.Core.Option.{Option, none as nothing, some}
@@ -17,6 +19,7 @@ use Rattle.layout.specs.declared.refusal.Refusal.{Refusal}
 use Rattle.layout.specs.declared.refusal.Refusal.the-variants.{Short, Layout, Text}
 use Rattle.layout.specs.declared.util.Header.{Header}
 use Rattle.layout.specs.declared.util.Header.the-variants.{Array, Object, Scalar, Refused as NoHeader}
+use Rattle.layout.specs.declared.item.Kind.the-variants.{String}
 use Rattle.layout.specs.declared.item.Characters.{Characters}
 use Rattle.layout.specs.declared.item.Characters.the-variants.{Count, NoText}
 use Rattle.layout.specs.declared.item.JsonbItem.{JsonbItem}
@@ -50,6 +53,7 @@ characters-of s w place =
 
 -- What is handed out of an entry whose payload stands at a place of the slice.
 unfoldable pub item-at : Bytes → ℕ → ℕ → Answer JsonbItem
+unfolding characters-of counted code-points _>>=_
 item-at s w place = do
   c ← characters-of s w place
   gives (item-of w place c)
@@ -160,6 +164,12 @@ handed a = ends-with HandedItem NotHanded a
 -- The part of the record that an item names.
 abbrev pub part-of : Bytes → JsonbItem → Part
 part-of s i = record { kind = i .kind; bytes = take (i .length) (drop (i .place) s) }
+
+-- Document 02 §2, of an item that is handed out: a string is a text, and has the number of its code points; nothing else has one.
+abbrev pub Numbered : Bytes → JsonbItem → Type 0
+Numbered s i =
+    ((i .kind ≡ String) × ((n : ℕ) × (code-points (part-of s i .bytes) ≡ some n) × (i .characters ≡ Count n)))
+    ⊎ ((i .kind ≡ String → ⊥) × (i .characters ≡ NoText))
 
 -- What a walk hands out that comes to its end within `k` steps; nothing where it is refused or takes longer.
 abbrev pub also : {A : Type 0} → A → Option (List A) → Option (List A)

@@ -11,18 +11,19 @@ use lib.ListN.{length, getD, length-append}
 use borrow.Author.Tests.{leb-true, le-leb, eqb-true, eqb-false, ne-eqb}
 use Rattle.layout.specs.Bytes.{Bytes}
 use Rattle.layout.specs.Decimal.{decimal}
-use Rattle.layout.specs.Text.{between, lead, text-rest, utf8}
+use Rattle.layout.specs.Text.{between, lead, utf8}
 use Rattle.layout.specs.declared.utf8.Lead.{Lead}
 use Rattle.layout.specs.declared.utf8.Lead.the-variants.{Tails, Bad}
 use Rattle.layout.proofs.Decimals.{decimal-one, decimal-more}
 use Rattle.layout.proofs.Places.{and-both}
+use Rattle.layout.proofs.Texts.{text-rest, rest-first, rest-tail}
 use Rattle.edits.proofs.Deletes.{false-true}
 use Rattle.pointers.specs.Pointer.{has-slash, escape-good, escaped, is-pointer, put-front, split, undo, undo-all, tokens}
 use Rattle.pointers.specs.Pointer.{digits, digits-value, index-of}
 use Rattle.pointers.specs.Token.{unescape}
 use Rattle.pointers.proofs.Tokens.{undo-once, front-plain}
 use Rattle.pointers.proofs.Indexes.{between-one}
-use Rattle.pointers.proofs.TokenTexts.{AllText, High, ready, lead-high, tail-high}
+use Rattle.pointers.proofs.TokenTexts.{AllText, High, ready, lead-high, tail-high, one-byte}
 
 -- A ~ is written ~0, a slash ~1, and a slash stands before each name.
 abbrev pub escape : Bytes → Bytes
@@ -118,16 +119,22 @@ escape-text [] (Tails zero low high) h e rest r = sym (due-none rest low high) �
 escape-text [] (Tails (suc n) low high) h e rest r = false-true e
 escape-text (x ∷ b) Bad h e rest r = false-true e
 escape-text (x ∷ b) (Tails zero low high) h e rest r =
-    go (λ q. escape-text b ready tt q rest r) (escape-text b (lead x) (lead-high x) e rest r) (eqb x 0x7E) refl (eqb x 0x2F) refl
+    go (sym (rest-first x low high b) ∙ e) (λ q. escape-text b ready tt q rest r) (λ q. escape-text b (lead x) (lead-high x) q rest r)
+    (eqb x 0x7E) refl (eqb x 0x2F) refl
   where
-    go : (text-rest b ready ≡ true → text-rest (escape b ++ rest) ready ≡ true) → text-rest (escape b ++ rest) (lead x) ≡ true
+    go : text-rest b (lead x) ≡ true → (text-rest b ready ≡ true → text-rest (escape b ++ rest) ready ≡ true)
+        → (text-rest b (lead x) ≡ true → text-rest (escape b ++ rest) (lead x) ≡ true)
         → (t : Bool) → eqb x 0x7E ≡ t → (s : Bool) → eqb x 0x2F ≡ s
         → text-rest (cond t (0x7E ∷ 0x30 ∷ escape b) (cond s (0x7E ∷ 0x31 ∷ escape b) (x ∷ escape b)) ++ rest) (Tails zero low high) ≡ true
-    go f g true i s j = let z : x ≡ 0x7E = eqb-true x 0x7E i in f (rw z at e)
-    go f g false i true j = let z : x ≡ 0x2F = eqb-true x 0x2F j in f (rw z at e)
-    go f g false i false j = g
+    go k f g true i s j =
+        let z : x ≡ 0x7E = eqb-true x 0x7E i in
+        one-byte 0x7E low high (0x30 ∷ escape b ++ rest) refl ∙ (one-byte 0x30 0x80 0xBF (escape b ++ rest) refl ∙ f (rw z at k))
+    go k f g false i true j =
+        let z : x ≡ 0x2F = eqb-true x 0x2F j in
+        one-byte 0x7E low high (0x31 ∷ escape b ++ rest) refl ∙ (one-byte 0x31 0x80 0xBF (escape b ++ rest) refl ∙ f (rw z at k))
+    go k f g false i false j = rest-first x low high (escape b ++ rest) ∙ g k
 escape-text (x ∷ b) (Tails (suc n) low high) h e rest r =
-    let w = and-both (between low high x) (text-rest b (Tails n 0x80 0xBF)) e in
+    let w = and-both (between low high x) (text-rest b (Tails n 0x80 0xBF)) (sym (rest-tail x n low high b) ∙ e) in
     let m = leb-true low x (and-both (leb low x) (leb x high) (w .0) .0) in
     rw (ne-eqb x 0x7E (λ q. omega (arith, h, m, q)), ne-eqb x 0x2F (λ q. omega (arith, h, m, q)), w .0)
     (escape-text b (Tails n 0x80 0xBF) (tail-high n) (w .1) rest r)
@@ -135,7 +142,8 @@ escape-text (x ∷ b) (Tails (suc n) low high) h e rest r =
 spelled-text : (ks : List Bytes) → AllText ks → text-rest (spelled ks) ready ≡ true
 unfolding utf8 lead
 spelled-text [] a = refl
-spelled-text (k ∷ ks) a = escape-text k ready tt (a .0) (spelled ks) (spelled-text ks (a .1))
+spelled-text (k ∷ ks) a =
+    one-byte 0x2F 0x80 0xBF (escape k ++ spelled ks) refl ∙ escape-text k ready tt (a .0) (spelled ks) (spelled-text ks (a .1))
 
 -- Every list of names that are text is the tokens of a pointer, the one that spells it.
 pub pointer-spells : (ks : List Bytes) → AllText ks → (is-pointer (spelled ks) ≡ true) × (tokens (spelled ks) ≡ ks)

@@ -6,7 +6,7 @@ use native.Mathlib.Omega.{arith}
 use mathlib.Core.Path.{ap}
 use lib.ListN.{length, length-take, length-drop}
 use Rattle.layout.proofs.Checks.{told-object}
-use Rattle.console.proofs.Outlines.{item-inside, value-inside}
+use Rattle.layout.proofs.Numbered.{item-inside, value-inside}
 use Prim.Native.Nat.{ℕ, _+_, _*_, _-_, _≤_, _<_}
 use borrow.Fn.Kinds.{In}
 use borrow.Fn.PlainCycle.{Measures, is, falls, and}
