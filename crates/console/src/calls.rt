@@ -1,4 +1,5 @@
 // The calls of the console.
+use crate::chars::chars_record;
 use crate::grade::answer_grade;
 use crate::grade::answer_same;
 use crate::hex::RECORD_ROOM;
@@ -46,6 +47,7 @@ enum Call {
     Check,
     Sound,
     Show,
+    Chars,
 }
 
 fn answer_record(call: Call, record: &[u8]) {
@@ -53,6 +55,7 @@ fn answer_record(call: Call, record: &[u8]) {
         Call::Check => say_check(record),
         Call::Sound => say_sound(record),
         Call::Show => show_record(record),
+        Call::Chars => chars_record(record),
     }
 }
 
@@ -108,6 +111,9 @@ fn answer_other(word: &[u8], rest: &[u8]) {
     if is_same_bytes(word, b"show") {
         return answer_one(Call::Show, rest);
     }
+    if is_same_bytes(word, b"chars") {
+        return answer_one(Call::Chars, rest);
+    }
     if is_same_bytes(word, b"pointer") {
         return answer_pointer(rest);
     }
@@ -130,7 +136,7 @@ fn answer_other(word: &[u8], rest: &[u8]) {
         return answer_run(rest);
     }
     say(
-        b"? there is no such call; there are check, sound, show, get, pointer, delete, concat, strip, ",
+        b"? there is no such call; there are check, sound, show, chars, get, pointer, delete, concat, strip, ",
     );
     say(b"append, build, grade, same, make, number, step and run\n");
 }

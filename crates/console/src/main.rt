@@ -3,6 +3,8 @@
 //   check R            ok, or refused N WORDS
 //   sound R            sound, unsound, or refused N WORDS
 //   show R             an outline, a line for each item at every level, or refused N WORDS; show.rt says more
+//   chars R            chars N - N of an array, chars N:N N:- of an object, absent, or refused N WORDS: how many characters each name
+//                      and each string has; chars.rt says more
 //   get R ; PATH       result HEX, absent, or refused N WORDS: what the path finds in the record R
 //   pointer R ; POINTER
 //                      the same by a JSON Pointer, as it stands where it starts with a slash, else its bytes in hexadecimal
@@ -22,10 +24,11 @@
 //                      refused 4 WORDS: the number that a payload stands for
 //   step array JENTRY ITEM LEFT ; SLICE
 //                      item KIND PLACE LENGTH then JENTRY ITEM LEFT, end, or refused N WORDS: a step in any bytes of a walk
-//                      that is given by its places and by how many items are left, and the walk behind it
+//                      that is given by its places and by how many items are left, and the walk behind it; a string's length has
+//                      how many characters it has behind it
 //   step object KEY_JENTRY VAL_JENTRY KEY VAL LEFT ; SLICE
-//                      member PLACE LENGTH KIND PLACE LENGTH then KEY_JENTRY VAL_JENTRY KEY VAL LEFT, end, or
-//                      refused N WORDS: the same for an object, where the name's place and length stand first
+//                      member PLACE LENGTH COUNT KIND PLACE LENGTH then KEY_JENTRY VAL_JENTRY KEY VAL LEFT, end, or
+//                      refused N WORDS: the same for an object, where the name's place, length and characters stand first
 //   run R ; R : CALL : CALL
 //                      ENDING : ENDING : shelf R ; R ; R: the calls one after the other, with places for records; run.rt says more
 //
@@ -35,6 +38,7 @@
 // most. An empty line and a line that starts with # are copied. A line that is none of these gets `? WHY`, and the next one is
 // answered as ever.
 mod calls;
+mod chars;
 mod decimal;
 mod grade;
 mod hex;

@@ -2,6 +2,8 @@
 //
 //   step array 4 8 1 ; 80000001 20000002 5001
 //   item number 8 2 then 8 10 0
+//   step array 4 8 1 ; 80000001 10000003 61C3A9
+//   item string 8 3 2 then 8 11 0
 use crate::decimal::Decimal;
 use crate::decimal::read_decimal;
 use crate::hex::LINE_ROOM;
@@ -18,6 +20,7 @@ use crate::text::count_arguments;
 use crate::text::count_words;
 use crate::text::trim;
 use crate::text::word;
+use layout::item::Characters;
 use layout::item::JsonbItem;
 use layout::iterator::ArrayIterator;
 use layout::iterator::ArrayStep;
@@ -105,11 +108,20 @@ fn say_next(n: usize) {
     say_decimal(n as u64);
 }
 
+// The place and the length of an item, and behind them, where it is a name or a string, how many characters it has.
+fn say_measures(item: JsonbItem) {
+    say_next(item.place);
+    say_next(item.length);
+    let characters = item.characters;
+    if let Characters::Count(n) = characters {
+        say_next(n);
+    }
+}
+
 fn say_item(item: JsonbItem) {
     let kind = item.kind;
     say_kind(kind);
-    say_next(item.place);
-    say_next(item.length);
+    say_measures(item);
 }
 
 fn say_array_item(item: JsonbItem, next: ArrayIterator) {
@@ -125,8 +137,7 @@ fn say_array_item(item: JsonbItem, next: ArrayIterator) {
 // A name is a string in any case, so that its kind is not said.
 fn say_object_member(member: ObjectMember, next: ObjectIterator) {
     say(b"member");
-    say_next(member.key.place);
-    say_next(member.key.length);
+    say_measures(member.key);
     say(b" ");
     say_item(member.val);
     say(b" then");

@@ -3,21 +3,20 @@ use Prim.Native.Nat.{ℕ, zero, suc, _+_, _≤_}
 use native.Mathlib.Omega.{arith}
 use mathlib.Core.Path.{_≡_, refl, sym, ap, _∙_}
 use mathlib.Core.Logic.{inl, inr}
-use mathlib.Core.Bool.{Bool, true, false, not, cond, _&&_, _||_}
+use mathlib.Core.Bool.{Bool, true, false, not, cond, _&&_}
 use mathlib.Core.Option.{Option, none as nothing, some}
 use borrow.Author.Tests.{eqb-true, eqb-false}
 use lib.Dec.{eqb}
-use lib.ListN.{length, take, drop}
+use lib.ListN.{length}
 use Rattle.layout.specs.Bytes.{Bytes, inside, word-at}
 use Rattle.layout.specs.Answer.{Answer, gives, refused, _>>=_}
 use Rattle.layout.specs.Entry.{top-of, code-of, length-of, kind-of, entry-good}
-use Rattle.layout.specs.Text.{code-points}
 use Rattle.layout.specs.Walk.{item-of, counted, characters-of, item-at, ends-with, array-step, member-at, member-step, object-step}
-use Rattle.layout.specs.Walk.{part-of, Numbered}
+use Rattle.layout.specs.Walk.{Numbered}
 use Rattle.layout.specs.declared.refusal.Refusal.the-variants.{Short, Layout}
-use Rattle.layout.specs.declared.item.Kind.the-variants.{Null, String, Number, False, True, Container, Extension}
+use Rattle.layout.specs.declared.item.Kind.the-variants.{String}
 use Rattle.layout.specs.declared.item.Characters.{Characters}
-use Rattle.layout.specs.declared.item.Characters.the-variants.{Count, NoText}
+use Rattle.layout.specs.declared.item.Characters.the-variants.{Count}
 use Rattle.layout.specs.declared.item.JsonbItem.{JsonbItem}
 use Rattle.layout.specs.declared.iterator.ArrayIterator.{ArrayIterator}
 use Rattle.layout.specs.declared.iterator.ArrayStep.{ArrayStep}

@@ -83,19 +83,63 @@ show-members-below t =
 
 -- what the functions that `show-container` calls ask and give
 abbrev show-container-claims : ℕ → show-container-lts.Claims
-show-container-claims t = (read-header-reads.Asked, read-header-reads.Learnt, say-array-reads.Asked, say-array-reads.Learnt, show-items-below t, show-items.Post, say-object-reads.Asked, say-object-reads.Learnt, show-members-below t, show-members.Post)
+show-container-claims t = (
+  read-header-reads.Asked,
+  read-header-reads.Learnt,
+  say-array-reads.Asked,
+  say-array-reads.Learnt,
+  show-items-below t,
+  show-items.Post,
+  say-object-reads.Asked,
+  say-object-reads.Learnt,
+  show-members-below t,
+  show-members.Post,
+)
 
 -- what the functions that `show-item` calls ask and give
 abbrev show-item-claims : ℕ → show-item-lts.Claims
-show-item-claims t = (slice-reads.Asked, slice-reads.Learnt, show-container-below t, show-container.Post, say-leaf-reads.Asked, say-leaf-reads.Learnt, say-reads.Asked, say-reads.Learnt)
+show-item-claims t = (
+  slice-reads.Asked,
+  slice-reads.Learnt,
+  show-container-below t,
+  show-container.Post,
+  say-leaf-reads.Asked,
+  say-leaf-reads.Learnt,
+  say-reads.Asked,
+  say-reads.Learnt,
+)
 
 -- what the functions that `show-items` calls ask and give
 abbrev show-items-claims : ℕ → show-items-lts.Claims
-show-items-claims t = (iterator-ArrayIterator-new-reads.Asked, iterator-ArrayIterator-new-reads.Learnt, iterator-ArrayIterator-next-reads.Asked, iterator-ArrayIterator-next-reads.Learnt, say-columns-reads.Asked, say-columns-reads.Learnt, say-index-reads.Asked, say-index-reads.Learnt, show-item-below t, show-item.Post)
+show-items-claims t = (
+  iterator-ArrayIterator-new-reads.Asked,
+  iterator-ArrayIterator-new-reads.Learnt,
+  iterator-ArrayIterator-next-reads.Asked,
+  iterator-ArrayIterator-next-reads.Learnt,
+  say-columns-reads.Asked,
+  say-columns-reads.Learnt,
+  say-index-reads.Asked,
+  say-index-reads.Learnt,
+  show-item-below t,
+  show-item.Post,
+)
 
 -- what the functions that `show-members` calls ask and give
 abbrev show-members-claims : ℕ → show-members-lts.Claims
-show-members-claims t = (iterator-ObjectIterator-new-reads.Asked, iterator-ObjectIterator-new-reads.Learnt, iterator-ObjectIterator-next-reads.Asked, iterator-ObjectIterator-next-reads.Learnt, say-columns-reads.Asked, say-columns-reads.Learnt, slice-reads.Asked, slice-reads.Learnt, say-name-reads.Asked, say-name-reads.Learnt, show-item-below t, show-item.Post)
+show-members-claims t = (
+  iterator-ObjectIterator-new-reads.Asked,
+  iterator-ObjectIterator-new-reads.Learnt,
+  iterator-ObjectIterator-next-reads.Asked,
+  iterator-ObjectIterator-next-reads.Learnt,
+  say-columns-reads.Asked,
+  say-columns-reads.Learnt,
+  slice-reads.Asked,
+  slice-reads.Learnt,
+  say-name-reads.Asked,
+  say-name-reads.Learnt,
+  show-item-below t,
+  show-item.Post,
+)
 
 show-container-say-object-requires : (t : ℕ) → show-container-lts.Need-say-object-requires (show-container-claims t) (show-container-at t) show-container.Post
 show-container-say-object-requires t c κs = told-object _ _ (c .before .before .before .read-header .ensures) _ (c .before .n2 .given .1) .1
@@ -113,13 +157,35 @@ show-items-μ-loop s place allowance count walk₀ index₀ walk index = count -
 
 show-items-add-say-columns : (t : ℕ) → show-items-lts.Need-add-say-columns (show-items-claims t) (show-items-at t) show-items.Post show-items-Inv-loop show-items-μ-loop
 show-items-add-say-columns t c =
-    let h = item-inside _ (c .before .before .before .before .before .before .loop .walk) _ _ _ (c .before .before .before .before .next .ensures) (c .before .before .item .given .1) in
-    search needs
+    let item = c .before .before in
+    let next = item .before .before in
+    let head = next .before .before in
+    let opened = head .before .before .before .before in
+    let start = opened .before .before in
+    omega (arith, start .pre, item-inside _ (head .loop .walk) _ _ _ (next .next .ensures) (item .item .given .1))
+
+show-items-say-columns-requires : (t : ℕ) → show-items-lts.Need-say-columns-requires (show-items-claims t) (show-items-at t) show-items.Post show-items-Inv-loop show-items-μ-loop
+show-items-say-columns-requires t c κs =
+    let next = c .before .before .before .before in
+    let head = next .before .before in
+    let opened = head .before .before .before .before in
+    omega (arith, opened .before .before .pre)
 
 show-items-show-item-requires : (t : ℕ) → show-items-lts.Need-show-item-requires (show-items-claims t) (show-items-at t) show-items.Post show-items-Inv-loop show-items-μ-loop
 show-items-show-item-requires t c κs =
-    let h = item-inside _ (c .before .before .before .before .before .before .before .before .loop .walk) _ _ _ (c .before .before .before .before .before .before .next .ensures) (c .before .before .before .before .item .given .1) in
-    search needs
+    let item = c .before .before .before .before in
+    let next = item .before .before in
+    let head = next .before .before in
+    let opened = head .before .before .before .before in
+    let start = opened .before .before in
+    omega (arith, start .pre, item-inside _ (head .loop .walk) _ _ _ (next .next .ensures) (item .item .given .1))
+
+show-items-add-index : (t : ℕ) → show-items-lts.Need-add-index (show-items-claims t) (show-items-at t) show-items.Post show-items-Inv-loop show-items-μ-loop
+show-items-add-index t c =
+    let item = c .before .before .before .before .before in
+    let next = item .before .before in
+    let head = next .before .before in
+    omega (arith, head .loop .inv, next .before .loop-test .taken, head .before .known-told .given)
 
 abbrev show-members-Inv-loop : show-members-lts.InvT-loop
 show-members-Inv-loop s place allowance count walk₀ i₀ walk i = i ≤ count
@@ -129,20 +195,36 @@ show-members-μ-loop s place allowance count walk₀ i₀ walk i = count - i
 
 show-members-add-say-columns : (t : ℕ) → show-members-lts.Need-add-say-columns (show-members-claims t) (show-members-at t) show-members.Post show-members-Inv-loop show-members-μ-loop
 show-members-add-say-columns t c =
-    let h = value-inside _ (c .before .before .before .before .before .before .loop .walk) _ _ _ (c .before .before .before .before .next .ensures) (c .before .before .member .given .1) in
-    omega (arith, c .before .before .before .before .before .before .before .before .before .before .before .before .pre .1 .0)
+    let member = c .before .before in
+    let next = member .before .before in
+    let head = next .before .before in
+    let opened = head .before .before .before .before in
+    let start = opened .before .before in
+    omega (arith, start .pre, value-inside _ (head .loop .walk) _ _ _ (next .next .ensures) (member .member .given .1))
 
 show-members-say-columns-requires : (t : ℕ) → show-members-lts.Need-say-columns-requires (show-members-claims t) (show-members-at t) show-members.Post show-members-Inv-loop show-members-μ-loop
-show-members-say-columns-requires t c κs = omega (arith, c .before .before .before .before .before .before .before .before .before .before .before .before .pre .1 .1)
+show-members-say-columns-requires t c κs =
+    let next = c .before .before .before .before in
+    let head = next .before .before in
+    let opened = head .before .before .before .before in
+    omega (arith, opened .before .before .pre)
 
 show-members-show-item-requires : (t : ℕ) → show-members-lts.Need-show-item-requires (show-members-claims t) (show-members-at t) show-members.Post show-members-Inv-loop show-members-μ-loop
 show-members-show-item-requires t c κs =
-    let h = value-inside _ (c .before .before .before .before .before .before .before .before .before .loop .walk) _ _ _ (c .before .before .before .before .before .before .before .next .ensures) (c .before .before .before .before .before .member .given .1) in
-    let p = c .before .before .before .before .before .before .before .before .before .before .before .before .before .before .before .pre in
-    omega (arith, p .0, p .1 .0, p .1 .1)
+    let told = c .before .before .before .before in
+    let member = told .before in
+    let next = member .before .before in
+    let head = next .before .before in
+    let opened = head .before .before .before .before in
+    let start = opened .before .before in
+    omega (arith, start .pre, value-inside _ (head .loop .walk) _ _ _ (next .next .ensures) (member .member .given .1))
 
 show-members-add-i : (t : ℕ) → show-members-lts.Need-add-i (show-members-claims t) (show-members-at t) show-members.Post show-members-Inv-loop show-members-μ-loop
-show-members-add-i t c = omega (arith, c .before .before .before .before .before .before .before .before .before .before .loop .inv, c .before .before .before .before .before .before .before .before .before .loop-test .taken, c .before .before .before .before .before .before .before .before .before .before .before .known-told .given)
+show-members-add-i t c =
+    let told = c .before .before .before .before in
+    let next = told .before .before .before .before in
+    let head = next .before .before in
+    omega (arith, head .loop .inv, next .before .loop-test .taken, head .before .known-told .given)
 
 pub +show-container+show-item+show-items+show-members-spec : {M : Type 1} → statement M
 +show-container+show-item+show-items+show-members-spec =
@@ -190,10 +272,10 @@ pub +show-container+show-item+show-items+show-members-spec : {M : Type 1} → st
     (λ c. search needs)
     (λ c. search needs)
     (show-items-add-say-columns t)
-    (λ c κs. search needs)
+    (show-items-say-columns-requires t)
     (λ c κs. search needs)
     (show-items-show-item-requires t)
-    (λ c. search needs)
+    (show-items-add-index t)
     (λ c. search needs)
     (λ c. search needs)
     (λ c. search needs))
