@@ -9,25 +9,31 @@ use layout::check::Check;
 use layout::check::check_record;
 use layout::ending::Ending;
 use layout::refusal::Refusal;
+use layout::utf8::TextCheck;
+use layout::utf8::check_text;
 use pointers::pointer::get_by_pointer;
 ghost use mathlib.Core.Path.{_≡_};
-ghost use Prim.Native.Nat.{_+_, _^_};
+ghost use Prim.Native.Nat.{_+_, _-_, _^_, min};
 ghost use lib.ListN.{length};
 ghost use Rattle.layout.specs.Read.{read};
-ghost use Rattle.layout.specs.Check.{checked};
+ghost use Rattle.layout.specs.Check.{checked, «text-checked» as textChecked};
+ghost use Rattle.layout.specs.Text.{«code-points» as codePoints};
 ghost use Rattle.layout.specs.Refusal.{number};
 ghost use Rattle.builders.specs.Build.{append as appendOf, build, «on-two» as onTwo};
 ghost use Rattle.edits.specs.Path.{«get-by» as getBy, «delete-by» as deleteBy, «on-path» as onPath};
 ghost use Rattle.edits.specs.Concat.{concat as concatOf};
 ghost use Rattle.edits.specs.Strip.{strip, «on-one» as onOne};
 ghost use Rattle.pointers.specs.Pointer.{«on-pointer» as onPointer};
-ghost use Rattle.jsonb.specs.C.{«c-check» as cCheck, «c-ending» as cEnding, EndedC};
+ghost use Rattle.jsonb.specs.C.{«c-check» as cCheck, «c-text» as cText, «c-ending» as cEnding, EndedC};
 
 // The answer where the record is readable, and that of an absence, which is above every length. A refusal's number is added to
 // it.
 const READABLE: u64 = 0;
 
 const ABSENT: u64 = 0x1_0000_0000;
+
+// The most code points that an answer can tell.
+const MOST: u64 = ABSENT - 1;
 
 fn c_refused(refusal: Refusal) -> u64
     ensures { λ r. ⌜ r ≡ 2 ^ 32 + number refusal ⌝ }
@@ -53,6 +59,27 @@ pub extern "C" fn jsonb_check(s: &[u8]) -> u64
     match check_record(s) {
         Check::Readable => READABLE,
         Check::Refused(refusal) => c_refused(refusal),
+    }
+}
+
+fn c_count(count: usize) -> u64
+    ensures { λ r. ⌜ r ≡ min count (2 ^ 32 - 1) ⌝ }
+{
+    let n = count as u64;
+    if MOST < n {
+        return MOST;
+    }
+    n
+}
+
+// Checks a text, and counts its code points.
+#[no_mangle]
+pub extern "C" fn jsonb_check_text(s: &[u8]) -> u64
+    ensures { λ r. ⌜ r ≡ cText (textChecked (codePoints (now (s .entry)))) ⌝ }
+{
+    match check_text(s) {
+        TextCheck::Passed(count) => c_count(count),
+        TextCheck::Refused(refusal) => c_refused(refusal),
     }
 }
 

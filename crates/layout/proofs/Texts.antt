@@ -109,6 +109,24 @@ utf8-some b h = go (code-points b) refl h
     go nothing e h = absurd h
     go (some n) e h = (n, e)
 
+-- There are no more of them than bytes.
+rest-le : (b : Bytes) (n : ℕ) (l : Lead) (m : ℕ) → points-rest b n l ≡ some m → m ≤ n + length b
+rest-le [] n Bad m e = let z : _≡_ {A = ℕ} 0 1 = cc in omega arith
+rest-le [] n (Tails zero low high) m e = let z : n ≡ m = cc in omega arith
+rest-le [] n (Tails (suc k) low high) m e = let z : _≡_ {A = ℕ} 0 1 = cc in omega arith
+rest-le (x ∷ b) n Bad m e = let z : _≡_ {A = ℕ} 0 1 = cc in omega arith
+rest-le (x ∷ b) n (Tails zero low high) m e = omega (arith, rest-le b (suc n) (lead x) m e)
+rest-le (x ∷ b) n (Tails (suc k) low high) m e = go (rest-le b n (Tails k 0x80 0xBF) m) (between low high x) e
+  where
+    go : (points-rest b n (Tails k 0x80 0xBF) ≡ some m → m ≤ n + length b) → (t : Bool)
+        → cond t (points-rest b n (Tails k 0x80 0xBF)) nothing ≡ some m → m ≤ n + length (x ∷ b)
+    go h true e = omega (arith, h e)
+    go h false e = let z : _≡_ {A = ℕ} 0 1 = cc in omega arith
+
+pub points-le : (b : Bytes) (n : ℕ) → code-points b ≡ some n → n ≤ length b
+unfolding code-points
+points-le b n e = omega (arith, rest-le b 0 (Tails 0 0x80 0xBF) n e)
+
 -- Whether the rest of a text is whole characters does not hang on how many there were before.
 abbrev pub text-rest : Bytes → Lead → Bool
 text-rest b l = is-some (points-rest b 0 l)

@@ -82,15 +82,15 @@ array-step s w =
     Refused
     (item-at s e (w .«item_offset»))))))
 
--- "Object order: name entry, value entry, name, value, each tested whole before the next." This is the second half of a step,
--- the name and the value, of entries `k` and `v`, and then their texts; `object-step` below comes to it behind its tests of the
--- entries.
+-- What is handed out of the entries `k` and `v` of a name and its value.
 unfoldable pub member-at : Bytes → ObjectIterator → ℕ → ℕ → Answer ObjectMember
 member-at s w k v = do
   key ← item-at s k (w .«key_offset»)
   val ← item-at s v (w .«val_offset»)
   gives (record { key = key; val = val })
 
+-- "Object order: name entry, value entry, name, value, each tested whole before the next." This is the second half of a step,
+-- the name and the value, and behind their places the texts; `object-step` below comes to it behind its tests of the entries.
 unfoldable pub member-step : Bytes → ObjectIterator → ℕ → ℕ → ObjectStep
 member-step s w k v =
     cond (not (inside s (w .«key_offset») (length-of k))) (RefusedMember Layout)
