@@ -3,9 +3,12 @@ use Prim.Native.Nat.{ℕ, _-_, _^_, _≤_, _<_}
 use native.Mathlib.Omega.{arith}
 use mathlib.Core.Path.{_≡_, refl, ap, sym, _∙_}
 use mathlib.Core.List.{[], _∷_}
+use mathlib.Core.Option.{Option, none as nothing, some}
 use lib.ListN.{length, getD}
 use Rattle.layout.specs.Bytes.{Bytes}
 use Rattle.layout.specs.Refusal.{number}
+use Rattle.layout.specs.Text.{code-points}
+use Rattle.layout.specs.Check.{text-checked}
 use Rattle.layout.specs.Ended.{Outcome, result, absence, refusal, ending, Ended}
 use Rattle.layout.specs.declared.refusal.Refusal.{Refusal}
 use Rattle.layout.specs.declared.refusal.Refusal.the-variants.{Short, Layout, Text, Number, Limit, Path, Kind, Repeated, Result, Buffer, Pointer}
@@ -13,7 +16,10 @@ use Rattle.layout.specs.declared.check.Check.{Check}
 use Rattle.layout.specs.declared.check.Check.the-variants.{Readable, Refused as NotReadable}
 use Rattle.layout.specs.declared.ending.Ending.{Ending}
 use Rattle.layout.specs.declared.ending.Ending.the-variants.{Done, Refused}
-use Rattle.jsonb.specs.C.{c-check, c-ending, c-outcome, EndedC}
+use Rattle.layout.specs.declared.utf8.TextCheck.{TextCheck}
+use Rattle.layout.specs.declared.utf8.TextCheck.the-variants.{Passed, Refused as NoText}
+use Rattle.layout.proofs.Texts.{points-le}
+use Rattle.jsonb.specs.C.{c-check, c-text, c-ending, c-outcome, EndedC}
 use Rattle.edits.proofs.Limited.{Limited}
 
 -- ---- the functions
@@ -66,6 +72,30 @@ c-check-apart Readable Readable e = refl
 c-check-apart Readable (NotReadable q) e = let w : ⊥ = omega (arith, e) in absurd w
 c-check-apart (NotReadable r) Readable e = let w : ⊥ = omega (arith, e) in absurd w
 c-check-apart (NotReadable r) (NotReadable q) e = ap NotReadable (number-apart r q (omega (arith, e)))
+
+-- Of a text the number is told exactly where it is below 2 ^ 32 - 1, as it is of every text that is shorter.
+abbrev Counted-below : TextCheck → Type 0
+Counted-below (Passed n) = n < 2 ^ 32 - 1
+Counted-below (NoText r) = Unit {0}
+
+counted-apart : (x y : TextCheck) → Counted-below x → Counted-below y → c-text x ≡ c-text y → x ≡ y
+counted-apart (Passed n) (Passed m) h k e = ap Passed (omega (arith, e, h, k))
+counted-apart (Passed n) (NoText q) h k e = let w : ⊥ = omega (arith, e) in absurd w
+counted-apart (NoText r) (Passed m) h k e = let w : ⊥ = omega (arith, e) in absurd w
+counted-apart (NoText r) (NoText q) h k e = ap NoText (number-apart r q (omega (arith, e)))
+
+short-below : (b : Bytes) → length b < 2 ^ 32 - 1 → Counted-below (text-checked (code-points b))
+unfolding text-checked
+short-below b h = go (code-points b) refl
+  where
+    go : (o : Option ℕ) → code-points b ≡ o → Counted-below (text-checked o)
+    go nothing e = tt
+    go (some n) e = omega (arith, points-le b n e)
+
+pub c-text-apart : (b d : Bytes) → length b < 2 ^ 32 - 1 → length d < 2 ^ 32 - 1
+    → c-text (text-checked (code-points b)) ≡ c-text (text-checked (code-points d))
+    → text-checked (code-points b) ≡ text-checked (code-points d)
+c-text-apart b d h k e = counted-apart _ _ (short-below b h) (short-below d k) e
 
 pub c-apart : (o p : Outcome) → Limited o → Limited p → c-outcome o ≡ c-outcome p → ending o ≡ ending p
 c-apart (result a) (result b) h k e = ap Done e
