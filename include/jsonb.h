@@ -1,27 +1,27 @@
 /*
- * JSONB records for the flight computer: the check and the edits.
+ * JSONB records for the flight computer: the check, the text check and the edits.
  *
  * The functions are those of the static library that tools/library makes, target/staticlib/libjsonb.a, for x86-64 Linux.
  * Each is proved to end, and to answer what Path.antt, Concat.antt and Strip.antt of crates/edits/specs,
- * crates/builders/specs/Build.antt and crates/pointers/specs/Pointer.antt define (the check: crates/layout/specs/Read.antt) as a
- * number by crates/jsonb/specs/C.antt, on every record, path, JSON Pointer and buffer. They keep nothing between calls, take no
- * memory but the stack, and may be called from several threads at once. 64 KiB of stack serve every call: measured at 64 levels,
- * the deepest that a record can be, delete takes 61,900 bytes at the most, strip 33,100 and each of the others 20,000
- * (tests/c/stack.c).
+ * crates/builders/specs/Build.antt and crates/pointers/specs/Pointer.antt define (the check: crates/layout/specs/Read.antt; the
+ * text check: crates/layout/specs/Text.antt) as a number by crates/jsonb/specs/C.antt, on every record, path, JSON Pointer, text and
+ * buffer. They keep nothing between calls, take no memory but the stack, and may be called from several threads at once. 64 KiB of
+ * stack serve every call: measured at 64 levels, the deepest that a record can be, delete takes 61,900 bytes at the most, strip
+ * 33,100 and each of the others 20,000 (tests/c/stack.c).
  *
- * A record, a path, the text of a JSON Pointer and a buffer are each a C pointer and a length in bytes. What the caller owes:
+ * A record, a path, a text, that of a JSON Pointer too, and a buffer are each a C pointer and a length in bytes. What the caller owes:
  *
  *   - A C pointer is to as many bytes as its length says. It is never null, also where the length is 0.
  *   - The buffer overlaps nothing else of the call. Records, paths and texts may overlap each other, or be the same.
  *   - Nobody else changes a record, a path or a text, or uses the buffer, before the call returns.
  *
- * What the bytes are is owed by no one: any bytes at all may be given as a record, as a path or as a JSON Pointer.
+ * What the bytes are is owed by no one: any bytes at all may be given as a record, as a path, as a JSON Pointer or as a text.
  *
  * An answer is one number:
  *
  *   below JSONB_ABSENT      done. It is the length of the result, which fills that many first bytes of the buffer; the bytes
- *                           behind them are unchanged. No result is longer than JSONB_ROOM. The check has no result and no
- *                           buffer: it answers JSONB_READABLE.
+ *                           behind them are unchanged. No result is longer than JSONB_ROOM. The check and the text check have
+ *                           no result and no buffer: they answer JSONB_READABLE, and the number of code points.
  *   JSONB_ABSENT            the path or the JSON Pointer finds nothing. No byte is changed.
  *   above JSONB_ABSENT      refused, with one of the numbers below. No byte is changed.
  *
@@ -51,7 +51,7 @@ extern "C" {
 #define JSONB_REFUSED(number) (JSONB_ABSENT + (number))
 #define JSONB_NUMBER_OF(answer) ((int)((answer) - JSONB_ABSENT))
 
-/* Whether the call was done, so that its answer is a length. */
+/* Whether the call was done, so that its answer is a length, or a number of code points. */
 #define JSONB_IS_DONE(answer) ((answer) < JSONB_ABSENT)
 
 /*
@@ -59,7 +59,7 @@ extern "C" {
  *
  *    1  the sender of a record         it is cut short
  *    2  the sender of a record         its layout is damaged: a header, an entry, or lengths that do not sum
- *    3  the sender of a record         a text or a name is not UTF-8
+ *    3  the sender of a record         a text or a name is not UTF-8; the text that is checked is not
  *    4  the sender of a record         a number is of no listed form
  *    5  the sender of a record         it is over 65,536 bytes, or nested deeper than 64
  *    6  the writer of a path           the path is unreadable, no array, or holds what is neither a name nor an index
@@ -86,6 +86,13 @@ extern "C" {
 
 /* Checks a record: JSONB_READABLE, or refused with 1 to 5. The edits check their records too. */
 uint64_t jsonb_check(const uint8_t *record, size_t record_length);
+
+/*
+ * Checks a text, such as a name: the number of its code points by RFC 3629, or refused with 3 where the bytes are not UTF-8. A column
+ * on a screen is set by it. A combining mark is a code point of its own, and so are a byte order mark and a 0; no 0 need stand behind
+ * the text. A text of 2^32 - 1 code points, or of more, answers 2^32 - 1.
+ */
+uint64_t jsonb_check_text(const uint8_t *text, size_t text_length);
 
 /*
  * Looks up what a path finds in a record. A path is an array record: its strings are names, its integers are indexes, of which

@@ -15,7 +15,7 @@ pub enum Refusal {
     Short = 1,
     /// The sender of a record: its layout is damaged.
     Layout = 2,
-    /// The sender of a record: a text or a name is not UTF-8.
+    /// The sender of a record, or of a text by itself: it is not UTF-8, or a text or a name in it is not.
     Text = 3,
     /// The sender of a record: a number is of no listed form.
     Number = 4,
@@ -80,6 +80,7 @@ impl std::error::Error for Refusal {}
 mod c {
     extern "C" {
         pub fn jsonb_check(record: *const u8, record_length: usize) -> u64;
+        pub fn jsonb_check_text(text: *const u8, text_length: usize) -> u64;
         pub fn jsonb_strip_nulls(target: *const u8, target_length: usize, out: *mut u8, out_length: usize) -> u64;
     }
 
@@ -127,6 +128,13 @@ fn edit_always<'a>(call: c::Edit, first: &[u8], second: &[u8], out: &'a mut [u8]
 /// Whether a record is readable, or why it is not.
 pub fn check(record: &[u8]) -> Result<(), Refusal> {
     ending(unsafe { c::jsonb_check(record.as_ptr(), record.len()) }).map(|_| ())
+}
+
+/// The number of code points of a text by RFC 3629, or [`Refusal::Text`] where the bytes are not UTF-8. A text of 2^32 − 1 code
+/// points, or of more, has 2^32 − 1 here.
+pub fn check_text(text: &[u8]) -> Result<usize, Refusal> {
+    let answer = unsafe { c::jsonb_check_text(text.as_ptr(), text.len()) };
+    Ok(ending(answer)?.expect("only a look-up has an absence"))
 }
 
 /// What a path finds in a record, as a record of its own; `None` where it finds nothing. A path is an array record of names and

@@ -1,7 +1,7 @@
 /*
  * The functions of include/jsonb.h as a C program calls them, on the worked bytes of document 01 and on the limits that it names,
- * and on the pointers of document 02 §1. The expectations are taken from these documents by hand. A line is printed for each that
- * does not hold, and at the end how many did.
+ * and on the pointers and the texts of document 02 §1 and §2. The expectations are taken from these documents by hand. A line is
+ * printed for each that does not hold, and at the end how many did.
  */
 #include <stdint.h>
 #include <stdio.h>
@@ -270,6 +270,52 @@ static void test_check(void) {
     checks_made("65,536 bytes", JSONB_READABLE);
     extend(65537, &left_record);
     checks_made("65,537 bytes", JSONB_LIMIT);
+}
+
+static void counts(const char *text, uint64_t answer) {
+    spell(text, &left_record);
+    expect(jsonb_check_text(left_record.bytes, left_record.length) == answer, text, "the text check");
+}
+
+/* A text of so many times the same bytes. */
+static void repeat(const char *text, size_t times) {
+    size_t i;
+    spell(text, &right_record);
+    for (i = 0; i < times; i++) {
+        memcpy(left_record.bytes + i * right_record.length, right_record.bytes, right_record.length);
+    }
+    left_record.length = times * right_record.length;
+}
+
+static void counts_made(const char *what, uint64_t answer) {
+    expect(jsonb_check_text(left_record.bytes, left_record.length) == answer, what, "the text check");
+}
+
+static void test_text(void) {
+    counts("", 0);
+    counts("61", 1);
+    counts("C3A9", 1);
+    counts("E282AC", 1);
+    counts("F09F9A80", 1);
+    counts("61 C3A9 E282AC F09F9A80", 4);
+    counts("61CC81", 2);
+    counts("EFBBBF", 1);
+    counts("00", 1);
+    counts("7A6F6E6531", 5);
+    counts("FF", JSONB_TEXT);
+    counts("80", JSONB_TEXT);
+    counts("C3", JSONB_TEXT);
+    counts("C380C3", JSONB_TEXT);
+    counts("C0AF", JSONB_TEXT);
+    counts("EDA080", JSONB_TEXT);
+    counts("F4908080", JSONB_TEXT);
+    expect(JSONB_IS_DONE(jsonb_check_text(left_record.bytes, 0)) != 0, "no bytes", "done");
+    repeat("61", ROOM);
+    counts_made("65,537 bytes of ASCII", ROOM);
+    repeat("F09F9A80", ROOM / 4);
+    counts_made("16,384 characters of four bytes", ROOM / 4);
+    left_record.length--;
+    counts_made("16,384 characters, the last cut short", JSONB_TEXT);
 }
 
 /* The records that document 01 turns down, by their numbers, and one of another kind of damage to stand beside each. */
@@ -771,6 +817,7 @@ static void test_same_bytes(void) {
 int main(void) {
     test_numbers();
     test_check();
+    test_text();
     test_get();
     test_pointer();
     test_delete();

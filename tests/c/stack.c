@@ -117,6 +117,7 @@ static void make(char outer, char inner, const char *text) {
 
 static void nothing(void) {}
 static void check(void) { jsonb_check(record, record_length); }
+static void check_text(void) { jsonb_check_text(pointer, pointer_length); }
 static void get(void) { jsonb_get_by_keypath(record, record_length, path, path_length, out, out_length); }
 static void point(void) { jsonb_get_by_pointer(record, record_length, pointer, pointer_length, out, out_length); }
 static void delete(void) { jsonb_delete_by_keypath(record, record_length, path, path_length, out, out_length); }
@@ -133,9 +134,15 @@ typedef struct {
 } Function;
 
 static Function functions[] = {
-    {"check", check, OTHERS_MOST, 0},   {"get", get, OTHERS_MOST, 0},       {"get by a pointer", point, OTHERS_MOST, 0},
-    {"delete", delete, DELETE_MOST, 0}, {"concat", concat, OTHERS_MOST, 0}, {"strip", strip, STRIP_MOST, 0},
-    {"append", append, OTHERS_MOST, 0}, {"build", build, OTHERS_MOST, 0},
+    {"check", check, OTHERS_MOST, 0},
+    {"text check", check_text, OTHERS_MOST, 0},
+    {"get", get, OTHERS_MOST, 0},
+    {"get by a pointer", point, OTHERS_MOST, 0},
+    {"delete", delete, DELETE_MOST, 0},
+    {"concat", concat, OTHERS_MOST, 0},
+    {"strip", strip, STRIP_MOST, 0},
+    {"append", append, OTHERS_MOST, 0},
+    {"build", build, OTHERS_MOST, 0},
 };
 
 #define FUNCTIONS (sizeof functions / sizeof functions[0])

@@ -149,14 +149,19 @@ def items(b, count, names, depth, sort):
     return found
 
 
+def characters(b):
+    """How many code points a text has."""
+    try:
+        return len(b.decode("utf-8"))
+    except UnicodeDecodeError:
+        raise Refused(3) from None
+
+
 def item(code, b, depth):
     if code == 5:
         return read(b, depth + 1)
     if code == 1:
-        try:
-            b.decode("utf-8")
-        except UnicodeDecodeError:
-            raise Refused(3) from None
+        characters(b)
     if code == 2 and not listed(b):
         raise Refused(4)
     return (KINDS[code], b if code in (1, 2, 6) else None)

@@ -77,7 +77,7 @@ pub(crate) fn is_ascii(s: &[u8]) -> bool
 fn count_code_points(s: &[u8]) -> TextCheck
     ensures { λ r. ⌜ r ≡ textChecked (codePoints (now (s .entry))) ⌝ }
 {
-    let mut count = 0;
+    let mut count: usize = 0;
     let mut due: u8 = 0;
     let mut low: u8 = 0x80;
     let mut high: u8 = 0xbf;
