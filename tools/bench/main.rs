@@ -21,8 +21,8 @@ use jsonb::Edit;
 
 use calls::Call;
 use tables::{
-    calls_on, calls_on_items, calls_on_members, calls_on_search, count_searched, fallen_tables, look_up_on, sound_tables, texts,
-    Table,
+    calls_on, calls_on_items, calls_on_members, calls_on_search, count_searched, counted_texts, fallen_tables, look_up_on,
+    sound_tables, texts, Table,
 };
 use timing::{median, rounds, time};
 use tree::record;
@@ -49,6 +49,31 @@ fn say_check(name: &str, bytes: &[u8], out: &mut [u8]) {
     let times = rounds([&mut || port::check(black_box(bytes)).unwrap(), &mut copy]);
     let of = |i: usize| median(times.iter().map(|round| round[i] / bytes.len() as f64));
     println!("| {name} | {} | {:.2} | {:.3} |", bytes.len(), of(0), of(1));
+}
+
+/// The times of the text check, and of the Rust's standard library: whether the bytes are UTF-8, and then the count.
+fn say_text(name: &str, text: &[u8]) {
+    let times = rounds([
+        &mut || {
+            black_box(port::check_text(black_box(text)).unwrap());
+        },
+        &mut || {
+            black_box(count_twice(black_box(text)).unwrap());
+        },
+    ]);
+    let of = |i: usize| median(times.iter().map(|round| round[i]));
+    println!(
+        "| {name} | {} | {:.1} | {:.1} | {:.2} |",
+        text.len(),
+        of(0),
+        of(1),
+        median(times.iter().map(|round| round[0] / round[1])),
+    );
+}
+
+/// How the characters of a text are counted without the text check's number.
+fn count_twice(text: &[u8]) -> Option<usize> {
+    std::str::from_utf8(text).ok().map(|text| text.chars().count())
 }
 
 /// The times of a call and of the check in it, and of the Rust.
@@ -169,6 +194,12 @@ fn say_times(out: &mut [u8]) {
     for (name, bytes) in texts() {
         say_check(name, &bytes, out);
     }
+    println!("\n### Characters\n");
+    println!("| text | bytes | ours, ns | from_utf8 and chars().count(), ns | ours to the Rust's |");
+    println!("|---|---:|---:|---:|---:|");
+    for (name, text) in counted_texts() {
+        say_text(name, &text);
+    }
     println!("\n### Sound records\n");
     say_calls(&sound, out);
     println!("\n### The same with names that fall\n");
@@ -209,7 +240,14 @@ fn agree(out: &mut [u8]) -> bool {
             wrong += 1;
         }
     }
-    eprintln!("bench: {} calls, {wrong} with answers that differ", calls.len());
+    let texts = counted_texts();
+    for (name, text) in &texts {
+        if port::check_text(text).ok() != count_twice(text) {
+            eprintln!("bench: the characters of {name} differ");
+            wrong += 1;
+        }
+    }
+    eprintln!("bench: {} calls, {wrong} with answers that differ", calls.len() + texts.len());
     wrong == 0
 }
 

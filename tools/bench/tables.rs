@@ -228,6 +228,23 @@ pub fn texts() -> Vec<(&'static str, Vec<u8>)> {
     ]
 }
 
+/// Texts whose characters are counted: names as tables have them, a line, and as much as a record holds.
+pub fn counted_texts() -> Vec<(&'static str, Vec<u8>)> {
+    let line = "Température du panneau solaire nord: 40 °C, limite 45 °C, à relever au prochain passage";
+    let full = |text: &str| text.repeat(RECORD_LIMIT / text.len()).into_bytes();
+    vec![
+        ("a name, ASCII", b"heater_limit".to_vec()),
+        ("a name, an accent in it", "température".as_bytes().to_vec()),
+        ("a name, three bytes a character", "温度上限".as_bytes().to_vec()),
+        ("a line, accents in it", line.as_bytes().to_vec()),
+        ("full: ASCII", full("All systems nominal. ")),
+        ("full: lines with accents", full(line)),
+        ("full: two bytes a character", full("é")),
+        ("full: three bytes a character", full("温")),
+        ("full: four bytes a character", full("🚀")),
+    ]
+}
+
 // ---- growth
 
 /// Calls on an array of so many nulls, the last of which the path finds.

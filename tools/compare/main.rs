@@ -5,6 +5,8 @@
 //   compare codec FILE COUNT SEED CONSOLE
 //                                  the same, and then the number codec: numbers of every kind, so many of them random, and payloads
 //                                  to the program CONSOLE, since the functions for C have no codec
+//   compare texts COUNT SEED       the text check beside the Rust's standard library: every text of up to three bytes, and so many
+//                                  random ones
 //   compare record FOLDER COUNT SEED
 //                                  calls on readable records, and the Rust's answers to them, for tests/rust-answers
 //
@@ -20,6 +22,7 @@ mod reading;
 mod recording;
 mod sides;
 mod tally;
+mod texts;
 mod tree;
 
 use std::process::exit;
@@ -32,6 +35,7 @@ use reading::{DEPTH_LIMIT, RECORD_LIMIT};
 use recording::record_calls;
 use sides::compare;
 use tally::{spaced, Answered, Tally};
+use texts::compare_texts;
 use tree::{nested, request, Tree};
 
 #[global_allocator]
@@ -105,6 +109,10 @@ fn run(arguments: &[String]) -> bool {
             let alike = compare_codec(&mut list, console, count, seed);
             list.wrong == 0 && alike
         }
+        ["texts", count, seed] => {
+            let (Ok(count), Ok(seed)) = (count.parse(), seed.parse()) else { return usage() };
+            compare_texts(count, seed)
+        }
         ["record", folder, count, seed] => {
             let (Ok(count), Ok(seed)) = (count.parse(), seed.parse()) else { return usage() };
             record_calls(folder, count, seed).map_err(|error| eprintln!("compare: {folder}: {error}")).is_ok()
@@ -115,7 +123,7 @@ fn run(arguments: &[String]) -> bool {
 
 fn usage() -> bool {
     eprintln!("usage: compare list FILE | compare random FILE COUNT SEED | compare codec FILE COUNT SEED CONSOLE");
-    eprintln!("     | compare record FOLDER COUNT SEED");
+    eprintln!("     | compare texts COUNT SEED | compare record FOLDER COUNT SEED");
     false
 }
 
