@@ -1,6 +1,6 @@
 -- Laws of the walks: a step of the code is the step of the definition, test by test.
 use Prim.Native.Nat.{ℕ, zero, suc, _+_, _*_, _-_, _^_, _≤_}
-use mathlib.Core.Path.{_≡_, refl}
+use mathlib.Core.Path.{_≡_, refl, sym}
 use mathlib.Core.Bool.{Bool, true, false, not}
 use native.Mathlib.Omega.{arith}
 use mathlib.Core.Logic.{_⊎_, inl, inr}
@@ -43,6 +43,10 @@ use Rattle.layout.specs.declared.iterator.ObjectStep.the-variants.{Membe
 pub not-outside : (s : Bytes) (at n : ℕ) (g : Bool) → g ≡ inside s at n → not g ≡ false → at + n ≤ length s
 not-outside s at n true hg q = inside-le s at n true hg refl
 not-outside s at n false hg q = let z : _≡_ {A = ℕ} 0 1 = cc in omega arith
+
+pub passed : {g b : Bool} → g ≡ b → not g ≡ false → b ≡ true
+passed {g = true} e q = sym e
+passed {g = false} e q = let z : _≡_ {A = ℕ} 0 1 = cc in let w : ⊥ = omega arith in absurd w
 
 -- What is handed out of an entry, by its code and by the text check.
 module _ (s : Bytes) (w place code : ℕ) (hc : code ≡ code-of w) where
@@ -92,21 +96,98 @@ module _ (s : Bytes) (w : ArrayIterator) where
         unfolding array-step
         array-outside u = rw (ne-eqb (w .remaining) 0 z, ← hg, q, ← he, ← hb, t, ← hl, ← hp, u)
 
-        module _ (u : not p ≡ false) (h : Handed) (hh : h ≡ handed (item-at s e (w .«item_offset»))) where
-          pub array-bad : (r : Refusal) → h ≡ NotHanded r → Refused r ≡ array-step s w
-          unfolding array-step ends-with
-          array-bad r v =
-              rw (ne-eqb (w .remaining) 0 z, ← hg, q, ← he, ← hb, t, ← hl, ← hp, u, handed-refusal (item-at s e (w .«item_offset»)) h r hh v)
+-- A step over an array that has come to its item: one is left, and its entry `e` and its payload, of `l` bytes, lie in the slice.
+pub record AtItem (s : Bytes) (w : ArrayIterator) (e l : ℕ) : Type 0 where
+  pub left : w .remaining ≡ 0 → ⊥
+  pub entry-inside : inside s (w .«jentry_offset») 4 ≡ true
+  pub entry-is : e ≡ word-at s (w .«jentry_offset»)
+  pub entry-legal : entry-good false e ≡ true
+  pub length-is : l ≡ length-of e
+  pub payload-inside : inside s (w .«item_offset») l ≡ true
 
-          pub array-item : (i : JsonbItem) → h ≡ HandedItem i
-              → Item i (record {
-                «jentry_offset» = w .«jentry_offset» + 4;
-                «item_offset» = w .«item_offset» + l;
-                remaining = w .remaining - 1;
-              }) ≡ array-step s w
-          unfolding array-step ends-with
-          array-item i v =
-              rw (ne-eqb (w .remaining) 0 z, ← hg, q, ← he, ← hb, t, ← hl, ← hp, u, handed-item (item-at s e (w .«item_offset»)) h i hh v)
+module _ {s : Bytes} {w : ArrayIterator} {e l : ℕ} (at : AtItem s w e l) {h : Handed} (hh : h ≡ handed (item-at s e (w .«item_offset»))) where
+  pub array-bad : {r : Refusal} → h ≡ NotHanded r → Refused r ≡ array-step s w
+  unfolding array-step ends-with
+  array-bad {r = r} v =
+      rw (
+        ne-eqb (w .remaining) 0 (at .left),
+        at .entry-inside,
+        ← at .entry-is,
+        at .entry-legal,
+        ← at .length-is,
+        at .payload-inside,
+        handed-refusal (item-at s e (w .«item_offset»)) h r hh v,
+      )
+
+  pub array-item : {i : JsonbItem} → h ≡ HandedItem i
+      → Item i (record {
+        «jentry_offset» = w .«jentry_offset» + 4;
+        «item_offset» = w .«item_offset» + l;
+        remaining = w .remaining - 1;
+      }) ≡ array-step s w
+  unfolding array-step ends-with
+  array-item {i = i} v =
+      rw (
+        ne-eqb (w .remaining) 0 (at .left),
+        at .entry-inside,
+        ← at .entry-is,
+        at .entry-legal,
+        ← at .length-is,
+        at .payload-inside,
+        handed-item (item-at s e (w .«item_offset»)) h i hh v,
+      )
+
+-- A step over an object whose name and value, of `l` and `m` bytes by their entries `k` and `v`, lie in the slice.
+pub record AtMember (s : Bytes) (w : ObjectIterator) (k v l m : ℕ) : Type 0 where
+  pub key-length : l ≡ length-of k
+  pub key-inside : inside s (w .«key_offset») l ≡ true
+  pub val-length : m ≡ length-of v
+  pub val-inside : inside s (w .«val_offset») m ≡ true
+
+module _ {s : Bytes} {w : ObjectIterator} {k v l m : ℕ} (at : AtMember s w k v l m)
+    {g : Handed} (hg : g ≡ handed (item-at s k (w .«key_offset»))) where
+  pub name-bad : {x : Refusal} → g ≡ NotHanded x → RefusedMember x ≡ member-step s w k v
+  unfolding member-step member-at ends-with _>>=_
+  name-bad {x = x} t =
+      rw (
+        ← at .key-length,
+        at .key-inside,
+        ← at .val-length,
+        at .val-inside,
+        handed-refusal (item-at s k (w .«key_offset»)) g x hg t,
+      )
+
+  module _ {i : JsonbItem} (t : g ≡ HandedItem i) {h : Handed} (hh : h ≡ handed (item-at s v (w .«val_offset»))) where
+    pub value-bad : {x : Refusal} → h ≡ NotHanded x → RefusedMember x ≡ member-step s w k v
+    unfolding member-step member-at ends-with _>>=_
+    value-bad {x = x} c =
+        rw (
+          ← at .key-length,
+          at .key-inside,
+          ← at .val-length,
+          at .val-inside,
+          handed-item (item-at s k (w .«key_offset»)) g i hg t,
+          handed-refusal (item-at s v (w .«val_offset»)) h x hh c,
+        )
+
+    pub member-both : {j : JsonbItem} → h ≡ HandedItem j
+        → Member (record { key = i; val = j }) (record {
+          «key_jentry_offset» = w .«key_jentry_offset» + 4;
+          «val_jentry_offset» = w .«val_jentry_offset» + 4;
+          «key_offset» = w .«key_offset» + l;
+          «val_offset» = w .«val_offset» + m;
+          remaining = w .remaining - 1;
+        }) ≡ member-step s w k v
+    unfolding member-step member-at ends-with _>>=_
+    member-both {j = j} c =
+        rw (
+          ← at .key-length,
+          at .key-inside,
+          ← at .val-length,
+          at .val-inside,
+          handed-item (item-at s k (w .«key_offset»)) g i hg t,
+          handed-item (item-at s v (w .«val_offset»)) h j hh c,
+        )
 
 module _ (s : Bytes) (w : ObjectIterator) where
   module _ (k v l : ℕ) (hl : l ≡ length-of k) (p : Bool) (hp : p ≡ inside s (w .«key_offset») l) where
@@ -118,30 +199,6 @@ module _ (s : Bytes) (w : ObjectIterator) where
       pub member-value : not r ≡ true → RefusedMember Layout ≡ member-step s w k v
       unfolding member-step
       member-value u = rw (← hl, ← hp, q, ← hm, ← hr, u)
-
-      module _ (u : not r ≡ false) (g : Handed) (hg : g ≡ handed (item-at s k (w .«key_offset»))) where
-        pub name-bad : (x : Refusal) → g ≡ NotHanded x → RefusedMember x ≡ member-step s w k v
-        unfolding member-step member-at ends-with _>>=_
-        name-bad x t = rw (← hl, ← hp, q, ← hm, ← hr, u, handed-refusal (item-at s k (w .«key_offset»)) g x hg t)
-
-        module _ (i : JsonbItem) (t : g ≡ HandedItem i) (h : Handed) (hh : h ≡ handed (item-at s v (w .«val_offset»))) where
-          key-is : item-at s k (w .«key_offset») ≡ gives i
-          key-is = handed-item (item-at s k (w .«key_offset»)) g i hg t
-
-          pub value-bad : (x : Refusal) → h ≡ NotHanded x → RefusedMember x ≡ member-step s w k v
-          unfolding member-step member-at ends-with _>>=_
-          value-bad x c = rw (← hl, ← hp, q, ← hm, ← hr, u, key-is, handed-refusal (item-at s v (w .«val_offset»)) h x hh c)
-
-          pub member-both : (j : JsonbItem) → h ≡ HandedItem j
-              → Member (record { key = i; val = j }) (record {
-                «key_jentry_offset» = w .«key_jentry_offset» + 4;
-                «val_jentry_offset» = w .«val_jentry_offset» + 4;
-                «key_offset» = w .«key_offset» + l;
-                «val_offset» = w .«val_offset» + m;
-                remaining = w .remaining - 1;
-              }) ≡ member-step s w k v
-          unfolding member-step member-at ends-with _>>=_
-          member-both j c = rw (← hl, ← hp, q, ← hm, ← hr, u, key-is, handed-item (item-at s v (w .«val_offset»)) h j hh c)
 
   pub object-end : w .remaining ≡ 0 → NoMember ≡ object-step s w
   unfolding object-step

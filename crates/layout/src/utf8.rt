@@ -119,11 +119,15 @@ pub fn check_text(s: &[u8]) -> TextCheck
     count_code_points(s)
 }
 
-// Whether the bytes are UTF-8.
+// Whether the bytes are UTF-8. The check of a record asks this of every text: it takes the same short cut without an answer to take
+// apart.
 pub fn is_utf8(s: &[u8]) -> bool
     ensures { λ r. ⌜ r ≡ utf8 (now (s .entry)) ⌝ }
 {
-    match check_text(s) {
+    if is_ascii(s) {
+        return true;
+    }
+    match count_code_points(s) {
         TextCheck::Passed(_) => true,
         TextCheck::Refused(_) => false,
     }

@@ -1,6 +1,8 @@
 -- `layout::iterator::ArrayIterator::next` meets its contract.
+use mathlib.Core.Path.{refl}
 use native.Mathlib.Omega.{arith}
-use Rattle.layout.proofs.Walks.{not-outside, array-end, array-short, array-layout, array-outside, array-bad, array-item}
+use Rattle.layout.proofs.Walks.{array-end, array-short, array-layout, array-outside, passed, AtItem, array-bad, array-item}
+use Rattle.layout.proofs.Fields.{inside-le}
 use borrow.Author.Needs.{needs}
 use Rattle.layout.proofs.iterator.ArrayIterator.next.Statement.{statement}
 use Rattle.layout.proofs.iterator.ArrayIterator.next.Tie as tie
@@ -43,63 +45,51 @@ returns-4 c =
     _ (entry .read-u32 .ensures) _ (good .is-item-jentry .ensures) (legal .if3 .left)
     _ (sized .payload-len .ensures) _ (fits .is-inside2 .ensures) (c .if4 .taken)
 
--- Back from the item that is handed out to the payload's test.
-abbrev to-room : tie.After-known-told → tie.Else4
-to-room c = c .before .before .before .before
+-- Back from behind the test of the payload.
+abbrev to-entry : tie.Else4 → tie.After-read-u32
+to-entry c = let legal = c .before .before .before in legal .before .before
+
+abbrev to-start : tie.Else4 → tie.Start
+to-start c = let more = to-entry c .before .before .before in more .before .before .before
+
+at-item : (c : tie.Else4)
+    → AtItem (to-start c .args .s .now) (to-start c .args .self) (to-entry c .read-u32 .result) (c .before .before .payload-len .result)
+at-item c =
+    let legal = c .before .before .before in
+    let near = to-entry c .before in
+    record {
+      left = near .before .before .if1 .left;
+      entry-inside = passed (near .before .is-inside .ensures) (near .if2 .left);
+      entry-is = to-entry c .read-u32 .ensures;
+      entry-legal = passed (legal .before .is-item-jentry .ensures) (legal .if3 .left);
+      length-is = c .before .before .payload-len .ensures;
+      payload-inside = passed (c .before .is-inside2 .ensures) (c .if4 .left);
+    }
+
+-- And from the item that is handed out.
+abbrev to-handed : tie.After-known-told → tie.After-hand-out
+to-handed c = c .before .before .before
 
 add-t15 : tie.Need-add-t15
 add-t15 c =
-    let legal = to-room (c .before) .before .before .before in
-    let near = legal .before .before .before in
-    let seen = near .before in
-    omega (arith, not-outside _ _ _ _ (seen .is-inside .ensures) (near .if2 .left))
+    let room = to-handed (c .before) .before in
+    omega (arith, to-start room .good, inside-le _ _ _ _ refl (at-item room .entry-inside))
 
 add-t16 : tie.Need-add-t16
 add-t16 c =
-    let room = to-room (c .before .before) in
-    let fits = room .before in
-    let entry = fits .before .before .before .before in
-    let more = entry .before .before .before in
-    let start = more .before .before .before in
-    omega (arith, start .good, not-outside _ _ _ _ (fits .is-inside2 .ensures) (room .if4 .left))
+    let room = to-handed (c .before .before) .before in
+    omega (arith, to-start room .good, inside-le _ _ _ _ refl (at-item room .payload-inside))
 
 returns-5 : tie.Need-returns-5
 returns-5 c =
-    let item = c .before .before .before .before in
-    let handed = item .before .before in
-    let room = handed .before in
-    let fits = room .before in
-    let sized = fits .before in
-    let legal = sized .before in
-    let good = legal .before in
-    let entry = good .before in
-    let near = entry .before in
-    let seen = near .before in
-    let more = seen .before in
-    let start = more .before .before .before in
-    array-item _ (start .args .self) (more .if1 .left) _ (seen .is-inside .ensures) (near .if2 .left)
-    _ (entry .read-u32 .ensures) _ (good .is-item-jentry .ensures) (legal .if3 .left)
-    _ (sized .payload-len .ensures) _ (fits .is-inside2 .ensures) (room .if4 .left)
-    _ (handed .hand-out .ensures) _ (item .item .given .1)
+    let told = c .before .before .before in
+    let handed = to-handed told in
+    array-item (at-item (handed .before)) (handed .hand-out .ensures) (told .before .item .given .1)
 
 returns-6 : tie.Need-returns-6
 returns-6 c =
-    let refusal = c .before in
-    let handed = refusal .before .before in
-    let room = handed .before in
-    let fits = room .before in
-    let sized = fits .before in
-    let legal = sized .before in
-    let good = legal .before in
-    let entry = good .before in
-    let near = entry .before in
-    let seen = near .before in
-    let more = seen .before in
-    let start = more .before .before .before in
-    array-bad _ (start .args .self) (more .if1 .left) _ (seen .is-inside .ensures) (near .if2 .left)
-    _ (entry .read-u32 .ensures) _ (good .is-item-jentry .ensures) (legal .if3 .left)
-    _ (sized .payload-len .ensures) _ (fits .is-inside2 .ensures) (room .if4 .left)
-    _ (handed .hand-out .ensures) _ (refusal .refusal .given .1)
+    let handed = c .before .before .before in
+    array-bad (at-item (handed .before)) (handed .hand-out .ensures) (c .before .refusal .given .1)
 
 pub next-spec : {M : Type 1} → statement M
 next-spec =
