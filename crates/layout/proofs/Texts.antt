@@ -4,17 +4,16 @@ use native.Mathlib.Omega.{arith}
 use native.Mathlib.Numerals.{add-one}
 use native.Mathlib.Nat.{add-zero, zero-add}
 use mathlib.Core.Path.{_≡_, refl, sym, ap, _∙_}
-use mathlib.Core.Bool.{Bool, true, false, not, cond, _&&_}
+use mathlib.Core.Bool.{Bool, true, false, cond, _&&_}
 use mathlib.Core.List.{[], _∷_}
 use mathlib.Core.Option.{Option, none as nothing, some}
 use lib.Dec.{T, ltb}
-use lib.ListN.{length, take, drop, getD, length-drop, drop-of-length-le}
-use lib.Seq.{drop-cons, drop-drop, take-nil}
-use borrow.Author.Tests.{le-leb, ltb-true, ltb-false, not-true, not-false}
+use lib.ListN.{length, take, drop, getD, drop-of-length-le}
+use lib.Seq.{drop-cons, take-nil}
+use borrow.Author.Tests.{le-leb, ltb-true, ltb-false}
 use Rattle.layout.specs.Bytes.{Bytes}
 use Rattle.layout.specs.Text.{between, lead, points-rest, code-points, is-some, utf8, ascii}
 use Rattle.layout.specs.Check.{text-checked}
-use Rattle.layout.specs.Pass.{tails}
 use Rattle.layout.specs.declared.refusal.Refusal.{Refusal}
 use Rattle.layout.specs.declared.refusal.Refusal.the-variants.{Text}
 use Rattle.layout.specs.declared.utf8.TextCheck.{TextCheck}
@@ -23,122 +22,63 @@ use Rattle.layout.specs.declared.utf8.Lead.{Lead}
 use Rattle.layout.specs.declared.utf8.Lead.the-variants.{Tails, Bad}
 use Rattle.layout.proofs.Places.{and-both}
 
--- Tail bytes: those that are left decide.
-pub record Tailing (s : Bytes) (at n low high left place least most : ℕ) : Type 0 where
-  pub rest : tails (drop at s) n low high ≡ tails (drop place s) left least most
-
-pub tailing : (s : Bytes) (at n low high : ℕ) → Tailing s at n low high n at low high
-tailing s at n low high = record { rest = refl }
-
-module _ {s : Bytes} {at n low high left place least most : ℕ} (t : Tailing s at n low high left place least most) where
-  pub tails-end : left ≤ 0 → true ≡ tails (drop at s) n low high
-  unfolding tails
-  tails-end z = let e : left ≡ 0 = omega arith in rw (t .rest, e)
-
-  module _ (lt : 0 < left) where
-    pub tails-short : length s ≤ place → false ≡ tails (drop at s) n low high
-    unfolding tails
-    tails-short le = let more : left ≡ suc (left - 1) = omega arith in rw (t .rest, more, drop-of-length-le s le)
-
-    module _ (in-text : place < length s) {g : Bool} (hg : g ≡ between least most (getD s place 0)) where
-      one-tail : tails (drop at s) n low high ≡ (g && tails (drop (place + 1) s) (left - 1) 0x80 0xBF)
-      unfolding tails
-      one-tail = t .rest ∙ go left lt
-        where
-          go : (k : ℕ) → 0 < k → tails (drop place s) k least most ≡ (g && tails (drop (place + 1) s) (k - 1) 0x80 0xBF)
-          go zero z = let w : ⊥ = omega arith in absurd w
-          go (suc k) z = let e : suc k - 1 ≡ k = omega arith in rw (e, hg, add-one place, drop-cons s place 0 in-text)
-
-      pub tails-other : g ≡ false → false ≡ tails (drop at s) n low high
-      tails-other q = sym (one-tail ∙ rw q)
-
-      pub tails-more : g ≡ true → Tailing s at n low high (left - 1) (place + 1) 0x80 0xBF
-      tails-more q = record { rest = one-tail ∙ rw q }
-
--- Where they stand there, the text goes on behind them; else it is none.
-tails-rest : (b : Bytes) (n low high k : ℕ) → tails b n low high ≡ true → points-rest b k (Tails n low high) ≡ points-rest (drop n b) k (Tails 0 0x80 0xBF)
-unfolding tails
-tails-rest [] zero low high k e = refl
-tails-rest (x ∷ b) zero low high k e = refl
-tails-rest [] (suc n) low high k e = cc
-tails-rest (x ∷ b) (suc n) low high k e =
-    let w = and-both (between low high x) (tails b n 0x80 0xBF) e in
-    rw (w .0) (tails-rest b n 0x80 0xBF k (w .1))
-
-tails-none : (b : Bytes) (n low high k : ℕ) → tails b n low high ≡ false → points-rest b k (Tails n low high) ≡ nothing
-unfolding tails
-tails-none b zero low high k e = cc
-tails-none [] (suc n) low high k e = refl
-tails-none (x ∷ b) (suc n) low high k e = go (tails-none b n 0x80 0xBF k) (between low high x) e
-  where
-    go : (tails b n 0x80 0xBF ≡ false → points-rest b k (Tails n 0x80 0xBF) ≡ nothing) → (t : Bool)
-        → (t && tails b n 0x80 0xBF) ≡ false → cond t (points-rest b k (Tails n 0x80 0xBF)) nothing ≡ nothing
-    go h true e = h e
-    go h false e = refl
-
-tails-le : (b : Bytes) (n low high : ℕ) → tails b n low high ≡ true → n ≤ length b
-unfolding tails
-tails-le b zero low high e = omega arith
-tails-le [] (suc n) low high e = let z : _≡_ {A = ℕ} 0 1 = cc in omega arith
-tails-le (x ∷ b) (suc n) low high e =
-    let w = and-both (between low high x) (tails b n 0x80 0xBF) e in
-    omega (arith, tails-le b n 0x80 0xBF (w .1))
-
--- The text check at place `i`: `n` characters so far, which are no more than bytes.
-pub record Counting (s : Bytes) (n i : ℕ) : Type 0 where
+-- The text check at place `i`: `n` characters so far, which are no more than bytes, and `d` tail bytes due, the next of them from `low`
+-- to `high`.
+pub record Counting (s : Bytes) (n d low high i : ℕ) : Type 0 where
   pub bytes : n ≤ i
-  pub within : i ≤ length s
-  pub rest : code-points s ≡ points-rest (drop i s) n (Tails 0 0x80 0xBF)
+  pub rest : code-points s ≡ points-rest (drop i s) n (Tails d low high)
 
-pub counting : (s : Bytes) → Counting s 0 0
+pub counting : (s : Bytes) → Counting s 0 0 0x80 0xBF 0
 unfolding code-points
-counting s = record { bytes = omega arith; within = omega arith; rest = refl }
+counting s = record { bytes = omega arith; rest = refl }
 
-module _ {s : Bytes} {n i : ℕ} (at : Counting s n i) where
-  pub all-counted : length s ≤ i → Passed n ≡ text-checked (code-points s)
+module _ {s : Bytes} {n d low high i : ℕ} (at : Counting s n d low high i) where
+  no-points : points-rest (drop i s) n (Tails d low high) ≡ nothing → NoText Text ≡ text-checked (code-points s)
   unfolding text-checked
-  all-counted le = rw (at .rest, drop-of-length-le s le)
+  no-points e = rw (at .rest, e)
 
-  module _ (lt : i < length s) where
-    one-first : code-points s ≡ points-rest (drop (i + 1) s) (n + 1) (lead (getD s i 0))
-    one-first = at .rest ∙ rw (add-one i, add-one n, drop-cons s i 0 lt)
+  -- Where no tail byte is due, a first byte.
+  module _ (lt : i < length s) (z : d ≡ 0) {l : Lead} (hl : l ≡ lead (getD s i 0)) where
+    pub first-bad : l ≡ Bad → NoText Text ≡ text-checked (code-points s)
+    first-bad q = no-points (rw (drop-cons s i 0 lt, z, ← hl, q) (bad-rest (drop (suc i) s)))
+      where
+        bad-rest : (b : Bytes) → points-rest b (suc n) Bad ≡ nothing
+        bad-rest [] = refl
+        bad-rest (x ∷ b) = refl
 
-    pub ascii-taken : getD s i 0 < 0x80 → Counting s (n + 1) (i + 1)
-    unfolding lead
-    ascii-taken h =
-        record {
-          bytes = omega (arith, at .bytes);
-          within = omega arith;
-          rest = one-first ∙ rw (le-leb 0 (getD s i 0) (omega arith), le-leb (getD s i 0) 0x7F (omega arith));
-        }
+    pub first-taken : {k from to : ℕ} → l ≡ Tails k from to → Counting s (n + 1) k from to (i + 1)
+    first-taken q =
+        record { bytes = omega (arith, at .bytes); rest = at .rest ∙ rw (add-one i, add-one n, drop-cons s i 0 lt, z, ← hl, q) }
 
-    module _ {l : Lead} (hl : l ≡ lead (getD s i 0)) where
-      pub first-bad : l ≡ Bad → NoText Text ≡ text-checked (code-points s)
-      unfolding text-checked
-      first-bad q = rw (one-first, ← hl, q, bad-rest (drop (i + 1) s))
-        where
-          bad-rest : (b : Bytes) → points-rest b (n + 1) Bad ≡ nothing
-          bad-rest [] = refl
-          bad-rest (x ∷ b) = refl
+  -- Where one is due, a byte of its range.
+  module _ (lt : i < length s) (z : d ≡ 0 → ⊥) {g : Bool} (hg : g ≡ between low high (getD s i 0)) where
+    pub tail-bad : g ≡ false → NoText Text ≡ text-checked (code-points s)
+    tail-bad q = no-points (go d z)
+      where
+        go : (d : ℕ) → (d ≡ 0 → ⊥) → points-rest (drop i s) n (Tails d low high) ≡ nothing
+        go zero z = absurd (z refl)
+        go (suc d) z = rw (drop-cons s i 0 lt, ← hg, q)
 
-      module _ {k low high : ℕ} (q : l ≡ Tails k low high) {g : Bool} (hg : g ≡ tails (drop (i + 1) s) k low high) where
-        character : code-points s ≡ points-rest (drop (i + 1) s) (n + 1) (Tails k low high)
-        character = one-first ∙ rw (← hl, q)
+    pub tail-taken : g ≡ true → Counting s n (d - 1) 0x80 0xBF (i + 1)
+    tail-taken q = record { bytes = omega (arith, at .bytes); rest = at .rest ∙ go d z }
+      where
+        go : (d : ℕ) → (d ≡ 0 → ⊥)
+            → points-rest (drop i s) n (Tails d low high) ≡ points-rest (drop (i + 1) s) n (Tails (d - 1) 0x80 0xBF)
+        go zero z = absurd (z refl)
+        go (suc d) z = let e : suc d - 1 ≡ d = omega arith in rw (add-one i, e, drop-cons s i 0 lt, ← hg, q)
 
-        pub tails-bad : not g ≡ true → NoText Text ≡ text-checked (code-points s)
-        unfolding text-checked
-        tails-bad t = rw (character, tails-none (drop (i + 1) s) k low high (n + 1) (sym hg ∙ not-true g t))
+  -- At the end no tail byte may be due.
+  module _ (le : length s ≤ i) where
+    pub all-counted : d ≡ 0 → Passed n ≡ text-checked (code-points s)
+    unfolding text-checked
+    all-counted z = rw (at .rest, drop-of-length-le s le, z)
 
-        pub tails-inside : not g ≡ false → i + 1 + k ≤ length s
-        tails-inside t =
-            let e = tails-le (drop (i + 1) s) k low high (sym hg ∙ not-false g t) in
-            let d = length-drop (i + 1) s in
-            omega (arith, e, d)
-
-        pub character-taken : not g ≡ false → Counting s (n + 1) (i + 1 + k)
-        character-taken t =
-            let behind = tails-rest (drop (i + 1) s) k low high (n + 1) (sym hg ∙ not-false g t) in
-            record { bytes = omega (arith, at .bytes); within = tails-inside t; rest = character ∙ (behind ∙ rw (drop-drop k (i + 1) s)) }
+    pub cut-short : (d ≡ 0 → ⊥) → NoText Text ≡ text-checked (code-points s)
+    cut-short z = no-points (rw (drop-of-length-le s le) (go d z))
+      where
+        go : (d : ℕ) → (d ≡ 0 → ⊥) → points-rest [] n (Tails d low high) ≡ nothing
+        go zero z = absurd (z refl)
+        go (suc d) z = refl
 
 -- What an answer of the text check tells of the number.
 pub passed-some : (o : Option ℕ) (r : TextCheck) (n : ℕ) → r ≡ text-checked o → r ≡ Passed n → o ≡ some n

@@ -1,14 +1,12 @@
 -- The check of a container in one pass, as the code goes: each entry with its payload. proofs/Passes.antt ties it to rules 5 and 6,
--- of which the first is the table's. At the end the tail bytes of one character, which proofs/Texts.antt ties to the text's.
+-- of which the first is the table's.
 use Prim.Native.Nat.{ℕ, zero, suc, _+_, _*_, _-_, _/_, _^_}
-use mathlib.Core.Bool.{Bool, true, false, cond, _&&_}
-use mathlib.Core.List.{[], _∷_}
+use mathlib.Core.Bool.{false, cond, _&&_}
 use lib.Dec.{ltb, eqb}
 use lib.ListN.{length, take, drop}
 use Rattle.layout.specs.Bytes.{Bytes}
 use Rattle.layout.specs.Answer.{Answer}
 use Rattle.layout.specs.Entry.{code-of, length-of, kind-of, entry-at, lengths}
-use Rattle.layout.specs.Text.{between}
 use Rattle.layout.specs.Tree.{Tree}
 use Rattle.layout.specs.Read.{entry-ok, payload-in}
 use Rattle.layout.specs.Place.{table-ok}
@@ -47,10 +45,3 @@ names-end s i p (suc k) =
 unfoldable pub payload-refusal : Bytes → ℕ → ℕ → Refusal → Refusal
 payload-refusal s n names r =
     cond (table-ok s names 0 n && eqb (lengths s 0 n) (length s - (4 + 4 * n))) r Layout
-
--- Whether so many tail bytes stand at the front of some bytes, the first of them from `low` to `high`: RFC 3629's rows behind their
--- first byte, as `points-rest` of Text.antt takes them.
-unfoldable pub tails : Bytes → ℕ → ℕ → ℕ → Bool
-tails b zero low high = true
-tails [] (suc n) low high = false
-tails (x ∷ b) (suc n) low high = between low high x && tails b n 0x80 0xBF

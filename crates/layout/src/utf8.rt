@@ -1,10 +1,8 @@
 // Text by RFC 3629. The Rust leaves it to its standard library.
 use crate::refusal::Refusal;
 ghost use mathlib.Core.Path.{_≡_};
-ghost use lib.ListN.{drop};
 ghost use Rattle.layout.specs.Text.{between, lead, «code-points» as codePoints, utf8, ascii};
 ghost use Rattle.layout.specs.Check.{«text-checked» as textChecked};
-ghost use Rattle.layout.specs.Pass.{tails};
 
 // How the text check ends: the number of code points, or the refusal of bytes that are no text.
 pub enum TextCheck {
@@ -74,51 +72,41 @@ pub(crate) fn is_ascii(s: &[u8]) -> bool
     greatest < 0x80
 }
 
-// Whether as many tail bytes as are due stand at a place, the first of them from `low` to `high`.
-fn are_tails(s: &[u8], at: usize, due: u8, low: u8, high: u8) -> bool
-    ensures { λ r. ⌜ r ≡ tails (drop at (now (s .entry))) due low high ⌝ }
-{
-    let mut place = at;
-    let mut left = due;
-    let mut least = low;
-    let mut most = high;
-    while 0 < left {
-        if s.len() <= place {
-            return false;
-        }
-        if !is_between(least, most, s[place]) {
-            return false;
-        }
-        place += 1;
-        left -= 1;
-        least = 0x80;
-        most = 0xbf;
-    }
-    true
-}
-
-// The code points of a text, character by character.
+// The code points of a text, character by character: `count` so far. `due` tail bytes are still to come, the next of them from `low`
+// to `high`.
 fn count_code_points(s: &[u8]) -> TextCheck
     ensures { λ r. ⌜ r ≡ textChecked (codePoints (now (s .entry))) ⌝ }
 {
     let mut count: usize = 0;
+    let mut due: u8 = 0;
+    let mut low: u8 = 0x80;
+    let mut high: u8 = 0xbf;
     let mut i = 0;
     while i < s.len() {
         let x = s[i];
-        count += 1;
         i += 1;
-        if x < 0x80 {
+        if due == 0 {
+            let Lead::Tails(n, from, to) = lead_of(x) else {
+                return TextCheck::Refused(Refusal::Text);
+            };
+            count += 1;
+            due = n;
+            low = from;
+            high = to;
             continue;
         }
-        let Lead::Tails(due, low, high) = lead_of(x) else {
-            return TextCheck::Refused(Refusal::Text);
-        };
-        if !are_tails(s, i, due, low, high) {
-            return TextCheck::Refused(Refusal::Text);
+        if is_between(low, high, x) {
+            due -= 1;
+            low = 0x80;
+            high = 0xbf;
+            continue;
         }
-        i += due as usize;
+        return TextCheck::Refused(Refusal::Text);
     }
-    TextCheck::Passed(count)
+    if due == 0 {
+        return TextCheck::Passed(count);
+    }
+    TextCheck::Refused(Refusal::Text)
 }
 
 // The number of code points of a text. Most texts are ASCII, which is told at once: there each byte is one.
