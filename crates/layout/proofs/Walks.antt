@@ -1,11 +1,11 @@
 -- Laws of the walks: a step of the code is the step of the definition, test by test.
 use Prim.Native.Nat.{ℕ, zero, suc, _+_, _*_, _-_, _^_, _≤_}
-use mathlib.Core.Path.{_≡_, refl, sym}
+use mathlib.Core.Path.{_≡_, refl, sym, _∙_}
 use mathlib.Core.Bool.{Bool, true, false, not}
 use native.Mathlib.Omega.{arith}
 use mathlib.Core.Logic.{_⊎_, inl, inr}
 use lib.ListN.{length, take, drop}
-use borrow.Author.Tests.{ne-eqb}
+use borrow.Author.Tests.{ne-eqb, not-false}
 use Rattle.layout.specs.Bytes.{Bytes, inside, word-at}
 use Rattle.layout.specs.Answer.{Answer, gives, refused, _>>=_}
 use Rattle.layout.specs.Tree.{Tree}
@@ -44,9 +44,9 @@ pub not-outside : (s : Bytes) (at n : ℕ) (g : Bool) → g ≡ inside s at n �
 not-outside s at n true hg q = inside-le s at n true hg refl
 not-outside s at n false hg q = let z : _≡_ {A = ℕ} 0 1 = cc in omega arith
 
+-- What a test has left.
 pub passed : {g b : Bool} → g ≡ b → not g ≡ false → b ≡ true
-passed {g = true} e q = sym e
-passed {g = false} e q = let z : _≡_ {A = ℕ} 0 1 = cc in let w : ⊥ = omega arith in absurd w
+passed {g = g} e q = sym e ∙ not-false g q
 
 -- What is handed out of an entry, by its code and by the text check.
 module _ (s : Bytes) (w place code : ℕ) (hc : code ≡ code-of w) where

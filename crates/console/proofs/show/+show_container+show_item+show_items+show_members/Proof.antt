@@ -182,7 +182,8 @@ show-items-show-item-requires t c κs =
 
 show-items-add-index : (t : ℕ) → show-items-lts.Need-add-index (show-items-claims t) (show-items-at t) show-items.Post show-items-Inv-loop show-items-μ-loop
 show-items-add-index t c =
-    let item = c .before .before .before .before .before in
+    let told = c .before .before .before .before in
+    let item = told .before in
     let next = item .before .before in
     let head = next .before .before in
     omega (arith, head .loop .inv, next .before .loop-test .taken, head .before .known-told .given)

@@ -73,7 +73,9 @@ add-t24 c =
     omega (arith, to-start room .good, inside-le _ _ _ _ refl (at-member room .val-inside))
 
 sub-t25 : tie.Need-sub-t25
-sub-t25 c = let told = c .before .before .before .before in omega (arith, to-start (to-room (told .before)) .pre)
+sub-t25 c =
+    let first-place = c .before .before .before .before in
+    omega (arith, to-start (to-room (first-place .before)) .pre)
 
 returns-3 : tie.Need-returns-3
 returns-3 c =
@@ -89,7 +91,8 @@ returns-4 c =
 
 returns-5 : tie.Need-returns-5
 returns-5 c =
-    let told = c .before .before .before .before .before in
+    let first-place = c .before .before .before .before in
+    let told = first-place .before in
     let val = to-val told in
     let named = val .before .before in
     let key = to-key val in
