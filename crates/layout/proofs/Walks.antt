@@ -105,10 +105,15 @@ pub record AtItem (s : Bytes) (w : ArrayIterator) (e l : ℕ) : Type 0 where
   pub length-is : l ≡ length-of e
   pub payload-inside : inside s (w .«item_offset») l ≡ true
 
-module _ {s : Bytes} {w : ArrayIterator} {e l : ℕ} (at : AtItem s w e l) {h : Handed} (hh : h ≡ handed (item-at s e (w .«item_offset»))) where
-  pub array-bad : {r : Refusal} → h ≡ NotHanded r → Refused r ≡ array-step s w
-  unfolding array-step ends-with
-  array-bad {r = r} v =
+module _ {s : Bytes} {w : ArrayIterator} {e l : ℕ} (at : AtItem s w e l) where
+  abbrev next-walk : ArrayIterator
+  next-walk =
+      record { «jentry_offset» = w .«jentry_offset» + 4; «item_offset» = w .«item_offset» + l; remaining = w .remaining - 1 }
+
+  -- What is handed out decides.
+  at-item : array-step s w ≡ ends-with (λ i. Item i next-walk) Refused (item-at s e (w .«item_offset»))
+  unfolding array-step
+  at-item =
       rw (
         ne-eqb (w .remaining) 0 (at .left),
         at .entry-inside,
@@ -116,26 +121,16 @@ module _ {s : Bytes} {w : ArrayIterator} {e l : ℕ} (at : AtItem s w e l) {h : 
         at .entry-legal,
         ← at .length-is,
         at .payload-inside,
-        handed-refusal (item-at s e (w .«item_offset»)) h r hh v,
       )
 
-  pub array-item : {i : JsonbItem} → h ≡ HandedItem i
-      → Item i (record {
-        «jentry_offset» = w .«jentry_offset» + 4;
-        «item_offset» = w .«item_offset» + l;
-        remaining = w .remaining - 1;
-      }) ≡ array-step s w
-  unfolding array-step ends-with
-  array-item {i = i} v =
-      rw (
-        ne-eqb (w .remaining) 0 (at .left),
-        at .entry-inside,
-        ← at .entry-is,
-        at .entry-legal,
-        ← at .length-is,
-        at .payload-inside,
-        handed-item (item-at s e (w .«item_offset»)) h i hh v,
-      )
+  module _ {h : Handed} (hh : h ≡ handed (item-at s e (w .«item_offset»))) where
+    pub array-bad : {r : Refusal} → h ≡ NotHanded r → Refused r ≡ array-step s w
+    unfolding ends-with
+    array-bad {r = r} v = rw (at-item, handed-refusal (item-at s e (w .«item_offset»)) h r hh v)
+
+    pub array-item : {i : JsonbItem} → h ≡ HandedItem i → Item i next-walk ≡ array-step s w
+    unfolding ends-with
+    array-item {i = i} v = rw (at-item, handed-item (item-at s e (w .«item_offset»)) h i hh v)
 
 -- A step over an object whose name and value, of `l` and `m` bytes by their entries `k` and `v`, lie in the slice.
 pub record AtMember (s : Bytes) (w : ObjectIterator) (k v l m : ℕ) : Type 0 where
@@ -144,50 +139,37 @@ pub record AtMember (s : Bytes) (w : ObjectIterator) (k v l m : ℕ) : Type 0 wh
   pub val-length : m ≡ length-of v
   pub val-inside : inside s (w .«val_offset») m ≡ true
 
-module _ {s : Bytes} {w : ObjectIterator} {k v l m : ℕ} (at : AtMember s w k v l m)
-    {g : Handed} (hg : g ≡ handed (item-at s k (w .«key_offset»))) where
-  pub name-bad : {x : Refusal} → g ≡ NotHanded x → RefusedMember x ≡ member-step s w k v
-  unfolding member-step member-at ends-with _>>=_
-  name-bad {x = x} t =
-      rw (
-        ← at .key-length,
-        at .key-inside,
-        ← at .val-length,
-        at .val-inside,
-        handed-refusal (item-at s k (w .«key_offset»)) g x hg t,
-      )
+module _ {s : Bytes} {w : ObjectIterator} {k v l m : ℕ} (at : AtMember s w k v l m) where
+  abbrev next-member-walk : ObjectIterator
+  next-member-walk =
+      record {
+        «key_jentry_offset» = w .«key_jentry_offset» + 4;
+        «val_jentry_offset» = w .«val_jentry_offset» + 4;
+        «key_offset» = w .«key_offset» + l;
+        «val_offset» = w .«val_offset» + m;
+        remaining = w .remaining - 1;
+      }
 
-  module _ {i : JsonbItem} (t : g ≡ HandedItem i) {h : Handed} (hh : h ≡ handed (item-at s v (w .«val_offset»))) where
-    pub value-bad : {x : Refusal} → h ≡ NotHanded x → RefusedMember x ≡ member-step s w k v
-    unfolding member-step member-at ends-with _>>=_
-    value-bad {x = x} c =
-        rw (
-          ← at .key-length,
-          at .key-inside,
-          ← at .val-length,
-          at .val-inside,
-          handed-item (item-at s k (w .«key_offset»)) g i hg t,
-          handed-refusal (item-at s v (w .«val_offset»)) h x hh c,
-        )
+  at-member : member-step s w k v ≡ ends-with (λ m. Member m next-member-walk) RefusedMember (member-at s w k v)
+  unfolding member-step
+  at-member = rw (← at .key-length, at .key-inside, ← at .val-length, at .val-inside)
 
-    pub member-both : {j : JsonbItem} → h ≡ HandedItem j
-        → Member (record { key = i; val = j }) (record {
-          «key_jentry_offset» = w .«key_jentry_offset» + 4;
-          «val_jentry_offset» = w .«val_jentry_offset» + 4;
-          «key_offset» = w .«key_offset» + l;
-          «val_offset» = w .«val_offset» + m;
-          remaining = w .remaining - 1;
-        }) ≡ member-step s w k v
-    unfolding member-step member-at ends-with _>>=_
-    member-both {j = j} c =
-        rw (
-          ← at .key-length,
-          at .key-inside,
-          ← at .val-length,
-          at .val-inside,
-          handed-item (item-at s k (w .«key_offset»)) g i hg t,
-          handed-item (item-at s v (w .«val_offset»)) h j hh c,
-        )
+  module _ {g : Handed} (hg : g ≡ handed (item-at s k (w .«key_offset»))) where
+    pub name-bad : {x : Refusal} → g ≡ NotHanded x → RefusedMember x ≡ member-step s w k v
+    unfolding member-at ends-with _>>=_
+    name-bad {x = x} t = rw (at-member, handed-refusal (item-at s k (w .«key_offset»)) g x hg t)
+
+    module _ {i : JsonbItem} (t : g ≡ HandedItem i) {h : Handed} (hh : h ≡ handed (item-at s v (w .«val_offset»))) where
+      key-is : item-at s k (w .«key_offset») ≡ gives i
+      key-is = handed-item (item-at s k (w .«key_offset»)) g i hg t
+
+      pub value-bad : {x : Refusal} → h ≡ NotHanded x → RefusedMember x ≡ member-step s w k v
+      unfolding member-at ends-with _>>=_
+      value-bad {x = x} c = rw (at-member, key-is, handed-refusal (item-at s v (w .«val_offset»)) h x hh c)
+
+      pub member-both : {j : JsonbItem} → h ≡ HandedItem j → Member (record { key = i; val = j }) next-member-walk ≡ member-step s w k v
+      unfolding member-at ends-with _>>=_
+      member-both {j = j} c = rw (at-member, key-is, handed-item (item-at s v (w .«val_offset»)) h j hh c)
 
 module _ (s : Bytes) (w : ObjectIterator) where
   module _ (k v l : ℕ) (hl : l ≡ length-of k) (p : Bool) (hp : p ≡ inside s (w .«key_offset») l) where
