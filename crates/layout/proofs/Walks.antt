@@ -12,9 +12,10 @@ use Rattle.layout.specs.Tree.{Tree}
 use Rattle.layout.specs.Text.{code-points}
 use Rattle.layout.specs.Check.{checked, text-checked}
 use Rattle.layout.specs.Entry.{code-of, length-of, entry-at, lengths, entry-good}
-use Rattle.layout.specs.Walk.{item-of, counted, characters-of, item-at, handed, ends-with, array-step, member-at, member-step, object-step}
+use Rattle.layout.specs.Walk.{item-of, counted, characters-of, item-at, ends-with, array-step, member-at, member-step, object-step}
 use Rattle.layout.specs.Walk.{array-walk, object-walk, opening, array-opened, object-opened}
 use Rattle.layout.specs.Parts.{first-part, members-of}
+use Rattle.layout.specs.Pass.{handed}
 use Rattle.layout.proofs.Fields.{inside-le, length-lt}
 use Rattle.layout.proofs.Texts.{passed-some, refused-none}
 use Rattle.layout.specs.declared.refusal.Refusal.{Refusal}
@@ -41,8 +42,7 @@ use Rattle.layout.specs.declared.iterator.ObjectStep.the-variants.{Membe
 
 -- What the test of a place has left: the bytes lie in the slice, so their end fits a machine word.
 pub not-outside : (s : Bytes) (at n : ℕ) (g : Bool) → g ≡ inside s at n → not g ≡ false → at + n ≤ length s
-not-outside s at n true hg q = inside-le s at n true hg refl
-not-outside s at n false hg q = let z : _≡_ {A = ℕ} 0 1 = cc in omega arith
+not-outside s at n g hg q = inside-le s at n g hg (not-false g q)
 
 -- What a test has left.
 pub passed : {g b : Bool} → g ≡ b → not g ≡ false → b ≡ true

@@ -24,7 +24,7 @@ abbrev pub encoded : List ℕ → Bytes
 encoded [] = []
 encoded (c ∷ cs) = octet-sequence c ++ encoded cs
 
--- "The range U+0000..U+10FFFF"; "the definition of UTF-8 prohibits encoding character numbers between U+D800 and U+DFFF".
+-- "Characters from the U+0000..U+10FFFF range"; "the definition of UTF-8 prohibits encoding character numbers between U+D800 and U+DFFF".
 abbrev pub CodePoints : List ℕ → Type 0
 CodePoints [] = Unit {0}
 CodePoints (c ∷ cs) = (c < 0x110000) × ((c < 0xD800) ⊎ (0xDFFF < c)) × CodePoints cs

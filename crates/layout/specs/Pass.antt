@@ -1,5 +1,5 @@
 -- The check of a container in one pass, as the code goes: each entry with its payload. proofs/Passes.antt ties it to rules 5 and 6,
--- of which the first is the table's.
+-- of which the first is the table's. At the end what a walk hands out, as `hand_out` answers it.
 use Prim.Native.Nat.{ℕ, zero, suc, _+_, _*_, _-_, _/_, _^_}
 use mathlib.Core.Bool.{false, cond, _&&_}
 use lib.Dec.{ltb, eqb}
@@ -15,6 +15,10 @@ use Rattle.layout.specs.declared.refusal.Refusal.{Refusal}
 use Rattle.layout.specs.declared.refusal.Refusal.the-variants.{Layout}
 use Rattle.layout.specs.declared.check.Check.{Check}
 use Rattle.layout.specs.declared.check.Check.the-variants.{Readable, Refused}
+use Rattle.layout.specs.Walk.{ends-with}
+use Rattle.layout.specs.declared.item.JsonbItem.{JsonbItem}
+use Rattle.layout.specs.declared.iterator.Handed.{Handed}
+use Rattle.layout.specs.declared.iterator.Handed.the-variants.{Item as HandedItem, Refused as NotHanded}
 use Rattle.layout.specs.declared.check.NamesEnd.{NamesEnd}
 use Rattle.layout.specs.declared.check.NamesEnd.the-variants.{At, Bad}
 
@@ -45,3 +49,7 @@ names-end s i p (suc k) =
 unfoldable pub payload-refusal : Bytes → ℕ → ℕ → Refusal → Refusal
 payload-refusal s n names r =
     cond (table-ok s names 0 n && eqb (lengths s 0 n) (length s - (4 + 4 * n))) r Layout
+
+-- What is handed out of an entry, `item-at` of Walk.antt.
+abbrev pub handed : Answer JsonbItem → Handed
+handed a = ends-with HandedItem NotHanded a

@@ -31,8 +31,6 @@ use Rattle.layout.specs.declared.iterator.ArrayStep.the-variants.{Item, 
 use Rattle.layout.specs.declared.iterator.ObjectIterator.{ObjectIterator}
 use Rattle.layout.specs.declared.iterator.ObjectOpen.{ObjectOpen}
 use Rattle.layout.specs.declared.iterator.ObjectOpen.the-variants.{Opened as OpenedObject, Absent as NoObject, Refused as NotOpenedObject}
-use Rattle.layout.specs.declared.iterator.Handed.{Handed}
-use Rattle.layout.specs.declared.iterator.Handed.the-variants.{Item as HandedItem, Refused as NotHanded}
 use Rattle.layout.specs.declared.iterator.ObjectMember.{ObjectMember}
 use Rattle.layout.specs.declared.iterator.ObjectStep.{ObjectStep}
 use Rattle.layout.specs.declared.iterator.ObjectStep.the-variants.{Member, End as NoMember, Refused as RefusedMember}
@@ -156,10 +154,6 @@ object-opened s (NoHeader r) = NoObject
 
 abbrev pub object-open : Bytes → ObjectOpen
 object-open s = opening NotOpenedObject (object-opened s) (read s) (header s)
-
--- What `hand_out` answers.
-abbrev pub handed : Answer JsonbItem → Handed
-handed a = ends-with HandedItem NotHanded a
 
 -- The part of the record that an item names.
 abbrev pub part-of : Bytes → JsonbItem → Part
