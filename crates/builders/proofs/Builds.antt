@@ -55,6 +55,7 @@ use Rattle.builders.specs.declared.join.Given.the-variants.{Table}
 use Rattle.layout.specs.declared.parts.Places.{Places}
 use Rattle.builders.proofs.InOrders.{rising-in-order, rising-distinct, in-order-count, in-order-names, in-order-size, in-order-depth}
 use Rattle.builders.proofs.Searches.{kept-all}
+use Rattle.layout.proofs.Patches.{patch-none}
 use Rattle.builders.proofs.Stands.{Stand, stand-sorted, stand-from}
 use Rattle.builders.proofs.Weaves.{woven-record, entries-append}
 use Rattle.builders.proofs.Joins.{Gives, few, count-table}
@@ -318,6 +319,12 @@ module _ (ks vs : Bytes) (n : ℕ) (ts us : Items) (kk : Known ks (array ts)) (k
         sorted-refused x q =
             ends _ o _ distinct-ns refl (sized-refused (encode (object (in-order ms))) o room len (el ∙ result-length) serves hs x q)
 
+        -- Lent no bytes, nothing is stored.
+        pub sorted-measured : serves ≡ Serves → length o ≡ 0 → EndedIn (Done len) o o (on-two build ks vs room)
+        sorted-measured qs h =
+            let b = encode (object (in-order ms)) in
+            ends _ o _ distinct-ns refl (sized-done b o room len (el ∙ result-length) serves hs o qs (patch-none o 0 b h))
+
         pub sorted-done : (w : ℕ) (o₁ o₂ : Bytes) → serves ≡ Serves → w ≡ bitOr (2 ^ 30) n → o₁ ≡ patch o 0 (be32 w)
             → o₂ ≡ woven (name-in ks) (value-in vs) own-entry o₁ 4 (4 + 4 * n) (4 + 4 * n + 4 * n) (length ks + 4 * n)
             (sorted (name-in ks) (members-at ks vs from n))
@@ -398,6 +405,11 @@ module _ {ks vs : Bytes} {n : ℕ} (p : Paired ks vs n) where
       pub pairs-refused : (x : Refusal) → serves ≡ NoRoom x → On (Refused x) o
       pairs-refused =
           sorted-refused ks vs n (keys-known .0) (vals-known .0) (keys-known .1) (vals-known .1) (keys-known .2) (vals-known .2)
+          (p .pairs .strings) o room dist len el serves hs
+
+      pub pairs-measured : serves ≡ Serves → length o ≡ 0 → On (Done len) o
+      pairs-measured =
+          sorted-measured ks vs n (keys-known .0) (vals-known .0) (keys-known .1) (vals-known .1) (keys-known .2) (vals-known .2)
           (p .pairs .strings) o room dist len el serves hs
 
       pub pairs-done : (w : ℕ) (o₁ o₂ : Bytes) → serves ≡ Serves → w ≡ bitOr (2 ^ 30) n → o₁ ≡ patch o 0 (be32 w)

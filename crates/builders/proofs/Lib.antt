@@ -15,5 +15,6 @@ pub mod Twos
 pub mod Knowns
 pub mod Appends
 pub mod Builds
+pub mod Refusals
 pub mod Results
 pub mod BuildCases

@@ -73,7 +73,7 @@ pub fn append(array: &[u8], item: &[u8], out: &mut [u8]) -> Ending
 }
 
 // Stores the object of n members with distinct names, in byte order of the names, where there is room for it. It is as long as
-// both records less one header.
+// both records less one header; lent no bytes, the names are not searched for.
 fn write_sorted(names: &[u8], values: &[u8], n: usize, out: &mut [u8], room: usize) -> Ending
     requires { ⌜ Pairs (now names) (now values) n × (distinct (texts (partsOf (now names) n)) ≡ true) ⌝ }
     ensures { λ e. ⌜ EndedIn e (now (out .entry)) (now (out .exit)) (onTwo build (now (names .entry)) (now (values .entry)) room) ⌝ }
@@ -81,6 +81,9 @@ fn write_sorted(names: &[u8], values: &[u8], n: usize, out: &mut [u8], room: usi
     let len = names.len() + (values.len() - HEADER_SIZE);
     if let Room::Refused(refusal) = check_room(len, room) {
         return Ending::Refused(refusal);
+    }
+    if out.len() == 0 {
+        return Ending::Done(len);
     }
     let start = HEADER_SIZE + JENTRY_SIZE * n;
     let from = Places {

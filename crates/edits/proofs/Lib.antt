@@ -49,6 +49,7 @@ pub mod Merges
 pub mod Walks
 pub mod Overlays
 pub mod ConcatWrites
+pub mod Refusals
 pub mod PathResults
 pub mod OperatorResults
 pub mod Limited

@@ -20,7 +20,7 @@ use Rattle.layout.specs.declared.refusal.Refusal.{Refusal}
 use Rattle.layout.specs.declared.refusal.Refusal.the-variants.{Repeated}
 use Rattle.layout.specs.declared.ending.Ending.{Ending}
 use Rattle.layout.specs.declared.ending.Ending.the-variants.{Done, Refused}
-use Rattle.layout.proofs.Patches.{length-patch, patch-empty}
+use Rattle.layout.proofs.Patches.{length-patch, patch-empty, patch-none}
 use Rattle.layout.proofs.Readables.{reads, size-payload}
 use Rattle.builders.specs.Order.{distinct, in-order, follow}
 use Rattle.layout.specs.Parts.{texts, name-in, value-in, members-at}
@@ -184,6 +184,15 @@ module _ {l : Bytes} {m : ℕ} {r : Bytes} {n : ℕ} (s : Overlaid l m r n) wher
       overlay-refused {x} hx {y} p =
           rw (untouched he o)
           (sized-ends (Refused y) o (sized-refused result o room (length-by end) (measured he) x hx y p))
+
+      -- Lent no bytes, nothing is stored.
+      pub overlay-measured : {x : Room} → x ≡ room-for (length-by end) room → x ≡ Serves → length (e ++ o) ≡ 0
+          → EndedIn (Done (length-by end)) o (e ++ o) (on-two concat l r room)
+      overlay-measured {x} hx p h =
+          let none : length o ≡ 0 = rw (untouched he o) at h in
+          rw (untouched he o)
+          (sized-ends (Done (length-by end)) o
+          (sized-done result o room (length-by end) (measured he) x hx o p (patch-none o 0 result none)))
 
       -- What the header and the second run of the writer stored.
       module _ {v : ℕ} {to after : Places} {o₁ o₂ : Bytes} (ev : v ≡ bitOr (2 ^ 30) (end .«key_jentry» / 4))

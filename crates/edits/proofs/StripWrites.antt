@@ -27,7 +27,7 @@ use Rattle.layout.specs.declared.ending.Ending.the-variants.{Done, Refused}
 use Rattle.layout.proofs.Answers.{gives-inj}
 use Rattle.layout.proofs.Decoding.{container-encode}
 use Rattle.layout.proofs.Nestings.{head-of, refused-as}
-use Rattle.layout.proofs.Patches.{patch-empty, in-short, in-full}
+use Rattle.layout.proofs.Patches.{patch-empty, patch-none, in-short, in-full}
 use Rattle.layout.specs.Pipeline.{found, written, on-record, alone}
 use Rattle.layout.proofs.Pipelines.{found-written, record-fits}
 use Rattle.builders.proofs.Knowns.{Known}
@@ -66,6 +66,14 @@ module _ (s o : Bytes) (room : ℕ) (e : Bytes) (r : Stripped) (d : Strips r (un
     pub strip-no-room : room < len → EndedIn (Refused Buffer) o (e ++ o) (strip-out s room)
     unfolding strip-out
     strip-no-room h = rw (told .0, untouched) (in-short (stripped-of s) o room (omega (arith, told .1, h)))
+
+    -- Lent no bytes, nothing is stored.
+    pub strip-measured : len ≤ room → length (e ++ o) ≡ 0 → EndedIn (Done len) o (e ++ o) (strip-out s room)
+    unfolding strip-out
+    strip-measured h l =
+        let b = stripped-of s in
+        let none : length o ≡ 0 = rw untouched at l in
+        rw (told .0, untouched) (in-full b o room o len (omega (arith, told .1, h)) (told .1) (patch-none o 0 b none))
 
     pub strip-has-room : (r₂ : Stripped) (o′ : Bytes) → len ≤ room → Strips r₂ (unrepeated-of s) (stripped-of s) o′ (patch (e ++ o) 0 (stripped-of s))
         → EndedIn (Done len) o o′ (strip-out s room)

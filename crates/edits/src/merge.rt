@@ -207,7 +207,7 @@ fn put_both(
 }
 
 // Writes two objects, of m and n members, as one, where no name is repeated on the right and there is room for it. It is measured
-// first, on no bytes.
+// first, on no bytes; lent none, that is all.
 pub(crate) fn write_merged(
     left: &[u8],
     m: usize,
@@ -238,6 +238,9 @@ pub(crate) fn write_merged(
         let len = HEADER_SIZE + JENTRY_SIZE * (sizes.count + sizes.count) + sizes.keys + sizes.vals;
         if let Room::Refused(refusal) = check_room(len, room) {
             return Ending::Refused(refusal);
+        }
+        if out.len() == 0 {
+            return Ending::Done(len);
         }
         put_u32(out, 0, OBJECT_CONTAINER_TAG | sizes.count as u32);
         put_both(are_rising, left, m, right, n, out, places_for(sizes, 0));

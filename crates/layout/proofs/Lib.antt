@@ -13,6 +13,7 @@ pub mod Decoding
 pub mod Encoding
 pub mod Readables
 pub mod Pipelines
+pub mod Refusals
 pub mod Cases
 pub mod ReadCases
 pub mod Values

@@ -51,6 +51,11 @@ unfolding patch
 patch-empty at [] = refl
 patch-empty at (b ∷ bs) = patch-empty (suc at) bs
 
+-- The same of one that is known by its length.
+pub patch-none : (o : List ℕ) (at : ℕ) (bs : List ℕ) → length o ≡ 0 → o ≡ patch o at bs
+patch-none [] at bs h = sym (patch-empty at bs)
+patch-none (x ∷ o) at bs h = let z : ⊥ = omega arith in absurd z
+
 -- A store before a patch and one after it commute.
 pub set-patch : (o : List ℕ) (i x p : ℕ) (bs : List ℕ) → i < p → patch (set o i x) p bs ≡ set (patch o p bs) i x
 unfolding patch

@@ -5,7 +5,7 @@ use mathlib.Core.Path.{_≡_, refl, ap₂}
 use mathlib.Core.Bool.{_&&_}
 use Rattle.layout.proofs.Words.{octets-of}
 use Rattle.edits.proofs.Overlays.{Overlaid, length-by, few-members, measured-short, measured-near}
-use Rattle.edits.proofs.Overlays.{overlay-repeated, overlay-refused, overlay-length, overlay-done}
+use Rattle.edits.proofs.Overlays.{overlay-repeated, overlay-refused, overlay-measured, overlay-length, overlay-done}
 use borrow.Author.Needs.{needs}
 use Rattle.edits.proofs.merge.write_merged.Statement.{statement}
 use Rattle.edits.proofs.merge.write_merged.Tie as tie
@@ -28,7 +28,7 @@ abbrev to-sizes : tie.After-enum-told → tie.After-struct-known2
 to-sizes c = let asked = c .before .before in asked .before .before .before
 
 abbrev to-served : tie.After-put-u32 → tie.After-enum-told
-to-served c = c .before .before .before
+to-served c = let stores = c .before .before .before in stores .before
 
 abbrev to-header : tie.After-places-for → tie.After-put-u32
 to-header c = c .before .before .before .before
@@ -120,8 +120,16 @@ returns c =
     overlay-refused (overlaid (to-entry distinct)) (distinct .before .is-distinct .ensures) (distinct .if1 .taken)
     (measured .put-both .ensures) _ _ (asked .check-room .ensures) (c .before .refusal .given .1)
 
+returns-2 : tie.Need-returns-2
+returns-2 c =
+    let served = c .before in
+    let measured = to-measured (to-sizes served) in
+    let distinct = to-distinct measured in
+    overlay-measured (overlaid (to-entry distinct)) (distinct .before .is-distinct .ensures) (distinct .if1 .taken)
+    (measured .put-both .ensures) _ _ (served .before .before .check-room .ensures) (served .enum-told .given .1) (c .if2 .taken)
+
 cast-put-u32 : tie.Need-cast-put-u32
-cast-put-u32 c = omega (arith, short (to-measured (to-sizes (c .before .before))))
+cast-put-u32 c = let stores = c .before .before in omega (arith, short (to-measured (to-sizes (stores .before))))
 
 places-for-requires : tie.Need-places-for-requires
 places-for-requires c κs =
@@ -137,8 +145,8 @@ put-both-requires-2 c κs =
     let near = measured-near (overlaid e) (measured .put-both .ensures) (c .places-for .ensures) in
     (start e .pre, ap₂ _&&_ (left .is-rising .ensures) (right .is-rising2 .ensures), near .0, near .1, near .2, near .3)
 
-same-length-2 : tie.Need-same-length-2
-same-length-2 c =
+same-length-3 : tie.Need-same-length-3
+same-length-3 c =
     let stored = c .before .before in
     let placed = stored .before in
     let header = to-header placed in
@@ -147,8 +155,8 @@ same-length-2 c =
     overlay-length (overlaid (to-entry distinct)) (distinct .before .is-distinct .ensures) (distinct .if1 .taken)
     (measured .put-both .ensures) _ 0 refl (header .put-u32 .ensures) (placed .places-for .ensures) (stored .put-both2 .ensures)
 
-returns-2 : tie.Need-returns-2
-returns-2 c =
+returns-3 : tie.Need-returns-3
+returns-3 c =
     let stored = c .before .before in
     let placed = stored .before in
     let header = to-header placed in
@@ -159,8 +167,8 @@ returns-2 c =
     (measured .put-both .ensures) _ _ refl (header .put-u32 .ensures) (placed .places-for .ensures) (stored .put-both2 .ensures)
     (served .before .before .check-room .ensures) (served .enum-told .given .1)
 
-returns-3 : tie.Need-returns-3
-returns-3 c =
+returns-4 : tie.Need-returns-4
+returns-4 c =
     let asked = c .before in
     overlay-repeated (overlaid (asked .before)) (asked .is-distinct .ensures) (c .if1 .left) _
 
@@ -194,10 +202,12 @@ write-merged-spec =
     (λ c. search needs)
     returns
     (λ c. search needs)
+    (λ c. search needs)
+    returns-2
     cast-put-u32
     (λ c κs. search needs)
     places-for-requires
     put-both-requires-2
-    same-length-2
-    returns-2
-    returns-3)
+    same-length-3
+    returns-3
+    returns-4)

@@ -1,7 +1,7 @@
 -- `edits::strip::write_stripped` meets its contract.
 use native.Mathlib.Omega.{arith}
 use Rattle.edits.specs.Stripping.{Strippable}
-use Rattle.edits.proofs.StripWrites.{whole-strips, strip-repeated, strip-no-room, strip-has-room}
+use Rattle.edits.proofs.StripWrites.{whole-strips, strip-repeated, strip-no-room, strip-measured, strip-has-room}
 use borrow.Author.Needs.{needs}
 use Rattle.edits.proofs.strip.write_stripped.Statement.{statement}
 use Rattle.edits.proofs.strip.write_stripped.Tie as tie
@@ -32,15 +32,25 @@ returns-2 c =
     let a = start (measured .before) .args in
     strip-no-room (a .s .now) (a .out .now) (a .room) _ _ (measured .put-stripped .ensures) _ (told .len .given .1) (c .if1 .taken)
 
-put-stripped-requires-2 : tie.Need-put-stripped-requires-2
-put-stripped-requires-2 c κs =
-    let told = c .before .before .before in
-    (strips (to-measured told .before), omega arith)
-
 returns-3 : tie.Need-returns-3
 returns-3 c =
+    let serves = c .before in
+    let told = serves .before .before in
+    let measured = to-measured told in
+    let a = start (measured .before) .args in
+    strip-measured (a .s .now) (a .out .now) (a .room) _ _ (measured .put-stripped .ensures) _ (told .len .given .1)
+    (serves .if1 .left) (c .if2 .taken)
+
+put-stripped-requires-2 : tie.Need-put-stripped-requires-2
+put-stripped-requires-2 c κs =
+    let serves = c .before .before in
+    let told = serves .before .before in
+    (strips (to-measured told .before), omega arith)
+
+returns-4 : tie.Need-returns-4
+returns-4 c =
     let stored = c .before .before in
-    let serves = stored .before .before in
+    let serves = stored .before .before .before in
     let told = serves .before .before in
     let measured = to-measured told in
     let a = start (measured .before) .args in
@@ -61,6 +71,8 @@ write-stripped-spec =
     returns
     (λ c. search needs)
     returns-2
+    (λ c. search needs)
+    returns-3
     put-stripped-requires-2
     (λ c. search needs)
-    returns-3)
+    returns-4)

@@ -1,0 +1,2 @@
+// What an edit would do: document 02 §3.
+pub mod preview;
