@@ -1,7 +1,4 @@
 -- Which numbers append and object build can have, beside those of reading: 7 and 8.
-use mathlib.Core.List.{_∷_}
-use lib.Dec.{eqb}
-use Rattle.layout.specs.Answer.{gives, _>>=_}
 use Rattle.layout.specs.Tree.{Tree, null, boolean, number, string, extension, array, object, Items, none, item}
 use Rattle.layout.specs.declared.refusal.Refusal.{Refusal}
 use Rattle.layout.specs.declared.refusal.Refusal.the-variants.{Kind, Repeated}

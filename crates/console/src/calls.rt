@@ -1,12 +1,14 @@
 // The calls of the console.
 use crate::chars::chars_record;
-use crate::grade::answer_grade;
-use crate::grade::answer_same;
 use crate::hex::RECORD_ROOM;
 use crate::hex::decode;
 use crate::make::answer_make;
 use crate::make::answer_number;
+use crate::pair::Pair;
+use crate::pair::answer_pair;
 use crate::pointer::answer_pointer;
+use crate::preview::answer_preview;
+use crate::preview::say_preview;
 use crate::run::answer_run;
 use crate::say::say;
 use crate::say::say_fault;
@@ -25,6 +27,7 @@ use layout::sound::Soundness;
 use layout::sound::check_sound;
 use layout::util::byte;
 use layout::util::slice;
+use previews::preview::preview_strip;
 use runs::call::Edit;
 
 fn say_check(record: &[u8]) {
@@ -42,12 +45,13 @@ fn say_sound(record: &[u8]) {
     }
 }
 
-// The calls that take one record.
-enum Call {
+// The calls that take one record and write no result.
+pub(crate) enum Call {
     Check,
     Sound,
     Show,
     Chars,
+    PreviewStrip,
 }
 
 fn answer_record(call: Call, record: &[u8]) {
@@ -56,11 +60,12 @@ fn answer_record(call: Call, record: &[u8]) {
         Call::Sound => say_sound(record),
         Call::Show => show_record(record),
         Call::Chars => chars_record(record),
+        Call::PreviewStrip => say_preview(preview_strip(record)),
     }
 }
 
 // Takes the one argument of a call, or says why it is none.
-fn answer_one(call: Call, text: &[u8]) {
+pub(crate) fn answer_one(call: Call, text: &[u8]) {
     if count_arguments(text) != 1 {
         return say(b"? this call takes one record\n");
     }
@@ -117,11 +122,14 @@ fn answer_other(word: &[u8], rest: &[u8]) {
     if is_same_bytes(word, b"pointer") {
         return answer_pointer(rest);
     }
+    if is_same_bytes(word, b"preview") {
+        return answer_preview(rest);
+    }
     if is_same_bytes(word, b"grade") {
-        return answer_grade(rest);
+        return answer_pair(Pair::Grade, rest);
     }
     if is_same_bytes(word, b"same") {
-        return answer_same(rest);
+        return answer_pair(Pair::Same, rest);
     }
     if is_same_bytes(word, b"make") {
         return answer_make(rest);
@@ -138,7 +146,7 @@ fn answer_other(word: &[u8], rest: &[u8]) {
     say(
         b"? there is no such call; there are check, sound, show, chars, get, pointer, delete, concat, strip, ",
     );
-    say(b"append, build, grade, same, make, number, step and run\n");
+    say(b"append, build, preview, grade, same, make, number, step and run\n");
 }
 
 // The answer to a line, which comes without its end.

@@ -13,6 +13,8 @@
 //   strip R            result HEX, or refused N WORDS: the record R without the members whose value is null, at every level
 //   append A ; R       result HEX, or refused N WORDS: the record R, as one item, at the end of the array A
 //   build N ; V        result HEX, or refused N WORDS: an object of the names in the array N with the values in the array V
+//   preview EDIT ..    length N, or refused N WORDS: what delete, concat, strip, append or build would give, written as above but
+//                      without the buffer's length
 //   grade CANDIDATE ; EXPECTED
 //                      right, other bytes, same value, other value, or damaged N WORDS: whether two records are the same, or have
 //                      one value
@@ -43,7 +45,9 @@ mod decimal;
 mod grade;
 mod hex;
 mod make;
+mod pair;
 mod pointer;
+mod preview;
 mod run;
 mod say;
 mod shelf;

@@ -6,7 +6,7 @@ use lib.Dec.{ltb}
 use lib.IntN.{ℤ}
 use lib.Signed.{mag}
 use Rattle.layout.specs.Bytes.{Bytes}
-use Rattle.layout.specs.Answer.{Answer, gives, refused, _>>=_}
+use Rattle.layout.specs.Answer.{Answer, gives, refused}
 use Rattle.layout.specs.Number.{decoded}
 use Rattle.layout.specs.Tree.{Tree, null, boolean, number, string, extension, array, object, Items, none, item, Members}
 use Rattle.layout.specs.Read.{read}

@@ -40,6 +40,10 @@ number-range Pointer = (omega arith, omega arith)
 pub ended-c : (e : Ending) (o o′ : Bytes) (x : Outcome) → Ended e o o′ x → (r : ℕ) → r ≡ c-ending e → EndedC r o o′ x
 ended-c e o o′ x h r q = record { answer = q ∙ ap c-ending (h .answer); bytes = h .bytes }
 
+-- The same of a call that writes nothing.
+pub told-c : {e x : Ending} {r : ℕ} → e ≡ x → r ≡ c-ending e → r ≡ c-ending x
+told-c h q = q ∙ ap c-ending h
+
 -- ---- no answer stands for two endings
 
 -- The length is below 2 ^ 32 wherever there is a result.

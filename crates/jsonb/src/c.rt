@@ -12,6 +12,11 @@ use layout::refusal::Refusal;
 use layout::utf8::TextCheck;
 use layout::utf8::check_text;
 use pointers::pointer::get_by_pointer;
+use previews::preview::preview_append;
+use previews::preview::preview_build;
+use previews::preview::preview_concat;
+use previews::preview::preview_delete;
+use previews::preview::preview_strip;
 ghost use mathlib.Core.Path.{_≡_};
 ghost use Prim.Native.Nat.{_+_, _-_, _^_, min};
 ghost use lib.ListN.{length};
@@ -24,6 +29,7 @@ ghost use Rattle.edits.specs.Path.{«get-by» as getBy, «delete-by» as delete
 ghost use Rattle.edits.specs.Concat.{concat as concatOf};
 ghost use Rattle.edits.specs.Strip.{strip, «on-one» as onOne};
 ghost use Rattle.pointers.specs.Pointer.{«on-pointer» as onPointer};
+ghost use Rattle.previews.specs.Preview.{previewed};
 ghost use Rattle.jsonb.specs.C.{«c-check» as cCheck, «c-text» as cText, «c-ending» as cEnding, EndedC};
 
 // The answer where the record is readable, and that of an absence, which is above every length. A refusal's number is added to
@@ -144,4 +150,44 @@ pub extern "C" fn jsonb_build_object(names: &[u8], values: &[u8], out: &mut [u8]
         (onTwo build (now (names .entry)) (now (values .entry)) (length (now (out .entry)))) ⌝ }
 {
     c_ending(build_object(names, values, out))
+}
+
+// What the deletion of what a path finds in a record would give.
+#[no_mangle]
+pub extern "C" fn jsonb_preview_delete(target: &[u8], path: &[u8]) -> u64
+    ensures { λ r. ⌜ r ≡ cEnding (previewed (onPath deleteBy (now (target .entry)) (now (path .entry)))) ⌝ }
+{
+    c_ending(preview_delete(target, path))
+}
+
+// What the overlay of a record with another would give.
+#[no_mangle]
+pub extern "C" fn jsonb_preview_concat(left: &[u8], right: &[u8]) -> u64
+    ensures { λ r. ⌜ r ≡ cEnding (previewed (onTwo concatOf (now (left .entry)) (now (right .entry)))) ⌝ }
+{
+    c_ending(preview_concat(left, right))
+}
+
+// What a record without its null members would be.
+#[no_mangle]
+pub extern "C" fn jsonb_preview_strip(target: &[u8]) -> u64
+    ensures { λ r. ⌜ r ≡ cEnding (previewed (onOne strip (now (target .entry)))) ⌝ }
+{
+    c_ending(preview_strip(target))
+}
+
+// What an array with a record as one more item would be.
+#[no_mangle]
+pub extern "C" fn jsonb_preview_append(array: &[u8], item: &[u8]) -> u64
+    ensures { λ r. ⌜ r ≡ cEnding (previewed (onTwo appendOf (now (array .entry)) (now (item .entry)))) ⌝ }
+{
+    c_ending(preview_append(array, item))
+}
+
+// What the object of an array of names and an array of values would be.
+#[no_mangle]
+pub extern "C" fn jsonb_preview_build(names: &[u8], values: &[u8]) -> u64
+    ensures { λ r. ⌜ r ≡ cEnding (previewed (onTwo build (now (names .entry)) (now (values .entry)))) ⌝ }
+{
+    c_ending(preview_build(names, values))
 }

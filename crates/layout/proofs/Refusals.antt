@@ -1,21 +1,18 @@
 -- Which numbers an answer can have: document 01, "Who can cause each number". `RefusedBy P m` says that `m` is refused, if it is, by a
 -- number of which `P` holds. A reading is by the sender's five: 1 short, 2 layout, 3 text, 4 number, 5 too long or deep.
-use Prim.Native.Nat.{ℕ, zero, suc, _+_, _*_}
-use mathlib.Core.Path.{_≡_, refl}
+use Prim.Native.Nat.{ℕ, zero, suc, _+_}
 use mathlib.Core.Bool.{Bool, true, false, cond}
 use mathlib.Core.List.{List, [], _∷_}
-use mathlib.Core.Option.{Option, none as nothing, some}
-use lib.Dec.{leb, ltb, eqb}
+use lib.Dec.{T, ltb, eqb}
 use lib.ListN.{length, take, drop}
 use Rattle.layout.specs.Bytes.{Bytes, word}
 use Rattle.layout.specs.Answer.{Answer, gives, refused, _>>=_, require}
 use Rattle.layout.specs.Entry.{sort-of, count-of}
-use Rattle.layout.specs.Text.{utf8}
-use Rattle.layout.specs.Number.{listed}
 use Rattle.layout.specs.Tree.{Tree}
 use Rattle.layout.specs.Encode.{Part}
-use Rattle.layout.specs.Read.{header, entry-ok, entry, table, total, parts, text, number-in, payload-in, items-in, names-in}
+use Rattle.layout.specs.Read.{header, entry-ok, entry, table, parts, text, number-in, payload-in, items-in, names-in}
 use Rattle.layout.specs.Read.{array-in, object-in, scalar-in, container-in, too-deep, nested, root-in, read}
+use Rattle.layout.specs.Refusal.{is-one-of, sender}
 use Rattle.layout.specs.Pipeline.{within}
 use Rattle.layout.specs.declared.item.Kind.{Kind}
 use Rattle.layout.specs.declared.item.Kind.the-variants.{Null, String, Number, False, True, Container, Extension}
@@ -155,3 +152,10 @@ module _ (P : Refusal → Type 0) where
 
     pub read-by : (b : Bytes) → RefusedBy P (read b)
     read-by b = rw (read-is b) (by-require _ Limit _ (sent .limit) (root-by (header b) (header-by b) (drop 4 b)))
+
+-- The same as the numbers of the document.
+abbrev pub OneOf : List ℕ → Refusal → Type 0
+OneOf ns x = T (is-one-of ns x)
+
+pub read-sent : (b : Bytes) → RefusedBy (OneOf sender) (read b)
+read-sent = read-by (OneOf sender) (record { short = tt; layout = tt; text = tt; number = tt; limit = tt })

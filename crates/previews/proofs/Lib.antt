@@ -1,1 +1,3 @@
 -- The laws of previews.
+pub mod PreviewCases
+pub mod Foretold
