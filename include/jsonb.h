@@ -1,11 +1,11 @@
 /*
- * JSONB records for the flight computer: the check, the text check and the edits.
+ * JSONB records for the flight computer: the check, the text check, the edits, and what an edit would give.
  *
  * The functions are those of the static library that tools/library makes, target/staticlib/libjsonb.a, for x86-64 Linux.
  * Each is proved to end, and to answer what Path.antt, Concat.antt and Strip.antt of crates/edits/specs,
  * crates/builders/specs/Build.antt and crates/pointers/specs/Pointer.antt define (the check: crates/layout/specs/Read.antt; the
- * text check: crates/layout/specs/Text.antt) as a number by crates/jsonb/specs/C.antt, on every record, path, JSON Pointer, text and
- * buffer. They keep nothing between calls, take no memory but the stack, and may be called from several threads at once. 64 KiB of
+ * text check: crates/layout/specs/Text.antt; previews: crates/previews/specs/Preview.antt) as a number by crates/jsonb/specs/C.antt,
+ * on every record, path, JSON Pointer, text and buffer. They keep nothing between calls, take no memory but the stack, and may be called from several threads at once. 64 KiB of
  * stack serve every call: measured at 64 levels, the deepest that a record can be, delete takes 61,900 bytes at the most, strip
  * 33,100 and each of the others 20,000 (tests/c/stack.c).
  *
@@ -21,7 +21,8 @@
  *
  *   below JSONB_ABSENT      done. It is the length of the result, which fills that many first bytes of the buffer; the bytes
  *                           behind them are unchanged. No result is longer than JSONB_ROOM. The check and the text check have
- *                           no result and no buffer: they answer JSONB_READABLE, and the number of code points.
+ *                           no result and no buffer: they answer JSONB_READABLE, and the number of code points. A preview has
+ *                           no buffer either: it answers the length that the result would have.
  *   JSONB_ABSENT            the path or the JSON Pointer finds nothing. No byte is changed.
  *   above JSONB_ABSENT      refused, with one of the numbers below. No byte is changed.
  *
@@ -145,6 +146,28 @@ uint64_t jsonb_append(const uint8_t *array, size_t array_length, const uint8_t *
 /* Builds an object from an array of names and an array of as many values. Its members stand in byte order of the names. */
 uint64_t jsonb_build_object(const uint8_t *names, size_t names_length, const uint8_t *values, size_t values_length,
                             uint8_t *out, size_t out_length);
+
+/*
+ * Previews: what delete, concat, strip, append and object build would give, to fill a budget before anything is made. The answer is
+ * the length, or the number, that the edit of the same records gives with a buffer of JSONB_ROOM bytes. A length is that of the
+ * result in every buffer that has room for it, and a shorter buffer gives 10; a number is what every buffer gives. No buffer is lent
+ * and nothing is written. There is no absence and no 10, and the numbers that there are stand beside each.
+ */
+
+/* 1 to 7. */
+uint64_t jsonb_preview_delete(const uint8_t *target, size_t target_length, const uint8_t *path, size_t path_length);
+
+/* 1 to 5, 8 and 9. */
+uint64_t jsonb_preview_concat(const uint8_t *left, size_t left_length, const uint8_t *right, size_t right_length);
+
+/* 1 to 5, and 8. */
+uint64_t jsonb_preview_strip(const uint8_t *target, size_t target_length);
+
+/* 1 to 5, 7 and 9. */
+uint64_t jsonb_preview_append(const uint8_t *array, size_t array_length, const uint8_t *item, size_t item_length);
+
+/* 1 to 5, and 7 to 9. */
+uint64_t jsonb_preview_build(const uint8_t *names, size_t names_length, const uint8_t *values, size_t values_length);
 
 /*
  * For example, the heater's limit of a table {"heater":40} (examples/c/overlay.c has more). Buffers of this length stand beside the

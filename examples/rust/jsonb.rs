@@ -82,7 +82,15 @@ mod c {
         pub fn jsonb_check(record: *const u8, record_length: usize) -> u64;
         pub fn jsonb_check_text(text: *const u8, text_length: usize) -> u64;
         pub fn jsonb_strip_nulls(target: *const u8, target_length: usize, out: *mut u8, out_length: usize) -> u64;
+        pub fn jsonb_preview_delete(target: *const u8, target_length: usize, path: *const u8, path_length: usize) -> u64;
+        pub fn jsonb_preview_concat(left: *const u8, left_length: usize, right: *const u8, right_length: usize) -> u64;
+        pub fn jsonb_preview_strip(target: *const u8, target_length: usize) -> u64;
+        pub fn jsonb_preview_append(array: *const u8, array_length: usize, item: *const u8, item_length: usize) -> u64;
+        pub fn jsonb_preview_build(names: *const u8, names_length: usize, values: *const u8, values_length: usize) -> u64;
     }
+
+    /// A preview of two records, or of a record and a path.
+    pub type Preview = unsafe extern "C" fn(*const u8, usize, *const u8, usize) -> u64;
 
     /// The other edits take two records, or a record and a path or a pointer, and a buffer.
     pub type Edit = unsafe extern "C" fn(*const u8, usize, *const u8, usize, *mut u8, usize) -> u64;
@@ -113,6 +121,11 @@ fn ending(answer: u64) -> Result<Option<usize>, Refusal> {
     Err(REFUSALS[(answer - ABSENT) as usize - 1])
 }
 
+/// The same of a call that has no absence.
+fn told(answer: u64) -> Result<usize, Refusal> {
+    Ok(ending(answer)?.expect("only a look-up has an absence"))
+}
+
 /// An edit of two records, or of a record and a path or a pointer.
 fn edit<'a>(call: c::Edit, first: &[u8], second: &[u8], out: &'a mut [u8]) -> Result<Option<&'a [u8]>, Refusal> {
     // Each pointer comes with the length of its slice, and `out` is borrowed for writing, so that it overlaps neither of them.
@@ -133,8 +146,7 @@ pub fn check(record: &[u8]) -> Result<(), Refusal> {
 /// The number of code points of a text by RFC 3629, or [`Refusal::Text`] where the bytes are not UTF-8. A text of 2^32 − 1 code
 /// points, or of more, has 2^32 − 1 here.
 pub fn check_text(text: &[u8]) -> Result<usize, Refusal> {
-    let answer = unsafe { c::jsonb_check_text(text.as_ptr(), text.len()) };
-    Ok(ending(answer)?.expect("only a look-up has an absence"))
+    told(unsafe { c::jsonb_check_text(text.as_ptr(), text.len()) })
 }
 
 /// What a path finds in a record, as a record of its own; `None` where it finds nothing. A path is an array record of names and
@@ -164,8 +176,7 @@ pub fn concat<'a>(left: &[u8], right: &[u8], out: &'a mut [u8]) -> Result<&'a [u
 /// The record without the members whose value is null, at every level.
 pub fn strip_nulls<'a>(target: &[u8], out: &'a mut [u8]) -> Result<&'a [u8], Refusal> {
     let answer = unsafe { c::jsonb_strip_nulls(target.as_ptr(), target.len(), out.as_mut_ptr(), out.len()) };
-    let length = ending(answer)?.expect("only a look-up has an absence");
-    Ok(&out[..length])
+    Ok(&out[..told(answer)?])
 }
 
 /// The array with the record as one more item.
@@ -176,4 +187,34 @@ pub fn append<'a>(array: &[u8], item: &[u8], out: &'a mut [u8]) -> Result<&'a [u
 /// The object of the names in one array with the values in the other.
 pub fn build_object<'a>(names: &[u8], values: &[u8], out: &'a mut [u8]) -> Result<&'a [u8], Refusal> {
     edit_always(c::jsonb_build_object, names, values, out)
+}
+
+fn preview(call: c::Preview, first: &[u8], second: &[u8]) -> Result<usize, Refusal> {
+    told(unsafe { call(first.as_ptr(), first.len(), second.as_ptr(), second.len()) })
+}
+
+/// The length of what [`delete_by_keypath`] would give, or why it would be refused, whatever the buffer. A buffer of that length
+/// serves; a shorter one is [`Refusal::Buffer`], which no preview is.
+pub fn preview_delete(target: &[u8], path: &[u8]) -> Result<usize, Refusal> {
+    preview(c::jsonb_preview_delete, target, path)
+}
+
+/// The same of [`concat`].
+pub fn preview_concat(left: &[u8], right: &[u8]) -> Result<usize, Refusal> {
+    preview(c::jsonb_preview_concat, left, right)
+}
+
+/// The same of [`strip_nulls`].
+pub fn preview_strip(target: &[u8]) -> Result<usize, Refusal> {
+    told(unsafe { c::jsonb_preview_strip(target.as_ptr(), target.len()) })
+}
+
+/// The same of [`append`].
+pub fn preview_append(array: &[u8], item: &[u8]) -> Result<usize, Refusal> {
+    preview(c::jsonb_preview_append, array, item)
+}
+
+/// The same of [`build_object`].
+pub fn preview_build(names: &[u8], values: &[u8]) -> Result<usize, Refusal> {
+    preview(c::jsonb_preview_build, names, values)
 }

@@ -1,7 +1,7 @@
 /*
  * The functions of include/jsonb.h as a C program calls them, on the worked bytes of document 01 and on the limits that it names,
- * and on the pointers and the texts of document 02 §1 and §2. The expectations are taken from these documents by hand. A line is
- * printed for each that does not hold, and at the end how many did.
+ * and on the pointers, the texts and the previews of document 02 §1 to §3. The expectations are taken from these documents by hand.
+ * A line is printed for each that does not hold, and at the end how many did.
  */
 #include <stdint.h>
 #include <stdio.h>
@@ -50,6 +50,8 @@ typedef struct {
 
 typedef uint64_t Edit(const uint8_t *left, size_t left_length, const uint8_t *right, size_t right_length, uint8_t *out,
                       size_t out_length);
+
+typedef uint64_t Preview(const uint8_t *left, size_t left_length, const uint8_t *right, size_t right_length);
 
 static int right = 0;
 static int wrong = 0;
@@ -176,7 +178,52 @@ static int all_filled(const uint8_t *from, const uint8_t *to) {
     return 1;
 }
 
-/* An edit of the two records above with a buffer of a length: its answer, and the bytes of the buffer and of the records. */
+/* Strip and its preview as calls of two records, of which they take the first. */
+static uint64_t strip(const uint8_t *left, size_t left_length, const uint8_t *right, size_t right_length, uint8_t *out,
+                      size_t out_length) {
+    (void)right;
+    (void)right_length;
+    return jsonb_strip_nulls(left, left_length, out, out_length);
+}
+
+static uint64_t preview_strip(const uint8_t *left, size_t left_length, const uint8_t *right, size_t right_length) {
+    (void)right;
+    (void)right_length;
+    return jsonb_preview_strip(left, left_length);
+}
+
+/* The edits that have previews, and how often each was foretold. */
+static struct {
+    const char *name;
+    Edit *edit;
+    Preview *preview;
+    int foretold;
+} previews[] = {
+    {"preview of delete", jsonb_delete_by_keypath, jsonb_preview_delete, 0},
+    {"preview of concat", jsonb_concat, jsonb_preview_concat, 0},
+    {"preview of strip", strip, preview_strip, 0},
+    {"preview of append", jsonb_append, jsonb_preview_append, 0},
+    {"preview of build", jsonb_build_object, jsonb_preview_build, 0},
+};
+
+#define PREVIEWS (sizeof previews / sizeof previews[0])
+
+/* The preview of an edit of the two records above tells what the edit answers with room for every result. */
+static void foretells(const char *what, Edit *edit, uint64_t answer) {
+    size_t i;
+    for (i = 0; i < PREVIEWS; i++) {
+        if (previews[i].edit == edit) {
+            uint64_t got = previews[i].preview(left_record.bytes, left_record.length, right_record.bytes, right_record.length);
+            expect(got == answer, what, previews[i].name);
+            previews[i].foretold++;
+        }
+    }
+}
+
+/*
+ * An edit of the two records above with a buffer of a length: its answer, and the bytes of the buffer and of the records; and what
+ * its preview tells, which changes none of them either.
+ */
 static void run(const char *what, Edit *edit, size_t room, uint64_t answer) {
     size_t n = JSONB_IS_DONE(answer) ? wanted.length : 0;
     uint64_t got;
@@ -185,6 +232,9 @@ static void run(const char *what, Edit *edit, size_t room, uint64_t answer) {
     memset(lent, FILL, sizeof lent);
     got = edit(left_record.bytes, left_record.length, right_record.bytes, right_record.length, buffer, room);
     expect(got == answer, what, "the answer");
+    if (room == JSONB_ROOM) {
+        foretells(what, edit, answer);
+    }
     expect(memcmp(buffer, wanted.bytes, n) == 0, what, "the result");
     expect(all_filled(buffer + n, lent + sizeof lent), what, "the bytes behind the result");
     expect(all_filled(lent, buffer), what, "the bytes before the buffer");
@@ -217,14 +267,6 @@ static void ends(const char *what, Edit *edit, const char *left, const char *rig
     spell(left, &left_record);
     spell(right, &right_record);
     ends_made(what, edit, answer);
-}
-
-/* Strip as an edit of two records, of which it takes the first. */
-static uint64_t strip(const uint8_t *left, size_t left_length, const uint8_t *right, size_t right_length, uint8_t *out,
-                      size_t out_length) {
-    (void)right;
-    (void)right_length;
-    return jsonb_strip_nulls(left, left_length, out, out_length);
 }
 
 static void checks(const char *record, uint64_t answer) {
@@ -814,6 +856,15 @@ static void test_same_bytes(void) {
     expect(answer == wanted.length && memcmp(buffer, wanted.bytes, wanted.length) == 0, "get", "a pointer in its record");
 }
 
+/* Every call above with room for every result was foretold. */
+static void test_previews(void) {
+    size_t i;
+    for (i = 0; i < PREVIEWS; i++) {
+        expect(previews[i].foretold > 0, previews[i].name, "put to no call");
+        printf("%s: %d calls\n", previews[i].name, previews[i].foretold);
+    }
+}
+
 int main(void) {
     test_numbers();
     test_check();
@@ -827,6 +878,7 @@ int main(void) {
     test_append();
     test_build();
     test_same_bytes();
+    test_previews();
     printf("%d right, %d wrong\n", right, wrong);
     return wrong == 0 ? 0 : 1;
 }

@@ -125,6 +125,11 @@ static void concat(void) { jsonb_concat(record, record_length, record, record_le
 static void strip(void) { jsonb_strip_nulls(record, record_length, out, out_length); }
 static void append(void) { jsonb_append(path, path_length, record, record_length, out, out_length); }
 static void build(void) { jsonb_build_object(record, record_length, record, record_length, out, out_length); }
+static void preview_delete(void) { jsonb_preview_delete(record, record_length, path, path_length); }
+static void preview_concat(void) { jsonb_preview_concat(record, record_length, record, record_length); }
+static void preview_strip(void) { jsonb_preview_strip(record, record_length); }
+static void preview_append(void) { jsonb_preview_append(path, path_length, record, record_length); }
+static void preview_build(void) { jsonb_preview_build(record, record_length, record, record_length); }
 
 typedef struct {
     const char *name;
@@ -143,6 +148,11 @@ static Function functions[] = {
     {"strip", strip, STRIP_MOST, 0},
     {"append", append, OTHERS_MOST, 0},
     {"build", build, OTHERS_MOST, 0},
+    {"preview of delete", preview_delete, DELETE_MOST, 0},
+    {"preview of concat", preview_concat, OTHERS_MOST, 0},
+    {"preview of strip", preview_strip, STRIP_MOST, 0},
+    {"preview of append", preview_append, OTHERS_MOST, 0},
+    {"preview of build", preview_build, OTHERS_MOST, 0},
 };
 
 #define FUNCTIONS (sizeof functions / sizeof functions[0])
