@@ -30,6 +30,19 @@ impl Call {
         }
     }
 
+    /// What the preview of an edit tells, where it has one.
+    pub fn ask_preview(&self) -> Option<Result<usize, Refusal>> {
+        let (first, second) = (&self.first[..], &self.second[..]);
+        Some(match self.edit {
+            Edit::Get => return None,
+            Edit::Delete => port::preview_delete(first, second),
+            Edit::Concat => port::preview_concat(first, second),
+            Edit::Strip => port::preview_strip(first),
+            Edit::Append => port::preview_append(first, second),
+            Edit::Build => port::preview_build(first, second),
+        })
+    }
+
     /// The steps of a path are read beforehand: the Rust has no path records.
     pub fn ask_rust(&self, steps: &[KeyPath]) -> Result<Answer, Error> {
         let (first, second) = (&self.first[..], &self.second[..]);
@@ -67,11 +80,13 @@ impl Call {
         port::check(&self.second)
     }
 
-    /// Whether both sides give the same bytes, by a pointer too. A refusal is nothing that is measured, and none of them.
+    /// Whether both sides give the same bytes, by a pointer too, and a preview tells how many. A refusal is nothing that is measured,
+    /// and none of them.
     pub fn is_same(&self, out: &mut [u8]) -> bool {
         let theirs = self.ask_rust(&self.steps());
         let by_pointer = self.pointer().map_or(true, |pointer| is_rusts(port::get_by_pointer(&self.first, &pointer, out), &theirs));
-        by_pointer && is_rusts(self.ask_port(out), &theirs)
+        let foretold = self.ask_preview().map_or(true, |told| is_length(told, &theirs));
+        by_pointer && foretold && is_rusts(self.ask_port(out), &theirs)
     }
 }
 
@@ -81,4 +96,8 @@ fn is_rusts(ours: Result<Option<&[u8]>, Refusal>, theirs: &Result<Answer, Error>
         (Ok(None), Ok(Answer::Absent)) => true,
         _ => false,
     }
+}
+
+fn is_length(told: Result<usize, Refusal>, theirs: &Result<Answer, Error>) -> bool {
+    matches!((told, theirs), (Ok(length), Ok(Answer::Result(theirs))) if length == theirs.len())
 }

@@ -155,6 +155,40 @@ fn say_pointers(tables: &[Table], out: &mut [u8]) {
     }
 }
 
+/// The times of a preview, of its edit, and of the check in both.
+fn say_preview(name: &str, call: &Call, out: &mut [u8]) {
+    let times = rounds([
+        &mut || {
+            let _ = black_box(call.ask_preview());
+        },
+        &mut || {
+            let _ = black_box(call.ask_port(black_box(out)));
+        },
+        &mut || {
+            let _ = black_box(call.check());
+        },
+    ]);
+    let of = |i: usize| median(times.iter().map(|round| round[i] / MICRO));
+    println!(
+        "| {name} | {} | {:.2} | {:.2} | {:.2} | {:.2} |",
+        call.edit.word(),
+        of(0),
+        of(1),
+        of(2),
+        median(times.iter().map(|round| round[0] / round[1])),
+    );
+}
+
+fn say_previews(tables: &[Table], out: &mut [u8]) {
+    println!("| record | call | preview, us | the edit, us | of both the check | preview to edit |");
+    println!("|---|---|---:|---:|---:|---:|");
+    for table in tables {
+        for call in calls_on(table).iter().filter(|call| call.edit != Edit::Get) {
+            say_preview(table.name, call, out);
+        }
+    }
+}
+
 fn say_factor(what: &str, word: &str, few: &mut dyn FnMut(), many: &mut dyn FnMut()) {
     let times = rounds([few, many]);
     let of = |i: usize| median(times.iter().map(|round| round[i] / MICRO));
@@ -206,6 +240,10 @@ fn say_times(out: &mut [u8]) {
     say_calls(&fallen_tables(), out);
     println!("\n### Look-up by a pointer\n");
     say_pointers(&sound, out);
+    println!("\n### Previews\n");
+    say_previews(&sound, out);
+    println!("\n### Previews where names fall\n");
+    say_previews(&fallen_tables(), out);
     println!("\n### Growth\n");
     println!("| record | call | few, us | many, us | factor |");
     println!("|---|---|---:|---:|---:|");

@@ -78,6 +78,19 @@ pub fn ask_port(request: &Request, buffer: &mut Vec<u8>) -> Result<Ours, &'stati
     })
 }
 
+/// What the preview of an edit tells, where it has one.
+fn ask_preview(request: &Request) -> Option<Result<usize, Refusal>> {
+    let (first, second) = (&request.first[..], &request.second[..]);
+    Some(match request.edit {
+        Edit::Get => return None,
+        Edit::Delete => port::preview_delete(first, second),
+        Edit::Concat => port::preview_concat(first, second),
+        Edit::Strip => port::preview_strip(first),
+        Edit::Append => port::preview_append(first, second),
+        Edit::Build => port::preview_build(first, second),
+    })
+}
+
 // ---- both
 
 /// Why document 01 refuses the records: the faults of the first and then those of the second.
@@ -179,8 +192,26 @@ fn judge_pointer(request: &Request, ours: &Ours, verdict: Verdict, buffer: &mut 
     }
 }
 
-/// Asks both and judges. `QuotedName` must act as `Name`, a pointer as the path that means the same, and the check must say what
-/// the reading of document 01 says.
+/// The verdict on an edit, whose preview must tell the length of its result, that of the Rust's where the port's buffer was too
+/// short, or the edit's number.
+fn judge_preview(request: &Request, ours: &Ours, theirs: &Answer, verdict: Verdict) -> Verdict {
+    let Some(told) = ask_preview(request) else {
+        return verdict;
+    };
+    let wanted = match (ours, theirs) {
+        (Ours::Refused(Refusal::Buffer), Answer::Result(theirs)) => Some(Ok(theirs.len())),
+        (Ours::Refused(refusal), _) => Some(Err(*refusal)),
+        (Ours::Result(ours), _) => Some(Ok(ours.len())),
+        (Ours::Absent, _) => None,
+    };
+    if Some(told) != wanted {
+        return Verdict::Wrong("the preview tells something else");
+    }
+    verdict
+}
+
+/// Asks both and judges. `QuotedName` must act as `Name`, a pointer as the path that means the same, the check must say what the
+/// reading of document 01 says, and a preview what the edit gives.
 pub fn compare(request: &Request, buffer: &mut Vec<u8>) -> (Ours, Answer, Verdict) {
     let theirs = answer(request, false);
     let ours = match ask_port(request, buffer) {
@@ -199,5 +230,6 @@ pub fn compare(request: &Request, buffer: &mut Vec<u8>) -> (Ours, Answer, Verdic
         let verdict = judge_pointer(request, &ours, verdict, buffer);
         return (ours, theirs, verdict);
     }
+    let verdict = judge_preview(request, &ours, &theirs, verdict);
     (ours, theirs, verdict)
 }
