@@ -107,8 +107,8 @@ pub previews : Previews
 previews =
     record {
       of-delete = delete-foretold;
-      of-concat = λ l r ol or. two-foretold (8 ∷ 9 ∷ []) tt concat (concat-by _ tt) l r (λ room. concat-limited l r room ol or);
+      of-concat = λ l r ol or. two-foretold _ tt concat (concat-by _ tt) l r (λ room. concat-limited l r room ol or);
       of-strip = strip-foretold;
-      of-append = λ a i oa oi. two-foretold (7 ∷ 9 ∷ []) tt append (append-by _ tt) a i (λ room. append-limited a i room oa oi);
-      of-build = λ n v on ov. two-foretold (7 ∷ 8 ∷ 9 ∷ []) tt build (build-by _ tt tt) n v (λ room. build-limited n v room on ov);
+      of-append = λ a i oa oi. two-foretold _ tt append (append-by _ tt) a i (λ room. append-limited a i room oa oi);
+      of-build = λ n v on ov. two-foretold _ tt build (build-by _ tt tt) n v (λ room. build-limited n v room on ov);
     }
