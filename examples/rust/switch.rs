@@ -1,6 +1,6 @@
-//! A ground tool that turns one switch of a table on, and shows what pointers find in the new table. An overlay takes a member's
-//! place whole: `{"switch":{"camera":true}}` over the table would drop every other switch. So the switches are looked up, overlaid
-//! by themselves, and put back.
+//! A ground tool that turns one switch of a table on, shows what pointers find in the new table, and how many bytes an overlay would
+//! make of it. An overlay takes a member's place whole: `{"switch":{"camera":true}}` over the table would drop every other switch. So
+//! the switches are looked up, overlaid by themselves, and put back.
 
 use jsonb::Refusal;
 
@@ -61,6 +61,14 @@ fn show(table: &[u8], pointer: &str) {
     }
 }
 
+/// How many bytes the overlaid table would have, for the uplink's budget.
+fn show_budget(table: &[u8], overlay: &[u8]) {
+    match jsonb::preview_concat(table, overlay) {
+        Ok(length) => println!("{} bytes would go up", length),
+        Err(refusal) => println!("refused {}", refusal),
+    }
+}
+
 fn main() {
     let table = from_hex(TABLE);
     let camera_on = from_hex(CAMERA_ON);
@@ -82,4 +90,7 @@ fn main() {
         Ok(table) => println!("table {}", to_hex(table)),
         Err(refusal) => println!("refused {}", refusal),
     }
+    // A preview tells beforehand how many bytes serve, or why none would.
+    show_budget(&table, &camera_on);
+    show_budget(&table, &table[..4]);
 }

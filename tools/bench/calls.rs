@@ -4,6 +4,7 @@ use jsonb::{Answer, Edit, Error, KeyPath};
 use crate::pointers::pointer_of;
 use crate::port;
 use crate::port::Refusal;
+use crate::previews::preview_of;
 use crate::tree::{record, Tree};
 
 pub struct Call {
@@ -32,15 +33,7 @@ impl Call {
 
     /// What the preview of an edit tells, where it has one.
     pub fn ask_preview(&self) -> Option<Result<usize, Refusal>> {
-        let (first, second) = (&self.first[..], &self.second[..]);
-        Some(match self.edit {
-            Edit::Get => return None,
-            Edit::Delete => port::preview_delete(first, second),
-            Edit::Concat => port::preview_concat(first, second),
-            Edit::Strip => port::preview_strip(first),
-            Edit::Append => port::preview_append(first, second),
-            Edit::Build => port::preview_build(first, second),
-        })
+        preview_of(self.edit, &self.first, &self.second)
     }
 
     /// The steps of a path are read beforehand: the Rust has no path records.

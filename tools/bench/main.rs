@@ -7,6 +7,8 @@ mod calls;
 mod pointers;
 #[path = "../../examples/rust/jsonb.rs"]
 mod port;
+#[path = "../compare/previews.rs"]
+mod previews;
 mod tables;
 mod timing;
 // Shared with the comparison, which uses more of it.

@@ -17,6 +17,7 @@ mod numbers;
 mod pointers;
 #[path = "../../examples/rust/jsonb.rs"]
 mod port;
+mod previews;
 mod random;
 mod reading;
 mod recording;

@@ -6,6 +6,7 @@ use jsonb::{answer, Answer, Edit, Error, Request};
 use crate::pointers::pointer_of;
 use crate::port;
 use crate::port::Refusal;
+use crate::previews::preview_of;
 use crate::reading::{depth, faults, Fault, DEPTH_LIMIT, RECORD_LIMIT};
 
 /// What the port answers.
@@ -75,19 +76,6 @@ pub fn ask_port(request: &Request, buffer: &mut Vec<u8>) -> Result<Ours, &'stati
         Edit::Strip => port::strip_nulls(first, out).map(Some),
         Edit::Append => port::append(first, second, out).map(Some),
         Edit::Build => port::build_object(first, second, out).map(Some),
-    })
-}
-
-/// What the preview of an edit tells, where it has one.
-fn ask_preview(request: &Request) -> Option<Result<usize, Refusal>> {
-    let (first, second) = (&request.first[..], &request.second[..]);
-    Some(match request.edit {
-        Edit::Get => return None,
-        Edit::Delete => port::preview_delete(first, second),
-        Edit::Concat => port::preview_concat(first, second),
-        Edit::Strip => port::preview_strip(first),
-        Edit::Append => port::preview_append(first, second),
-        Edit::Build => port::preview_build(first, second),
     })
 }
 
@@ -195,7 +183,7 @@ fn judge_pointer(request: &Request, ours: &Ours, verdict: Verdict, buffer: &mut 
 /// The verdict on an edit, whose preview must tell the length of its result, that of the Rust's where the port's buffer was too
 /// short, or the edit's number.
 fn judge_preview(request: &Request, ours: &Ours, theirs: &Answer, verdict: Verdict) -> Verdict {
-    let Some(told) = ask_preview(request) else {
+    let Some(told) = preview_of(request.edit, &request.first, &request.second) else {
         return verdict;
     };
     let wanted = match (ours, theirs) {
