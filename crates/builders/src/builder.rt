@@ -35,7 +35,7 @@ ghost use Rattle.builders.specs.Build.{append as appendOf, build, «on-t
 ghost use Rattle.builders.specs.Names.{Pairs};
 
 // Puts a record, as one item, at the end of an array record, where the result goes into `room` bytes.
-pub fn append_in(array: &[u8], item: &[u8], out: &mut [u8], room: usize) -> Ending
+fn append_to(array: &[u8], item: &[u8], out: &mut [u8], room: usize) -> Ending
     ensures { λ e. ⌜ EndedIn e (now (out .entry)) (now (out .exit)) (onTwo appendOf (now (array .entry)) (now (item .entry)) room) ⌝ }
 {
     if let Check::Refused(refusal) = check_record(array) {
@@ -61,6 +61,13 @@ pub fn append_in(array: &[u8], item: &[u8], out: &mut [u8], room: usize) -> Endi
         out,
         room,
     )
+}
+
+// The same, for the edit and for its preview.
+pub fn append_in(array: &[u8], item: &[u8], out: &mut [u8], room: usize) -> Ending
+    ensures { λ e. ⌜ EndedIn e (now (out .entry)) (now (out .exit)) (onTwo appendOf (now (array .entry)) (now (item .entry)) room) ⌝ }
+{
+    append_to(&array[0..], &item[0..], out, room)
 }
 
 // Puts a record, as one item, at the end of an array record.
@@ -128,7 +135,7 @@ fn build_members(names: &[u8], values: &[u8], n: usize, out: &mut [u8], room: us
 }
 
 // Builds an object from an array of names and an array of values, where it goes into `room` bytes.
-pub fn build_object_in(names: &[u8], values: &[u8], out: &mut [u8], room: usize) -> Ending
+fn build_from(names: &[u8], values: &[u8], out: &mut [u8], room: usize) -> Ending
     ensures { λ e. ⌜ EndedIn e (now (out .entry)) (now (out .exit)) (onTwo build (now (names .entry)) (now (values .entry)) room) ⌝ }
 {
     if let Check::Refused(refusal) = check_record(names) {
@@ -150,6 +157,13 @@ pub fn build_object_in(names: &[u8], values: &[u8], out: &mut [u8], room: usize)
         return build_members(names, values, n, out, room);
     }
     Ending::Refused(Refusal::Kind)
+}
+
+// The same, for the edit and for its preview.
+pub fn build_object_in(names: &[u8], values: &[u8], out: &mut [u8], room: usize) -> Ending
+    ensures { λ e. ⌜ EndedIn e (now (out .entry)) (now (out .exit)) (onTwo build (now (names .entry)) (now (values .entry)) room) ⌝ }
+{
+    build_from(&names[0..], &values[0..], out, room)
 }
 
 // Builds an object from an array of names and an array of values.

@@ -80,7 +80,7 @@ fn write_items(
 
 // Overlays the left record with the right one: two objects become one, anything else an array; where that goes into `room`
 // bytes.
-pub fn concat_in(left: &[u8], right: &[u8], out: &mut [u8], room: usize) -> Ending
+fn overlay(left: &[u8], right: &[u8], out: &mut [u8], room: usize) -> Ending
     ensures { λ e. ⌜ EndedIn e (now (out .entry)) (now (out .exit))
         (onTwo concatOf (now (left .entry)) (now (right .entry)) room) ⌝ }
 {
@@ -99,6 +99,14 @@ pub fn concat_in(left: &[u8], right: &[u8], out: &mut [u8], room: usize) -> Endi
         return write_items(left, left_nesting, right, right_nesting, out, room);
     };
     write_merged(left, m, right, n, out, room)
+}
+
+// The same, for the edit and for its preview.
+pub fn concat_in(left: &[u8], right: &[u8], out: &mut [u8], room: usize) -> Ending
+    ensures { λ e. ⌜ EndedIn e (now (out .entry)) (now (out .exit))
+        (onTwo concatOf (now (left .entry)) (now (right .entry)) room) ⌝ }
+{
+    overlay(&left[0..], &right[0..], out, room)
 }
 
 // Takes the members whose value is null out of a record, at every level, where what is left goes into `room` bytes.

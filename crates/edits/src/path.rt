@@ -154,7 +154,7 @@ pub fn get_by_keypath_in(target: &[u8], path: &[u8], out: &mut [u8], room: usize
 }
 
 // Deletes what a path finds in a record, where what is left goes into `room` bytes.
-pub fn delete_by_keypath_in(target: &[u8], path: &[u8], out: &mut [u8], room: usize) -> Ending
+fn delete_from(target: &[u8], path: &[u8], out: &mut [u8], room: usize) -> Ending
     ensures { λ e. ⌜ EndedIn e (now (out .entry)) (now (out .exit))
         (onPath deleteBy (now (target .entry)) (now (path .entry)) room) ⌝ }
 {
@@ -177,6 +177,14 @@ pub fn delete_by_keypath_in(target: &[u8], path: &[u8], out: &mut [u8], room: us
         return write_copy(target, out, room);
     };
     write_deleted(target, path, n, out, room)
+}
+
+// The same, for the edit and for its preview.
+pub fn delete_by_keypath_in(target: &[u8], path: &[u8], out: &mut [u8], room: usize) -> Ending
+    ensures { λ e. ⌜ EndedIn e (now (out .entry)) (now (out .exit))
+        (onPath deleteBy (now (target .entry)) (now (path .entry)) room) ⌝ }
+{
+    delete_from(&target[0..], &path[0..], out, room)
 }
 
 // Looks up what a path finds in a record.
