@@ -3,11 +3,12 @@
  *
  * The functions are those of the static library that tools/library makes, target/staticlib/libjsonb.a, for x86-64 Linux.
  * Each is proved to end, and to answer what Path.antt, Concat.antt and Strip.antt of crates/edits/specs,
- * crates/builders/specs/Build.antt and crates/pointers/specs/Pointer.antt define (the check: crates/layout/specs/Read.antt; the
- * text check: crates/layout/specs/Text.antt; previews: crates/previews/specs/Preview.antt) as a number by crates/jsonb/specs/C.antt,
- * on every record, path, JSON Pointer, text and buffer. They keep nothing between calls, take no memory but the stack, and may be called from several threads at once. 64 KiB of
- * stack serve every call: measured at 64 levels, the deepest that a record can be, delete takes 61,900 bytes at the most, strip
- * 33,100 and each of the others 20,000 (tests/c/stack.c).
+ * crates/builders/specs/Build.antt and crates/pointers/specs/Pointer.antt define (the check: crates/layout/specs/Read.antt; the text
+ * check: crates/layout/specs/Text.antt; previews: crates/previews/specs/Preview.antt) as a number by crates/jsonb/specs/C.antt, on
+ * every record, path, JSON Pointer, text and buffer. They keep nothing between calls, take no memory but the stack, and may be
+ * called from several threads at once. 64 KiB of stack serve every call: measured at 64 levels, the deepest that a record can be,
+ * delete takes 61,900 bytes at the most, strip 33,100 and each of the others 20,000, with the same figures for their previews
+ * (tests/c/stack.c).
  *
  * A record, a path, a text, that of a JSON Pointer too, and a buffer are each a C pointer and a length in bytes. What the caller owes:
  *

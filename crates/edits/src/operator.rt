@@ -101,7 +101,7 @@ fn overlay(left: &[u8], right: &[u8], out: &mut [u8], room: usize) -> Ending
     write_merged(left, m, right, n, out, room)
 }
 
-// The same, for the edit and for its preview.
+// The same, for the edit and for its preview; slices are handed on as in `append_in` of builders.
 pub fn concat_in(left: &[u8], right: &[u8], out: &mut [u8], room: usize) -> Ending
     ensures { λ e. ⌜ EndedIn e (now (out .entry)) (now (out .exit))
         (onTwo concatOf (now (left .entry)) (now (right .entry)) room) ⌝ }

@@ -179,7 +179,7 @@ fn delete_from(target: &[u8], path: &[u8], out: &mut [u8], room: usize) -> Endin
     write_deleted(target, path, n, out, room)
 }
 
-// The same, for the edit and for its preview.
+// The same, for the edit and for its preview; slices are handed on as in `append_in` of builders.
 pub fn delete_by_keypath_in(target: &[u8], path: &[u8], out: &mut [u8], room: usize) -> Ending
     ensures { λ e. ⌜ EndedIn e (now (out .entry)) (now (out .exit))
         (onPath deleteBy (now (target .entry)) (now (path .entry)) room) ⌝ }
