@@ -155,19 +155,19 @@ uint64_t jsonb_build_object(const uint8_t *names, size_t names_length, const uin
  * and nothing is written. There is no absence and no 10, and the numbers that there are stand beside each.
  */
 
-/* 1 to 7. */
+/* Of jsonb_delete_by_keypath: 1 to 7. */
 uint64_t jsonb_preview_delete(const uint8_t *target, size_t target_length, const uint8_t *path, size_t path_length);
 
-/* 1 to 5, 8 and 9. */
+/* Of jsonb_concat: 1 to 5, 8 and 9. */
 uint64_t jsonb_preview_concat(const uint8_t *left, size_t left_length, const uint8_t *right, size_t right_length);
 
-/* 1 to 5, and 8. */
+/* Of jsonb_strip_nulls: 1 to 5, and 8. */
 uint64_t jsonb_preview_strip(const uint8_t *target, size_t target_length);
 
-/* 1 to 5, 7 and 9. */
+/* Of jsonb_append: 1 to 5, 7 and 9. */
 uint64_t jsonb_preview_append(const uint8_t *array, size_t array_length, const uint8_t *item, size_t item_length);
 
-/* 1 to 5, and 7 to 9. */
+/* Of jsonb_build_object: 1 to 5, and 7 to 9. */
 uint64_t jsonb_preview_build(const uint8_t *names, size_t names_length, const uint8_t *values, size_t values_length);
 
 /*

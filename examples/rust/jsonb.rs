@@ -82,15 +82,7 @@ mod c {
         pub fn jsonb_check(record: *const u8, record_length: usize) -> u64;
         pub fn jsonb_check_text(text: *const u8, text_length: usize) -> u64;
         pub fn jsonb_strip_nulls(target: *const u8, target_length: usize, out: *mut u8, out_length: usize) -> u64;
-        pub fn jsonb_preview_delete(target: *const u8, target_length: usize, path: *const u8, path_length: usize) -> u64;
-        pub fn jsonb_preview_concat(left: *const u8, left_length: usize, right: *const u8, right_length: usize) -> u64;
-        pub fn jsonb_preview_strip(target: *const u8, target_length: usize) -> u64;
-        pub fn jsonb_preview_append(array: *const u8, array_length: usize, item: *const u8, item_length: usize) -> u64;
-        pub fn jsonb_preview_build(names: *const u8, names_length: usize, values: *const u8, values_length: usize) -> u64;
     }
-
-    /// A preview of two records, or of a record and a path.
-    pub type Preview = unsafe extern "C" fn(*const u8, usize, *const u8, usize) -> u64;
 
     /// The other edits take two records, or a record and a path or a pointer, and a buffer.
     pub type Edit = unsafe extern "C" fn(*const u8, usize, *const u8, usize, *mut u8, usize) -> u64;
@@ -105,6 +97,17 @@ mod c {
     }
 
     edits! { jsonb_get_by_keypath jsonb_get_by_pointer jsonb_delete_by_keypath jsonb_concat jsonb_append jsonb_build_object }
+
+    extern "C" {
+        pub fn jsonb_preview_delete(target: *const u8, target_length: usize, path: *const u8, path_length: usize) -> u64;
+        pub fn jsonb_preview_concat(left: *const u8, left_length: usize, right: *const u8, right_length: usize) -> u64;
+        pub fn jsonb_preview_strip(target: *const u8, target_length: usize) -> u64;
+        pub fn jsonb_preview_append(array: *const u8, array_length: usize, item: *const u8, item_length: usize) -> u64;
+        pub fn jsonb_preview_build(names: *const u8, names_length: usize, values: *const u8, values_length: usize) -> u64;
+    }
+
+    /// A preview of two records, or of a record and a path.
+    pub type Preview = unsafe extern "C" fn(*const u8, usize, *const u8, usize) -> u64;
 }
 
 /// JSONB_ABSENT: below it an answer is a length, above it 2^32 and the number of a refusal.

@@ -1,6 +1,6 @@
-//! A ground tool that turns one switch of a table on, shows what pointers find in the new table, and how many bytes an overlay would
-//! make of it. An overlay takes a member's place whole: `{"switch":{"camera":true}}` over the table would drop every other switch. So
-//! the switches are looked up, overlaid by themselves, and put back.
+//! A ground tool that turns one switch of a table on, and shows what pointers find in the new table. An overlay takes a member's
+//! place whole: `{"switch":{"camera":true}}` over the table would drop every other switch. So the switches are looked up, overlaid
+//! by themselves, and put back. Where all switches are at hand, their overlay can be budgeted before it is made.
 
 use jsonb::Refusal;
 
@@ -14,6 +14,10 @@ const POINTERS: [&str; 3] = ["/switch/camera", "/switch/beacon", "switch/camera"
 
 /// `{"camera":true}`
 const CAMERA_ON: &str = "40000001 10000006 40000000 63616d657261";
+
+/// `{"switch":{"camera":true,"radio":true}}`
+const SWITCHES: &str = "40000001 10000006 5000001f 737769746368 \
+    40000002 10000006 10000005 40000000 40000000 63616d657261 726164696f";
 
 const EMPTY_ARRAY: &str = "80000000";
 
@@ -91,6 +95,7 @@ fn main() {
         Err(refusal) => println!("refused {}", refusal),
     }
     // A preview tells beforehand how many bytes serve, or why none would.
-    show_budget(&table, &camera_on);
-    show_budget(&table, &table[..4]);
+    let switches = from_hex(SWITCHES);
+    show_budget(&table, &switches);
+    show_budget(&table, &switches[..switches.len() - 1]);
 }

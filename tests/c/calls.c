@@ -856,7 +856,7 @@ static void test_same_bytes(void) {
     expect(answer == wanted.length && memcmp(buffer, wanted.bytes, wanted.length) == 0, "get", "a pointer in its record");
 }
 
-/* Every call above with room for every result was foretold. */
+/* Each preview was put to calls above, to all that have room for every result. */
 static void test_previews(void) {
     size_t i;
     for (i = 0; i < PREVIEWS; i++) {

@@ -1,4 +1,4 @@
--- Which numbers append and object build can have, beside those of reading: 7 and 8.
+-- Which numbers append and object build can have beside those of reading: append 7, object build 7 and 8. 9 is `within`'s.
 use Rattle.layout.specs.Tree.{Tree, null, boolean, number, string, extension, array, object, Items, none, item}
 use Rattle.layout.specs.declared.refusal.Refusal.{Refusal}
 use Rattle.layout.specs.declared.refusal.Refusal.the-variants.{Kind, Repeated}

@@ -35,7 +35,7 @@ ghost use Rattle.builders.specs.Build.{append as appendOf, build, «on-t
 ghost use Rattle.builders.specs.Names.{Pairs};
 
 // Puts a record, as one item, at the end of an array record, where the result goes into `room` bytes.
-fn append_to(array: &[u8], item: &[u8], out: &mut [u8], room: usize) -> Ending
+fn write_appended(array: &[u8], item: &[u8], out: &mut [u8], room: usize) -> Ending
     ensures { λ e. ⌜ EndedIn e (now (out .entry)) (now (out .exit)) (onTwo appendOf (now (array .entry)) (now (item .entry)) room) ⌝ }
 {
     if let Check::Refused(refusal) = check_record(array) {
@@ -68,7 +68,7 @@ fn append_to(array: &[u8], item: &[u8], out: &mut [u8], room: usize) -> Ending
 pub fn append_in(array: &[u8], item: &[u8], out: &mut [u8], room: usize) -> Ending
     ensures { λ e. ⌜ EndedIn e (now (out .entry)) (now (out .exit)) (onTwo appendOf (now (array .entry)) (now (item .entry)) room) ⌝ }
 {
-    append_to(&array[0..], &item[0..], out, room)
+    write_appended(&array[0..], &item[0..], out, room)
 }
 
 // Puts a record, as one item, at the end of an array record.
@@ -81,7 +81,7 @@ pub fn append(array: &[u8], item: &[u8], out: &mut [u8]) -> Ending
 }
 
 // Stores the object of n members with distinct names, in byte order of the names, where there is room for it. It is as long as
-// both records less one header; lent no bytes, the names are not searched for.
+// both records less one header; where no bytes are lent, as by a preview, the names need no search.
 fn write_sorted(names: &[u8], values: &[u8], n: usize, out: &mut [u8], room: usize) -> Ending
     requires { ⌜ Pairs (now names) (now values) n × (distinct (texts (partsOf (now names) n)) ≡ true) ⌝ }
     ensures { λ e. ⌜ EndedIn e (now (out .entry)) (now (out .exit)) (onTwo build (now (names .entry)) (now (values .entry)) room) ⌝ }
@@ -136,7 +136,7 @@ fn build_members(names: &[u8], values: &[u8], n: usize, out: &mut [u8], room: us
 }
 
 // Builds an object from an array of names and an array of values, where it goes into `room` bytes.
-fn build_from(names: &[u8], values: &[u8], out: &mut [u8], room: usize) -> Ending
+fn write_built(names: &[u8], values: &[u8], out: &mut [u8], room: usize) -> Ending
     ensures { λ e. ⌜ EndedIn e (now (out .entry)) (now (out .exit)) (onTwo build (now (names .entry)) (now (values .entry)) room) ⌝ }
 {
     if let Check::Refused(refusal) = check_record(names) {
@@ -164,7 +164,7 @@ fn build_from(names: &[u8], values: &[u8], out: &mut [u8], room: usize) -> Endin
 pub fn build_object_in(names: &[u8], values: &[u8], out: &mut [u8], room: usize) -> Ending
     ensures { λ e. ⌜ EndedIn e (now (out .entry)) (now (out .exit)) (onTwo build (now (names .entry)) (now (values .entry)) room) ⌝ }
 {
-    build_from(&names[0..], &values[0..], out, room)
+    write_built(&names[0..], &values[0..], out, room)
 }
 
 // Builds an object from an array of names and an array of values.

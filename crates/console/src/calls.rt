@@ -8,10 +8,10 @@ use crate::pair::Pair;
 use crate::pair::answer_pair;
 use crate::pointer::answer_pointer;
 use crate::preview::answer_preview;
-use crate::preview::say_preview;
 use crate::run::answer_run;
 use crate::say::say;
 use crate::say::say_fault;
+use crate::say::say_preview;
 use crate::say::say_refused;
 use crate::show::show_record;
 use crate::step::answer_step;
@@ -64,10 +64,17 @@ fn answer_record(call: Call, record: &[u8]) {
     }
 }
 
+fn say_wants(call: Call) {
+    match call {
+        Call::PreviewStrip => say(b"? this preview takes one record, and no buffer's length\n"),
+        _ => say(b"? this call takes one record\n"),
+    }
+}
+
 // Takes the one argument of a call, or says why it is none.
 pub(crate) fn answer_one(call: Call, text: &[u8]) {
     if count_arguments(text) != 1 {
-        return say(b"? this call takes one record\n");
+        return say_wants(call);
     }
     let mut record = [0u8; RECORD_ROOM];
     match decode(text, &mut record) {

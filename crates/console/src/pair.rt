@@ -3,9 +3,9 @@ use crate::grade::say_grade;
 use crate::grade::say_same;
 use crate::hex::RECORD_ROOM;
 use crate::hex::decode;
-use crate::preview::say_preview;
 use crate::say::say;
 use crate::say::say_fault;
+use crate::say::say_preview;
 use crate::text::Taken;
 use crate::text::argument;
 use crate::text::count_arguments;
@@ -36,13 +36,16 @@ fn answer_both(pair: Pair, first: &[u8], second: &[u8]) {
     }
 }
 
-fn say_taken(pair: Pair) {
+fn say_wants(pair: Pair) {
     match pair {
         Pair::Grade => say(
             b"? this call takes two records, the candidate's and the expected one\n",
         ),
-        Pair::PreviewDelete => say(b"? this call takes a record and a path\n"),
-        _ => say(b"? this call takes two records\n"),
+        Pair::Same => say(b"? this call takes two records\n"),
+        Pair::PreviewDelete => say(
+            b"? this preview takes a record and a path, and no buffer's length\n",
+        ),
+        _ => say(b"? this preview takes two records, and no buffer's length\n"),
     }
 }
 
@@ -58,7 +61,7 @@ fn answer_second(pair: Pair, first: &[u8], text: &[u8]) {
 // Takes the two records, from the left, or says why one is none.
 pub(crate) fn answer_pair(pair: Pair, text: &[u8]) {
     if count_arguments(text) != TWO_RECORDS {
-        return say_taken(pair);
+        return say_wants(pair);
     }
     let mut record = [0u8; RECORD_ROOM];
     match decode(argument(text, 0), &mut record) {

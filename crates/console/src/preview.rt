@@ -11,26 +11,10 @@ use crate::calls::edit_of;
 use crate::pair::Pair;
 use crate::pair::answer_pair;
 use crate::say::say;
-use crate::say::say_decimal;
-use crate::say::say_refused;
 use crate::text::trim;
 use crate::text::word_end;
-use layout::ending::Ending;
 use layout::util::slice;
 use runs::call::Edit;
-
-// A preview is never an absence.
-pub(crate) fn say_preview(ending: Ending) {
-    match ending {
-        Ending::Done(n) => {
-            say(b"length ");
-            say_decimal(n as u64);
-            say(b"\n");
-        }
-        Ending::Absent => say(b"absent\n"),
-        Ending::Refused(refusal) => say_refused(refusal),
-    }
-}
 
 fn say_none() {
     say(b"? there is no such preview; there are delete, concat, strip, append and build\n");

@@ -154,3 +154,16 @@ pub(crate) fn say_ending(ending: Ending, out: &[u8]) {
         Ending::Refused(refusal) => say_refused(refusal),
     }
 }
+
+// A preview is never an absence.
+pub(crate) fn say_preview(ending: Ending) {
+    match ending {
+        Ending::Done(n) => {
+            say(b"length ");
+            say_decimal(n as u64);
+            say(b"\n");
+        }
+        Ending::Absent => say(b"absent\n"),
+        Ending::Refused(refusal) => say_refused(refusal),
+    }
+}

@@ -354,7 +354,7 @@ fn put_deleted(s: &[u8], path: &[u8], way: Way, out: &mut [u8], at: usize, allow
 }
 
 // Stores a container without the item that a path of n steps finds in it, where there is room for it. It is never longer than before,
-// so only a buffer that is shorter than that has it measured first, on no bytes.
+// so only where `room` is shorter than that it is measured first, on no bytes.
 pub(crate) fn write_deleted(s: &[u8], path: &[u8], n: usize, out: &mut [u8], room: usize) -> Ending
     requires { ⌜ (checked (nested 64 (now s)) ≡ Readable) × (length (now s) ≤ 65536) × (n < 2 ^ 29) × (0 < n)
         × ((t : Tree) × (finding (now s) (partSteps (partsOf (now path) n)) ≡ some t)) ⌝ }

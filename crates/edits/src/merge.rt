@@ -207,7 +207,7 @@ fn put_both(
 }
 
 // Writes two objects, of m and n members, as one, where no name is repeated on the right and there is room for it. It is measured
-// first, on no bytes; lent none, that is all.
+// first, on no bytes; where none are lent, as by a preview, a second run would store nothing, and is left out.
 pub(crate) fn write_merged(
     left: &[u8],
     m: usize,

@@ -80,7 +80,7 @@ fn write_items(
 
 // Overlays the left record with the right one: two objects become one, anything else an array; where that goes into `room`
 // bytes.
-fn overlay(left: &[u8], right: &[u8], out: &mut [u8], room: usize) -> Ending
+fn write_concat(left: &[u8], right: &[u8], out: &mut [u8], room: usize) -> Ending
     ensures { λ e. ⌜ EndedIn e (now (out .entry)) (now (out .exit))
         (onTwo concatOf (now (left .entry)) (now (right .entry)) room) ⌝ }
 {
@@ -106,7 +106,7 @@ pub fn concat_in(left: &[u8], right: &[u8], out: &mut [u8], room: usize) -> Endi
     ensures { λ e. ⌜ EndedIn e (now (out .entry)) (now (out .exit))
         (onTwo concatOf (now (left .entry)) (now (right .entry)) room) ⌝ }
 {
-    overlay(&left[0..], &right[0..], out, room)
+    write_concat(&left[0..], &right[0..], out, room)
 }
 
 // Takes the members whose value is null out of a record, at every level, where what is left goes into `room` bytes.

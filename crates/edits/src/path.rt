@@ -154,7 +154,7 @@ pub fn get_by_keypath_in(target: &[u8], path: &[u8], out: &mut [u8], room: usize
 }
 
 // Deletes what a path finds in a record, where what is left goes into `room` bytes.
-fn delete_from(target: &[u8], path: &[u8], out: &mut [u8], room: usize) -> Ending
+fn write_remains(target: &[u8], path: &[u8], out: &mut [u8], room: usize) -> Ending
     ensures { λ e. ⌜ EndedIn e (now (out .entry)) (now (out .exit))
         (onPath deleteBy (now (target .entry)) (now (path .entry)) room) ⌝ }
 {
@@ -184,7 +184,7 @@ pub fn delete_by_keypath_in(target: &[u8], path: &[u8], out: &mut [u8], room: us
     ensures { λ e. ⌜ EndedIn e (now (out .entry)) (now (out .exit))
         (onPath deleteBy (now (target .entry)) (now (path .entry)) room) ⌝ }
 {
-    delete_from(&target[0..], &path[0..], out, room)
+    write_remains(&target[0..], &path[0..], out, room)
 }
 
 // Looks up what a path finds in a record.

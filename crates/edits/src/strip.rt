@@ -232,7 +232,7 @@ fn put_stripped(s: &[u8], out: &mut [u8], at: usize, allowance: u32) -> Stripped
 }
 
 // Stores a container stripped, where no name is repeated among the members kept and there is room for it. It is measured first, on
-// no bytes; lent none, that is all.
+// no bytes; where none are lent, as by a preview, a second run would store nothing, and is left out.
 pub(crate) fn write_stripped(s: &[u8], out: &mut [u8], room: usize) -> Ending
     requires { ⌜ (checked (nested 64 (now s)) ≡ Readable) × (length (now s) ≤ 65536) ⌝ }
     ensures { λ e. ⌜ EndedIn e (now (out .entry)) (now (out .exit)) (stripOut (now (s .entry)) room) ⌝ }

@@ -152,7 +152,7 @@ pub extern "C" fn jsonb_build_object(names: &[u8], values: &[u8], out: &mut [u8]
     c_ending(build_object(names, values, out))
 }
 
-// What the deletion of what a path finds in a record would give.
+// How long a record without what a path finds in it would be, or the number.
 #[no_mangle]
 pub extern "C" fn jsonb_preview_delete(target: &[u8], path: &[u8]) -> u64
     ensures { λ r. ⌜ r ≡ cEnding (previewed (onPath deleteBy (now (target .entry)) (now (path .entry)))) ⌝ }
@@ -160,7 +160,7 @@ pub extern "C" fn jsonb_preview_delete(target: &[u8], path: &[u8]) -> u64
     c_ending(preview_delete(target, path))
 }
 
-// What the overlay of a record with another would give.
+// How long a record overlaid with another would be, or the number.
 #[no_mangle]
 pub extern "C" fn jsonb_preview_concat(left: &[u8], right: &[u8]) -> u64
     ensures { λ r. ⌜ r ≡ cEnding (previewed (onTwo concatOf (now (left .entry)) (now (right .entry)))) ⌝ }
@@ -168,7 +168,7 @@ pub extern "C" fn jsonb_preview_concat(left: &[u8], right: &[u8]) -> u64
     c_ending(preview_concat(left, right))
 }
 
-// What a record without its null members would be.
+// How long a record without its null members would be, or the number.
 #[no_mangle]
 pub extern "C" fn jsonb_preview_strip(target: &[u8]) -> u64
     ensures { λ r. ⌜ r ≡ cEnding (previewed (onOne strip (now (target .entry)))) ⌝ }
@@ -176,7 +176,7 @@ pub extern "C" fn jsonb_preview_strip(target: &[u8]) -> u64
     c_ending(preview_strip(target))
 }
 
-// What an array with a record as one more item would be.
+// How long an array with a record as one more item would be, or the number.
 #[no_mangle]
 pub extern "C" fn jsonb_preview_append(array: &[u8], item: &[u8]) -> u64
     ensures { λ r. ⌜ r ≡ cEnding (previewed (onTwo appendOf (now (array .entry)) (now (item .entry)))) ⌝ }
@@ -184,7 +184,7 @@ pub extern "C" fn jsonb_preview_append(array: &[u8], item: &[u8]) -> u64
     c_ending(preview_append(array, item))
 }
 
-// What the object of an array of names and an array of values would be.
+// How long the object of an array of names and an array of values would be, or the number.
 #[no_mangle]
 pub extern "C" fn jsonb_preview_build(names: &[u8], values: &[u8]) -> u64
     ensures { λ r. ⌜ r ≡ cEnding (previewed (onTwo build (now (names .entry)) (now (values .entry)))) ⌝ }

@@ -1,5 +1,5 @@
 -- Which numbers an answer can have: document 01, "Who can cause each number". `RefusedBy P m` says that `m` is refused, if it is, by a
--- number of which `P` holds. A reading is by the sender's five: 1 short, 2 layout, 3 text, 4 number, 5 too long or deep.
+-- number of which `P` holds. Reading is refused by the sender's five only: 1 short, 2 layout, 3 text, 4 number, 5 too long or deep.
 use Prim.Native.Nat.{ℕ, zero, suc, _+_}
 use mathlib.Core.Bool.{Bool, true, false, cond}
 use mathlib.Core.List.{List, [], _∷_}

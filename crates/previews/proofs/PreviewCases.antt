@@ -73,7 +73,7 @@ two-nulls = 0x80000002 ▸ 0x00000000 ▸ 0x00000000 ▸ []
 abbrev cut-short : Bytes
 cut-short = 0x40 ∷ 0x00 ∷ 0x00 ∷ []
 
--- An extension of `n` bytes at the root, and an object of `n` levels more than one.
+-- An extension of `n` bytes at the root, and `n + 1` objects, one in another.
 abbrev extended : ℕ → Bytes
 extended n = 0x20000000 ▸ (0x60000000 + n) ▸ replicate n 0
 

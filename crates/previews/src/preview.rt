@@ -17,7 +17,7 @@ ghost use Rattle.previews.specs.Preview.{previewed};
 // What is lent for the result.
 const NO_BYTES: usize = 0;
 
-// What the deletion of what a path finds in a record would give.
+// How long a record without what a path finds in it would be, or the number.
 pub fn preview_delete(target: &[u8], path: &[u8]) -> Ending
     ensures { λ e. ⌜ e ≡ previewed (onPath deleteBy (now (target .entry)) (now (path .entry))) ⌝ }
 {
@@ -25,7 +25,7 @@ pub fn preview_delete(target: &[u8], path: &[u8]) -> Ending
     delete_by_keypath_in(target, path, &mut out, RECORD_LIMIT)
 }
 
-// What the overlay of the left record with the right one would give.
+// How long the left record overlaid with the right one would be, or the number.
 pub fn preview_concat(left: &[u8], right: &[u8]) -> Ending
     ensures { λ e. ⌜ e ≡ previewed (onTwo concatOf (now (left .entry)) (now (right .entry))) ⌝ }
 {
@@ -33,7 +33,7 @@ pub fn preview_concat(left: &[u8], right: &[u8]) -> Ending
     concat_in(left, right, &mut out, RECORD_LIMIT)
 }
 
-// What a record without its null members would be.
+// How long a record without its null members would be, or the number.
 pub fn preview_strip(target: &[u8]) -> Ending
     ensures { λ e. ⌜ e ≡ previewed (onOne strip (now (target .entry))) ⌝ }
 {
@@ -41,7 +41,7 @@ pub fn preview_strip(target: &[u8]) -> Ending
     strip_nulls_in(target, &mut out, RECORD_LIMIT)
 }
 
-// What an array with a record as one more item would be.
+// How long an array with a record as one more item would be, or the number.
 pub fn preview_append(array: &[u8], item: &[u8]) -> Ending
     ensures { λ e. ⌜ e ≡ previewed (onTwo appendOf (now (array .entry)) (now (item .entry))) ⌝ }
 {
@@ -49,7 +49,7 @@ pub fn preview_append(array: &[u8], item: &[u8]) -> Ending
     append_in(array, item, &mut out, RECORD_LIMIT)
 }
 
-// What the object of an array of names and an array of values would be.
+// How long the object of an array of names and an array of values would be, or the number.
 pub fn preview_build(names: &[u8], values: &[u8]) -> Ending
     ensures { λ e. ⌜ e ≡ previewed (onTwo build (now (names .entry)) (now (values .entry))) ⌝ }
 {

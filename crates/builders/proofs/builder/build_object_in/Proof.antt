@@ -5,14 +5,14 @@ use Rattle.builders.proofs.builder.build_object_in.Statement.{statement
 use Rattle.builders.proofs.builder.build_object_in.Tie as tie
 
 -- From the call back to the arguments.
-abbrev start : tie.After-build-from → tie.Start
+abbrev start : tie.After-write-built → tie.Start
 start c = let entry = c .before .before .before .before in entry .before .before .before
 
 returns : tie.Need-returns
 returns c =
     let called = c .before .before in
     let a = start called .args in
-    rw (part-all (a .names .now), part-all (a .values .now)) at (called .build-from .ensures)
+    rw (part-all (a .names .now), part-all (a .values .now)) at (called .write-built .ensures)
 
 pub build-object-in-spec : {M : Type 1} → statement M
 build-object-in-spec =

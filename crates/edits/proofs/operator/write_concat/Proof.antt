@@ -1,4 +1,4 @@
--- `edits::operator::overlay` meets its contract.
+-- `edits::operator::write_concat` meets its contract.
 use native.Mathlib.Omega.{arith}
 use mathlib.Core.Path.{sym, _∙_}
 use mathlib.Core.Logic.{⊎-elim}
@@ -7,8 +7,8 @@ use Rattle.layout.proofs.Walks.{none-of}
 use Rattle.builders.proofs.Knowns.{Both-octets}
 use Rattle.edits.proofs.ConcatWrites.{Left-nests, Both-nest, left-refused, right-refused, left-other, right-other, two-objects}
 use borrow.Author.Needs.{needs}
-use Rattle.edits.proofs.operator.overlay.Statement.{statement}
-use Rattle.edits.proofs.operator.overlay.Tie as tie
+use Rattle.edits.proofs.operator.write_concat.Statement.{statement}
+use Rattle.edits.proofs.operator.write_concat.Tie as tie
 
 -- The way back from each passed check to the arguments.
 abbrev start : tie.After-shared-slice-known2 → tie.Start
@@ -86,8 +86,8 @@ write-merged-requires c κs =
     two-objects (both-nest (left-head .before)) (sym (left-head .read-header .ensures) ∙ left .m .given .1)
     (sym (right-headed .read-header2 .ensures) ∙ right .n .given .1)
 
-pub overlay-spec : {M : Type 1} → statement M
-overlay-spec =
+pub write-concat-spec : {M : Type 1} → statement M
+write-concat-spec =
     tie.close
     (tie.spec
     (λ c κs. search needs)

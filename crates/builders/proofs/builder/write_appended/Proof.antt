@@ -1,4 +1,4 @@
--- `builders::builder::append_to` meets its contract.
+-- `builders::builder::write_appended` meets its contract.
 use Prim.Native.Nat.{_^_, _<_}
 use native.Mathlib.Omega.{arith}
 use mathlib.Core.Path.{sym, _∙_}
@@ -10,8 +10,8 @@ use Rattle.builders.proofs.Knowns.{Both-octets}
 use Rattle.builders.proofs.Appends.{Array-read, Both-read, Counted}
 use Rattle.builders.proofs.Appends.{append-left, append-right, append-kind, append-deep, append-lies, append-ends}
 use borrow.Author.Needs.{needs}
-use Rattle.builders.proofs.builder.append_to.Statement.{statement}
-use Rattle.builders.proofs.builder.append_to.Tie as tie
+use Rattle.builders.proofs.builder.write_appended.Statement.{statement}
+use Rattle.builders.proofs.builder.write_appended.Tie as tie
 
 -- The way back from each passed test to the arguments.
 abbrev start : tie.After-shared-slice-known2 → tie.Start
@@ -101,8 +101,8 @@ returns-5 c =
     (λ e. ⊎-elim (λ q. omega arith) (λ q. omega arith) (rw e at (shallow .match4 .keys2)))
     _ (joined .write-joined .ensures)
 
-pub append-to-spec : {M : Type 1} → statement M
-append-to-spec =
+pub write-appended-spec : {M : Type 1} → statement M
+write-appended-spec =
     tie.close
     (tie.spec
     (λ c κs. search needs)

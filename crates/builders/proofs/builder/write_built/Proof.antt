@@ -1,4 +1,4 @@
--- `builders::builder::build_from` meets its contract.
+-- `builders::builder::write_built` meets its contract.
 use native.Mathlib.Omega.{arith}
 use mathlib.Core.Path.{sym, _∙_}
 use Rattle.layout.proofs.Words.{octets-of}
@@ -8,8 +8,8 @@ use Rattle.builders.proofs.Knowns.{Both-octets}
 use Rattle.builders.proofs.Builds.{Names-read, Both-read, Names-counted, Both-counted}
 use Rattle.builders.proofs.Builds.{build-left, build-right, build-no-names, build-no-values, build-unequal, build-no-strings, build-pairs}
 use borrow.Author.Needs.{needs}
-use Rattle.builders.proofs.builder.build_from.Statement.{statement}
-use Rattle.builders.proofs.builder.build_from.Tie as tie
+use Rattle.builders.proofs.builder.write_built.Statement.{statement}
+use Rattle.builders.proofs.builder.write_built.Tie as tie
 
 -- The way back from each passed test to the arguments.
 abbrev start : tie.After-shared-slice-known2 → tie.Start
@@ -102,8 +102,8 @@ returns-7 c =
     let equal = strings .before in
     build-no-strings (both-counted (equal .before)) (equal .if1 .left) (strings .are-strings .ensures) _ (c .if2 .left)
 
-pub build-from-spec : {M : Type 1} → statement M
-build-from-spec =
+pub write-built-spec : {M : Type 1} → statement M
+write-built-spec =
     tie.close
     (tie.spec
     (λ c κs. search needs)

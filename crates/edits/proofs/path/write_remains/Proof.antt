@@ -1,4 +1,4 @@
--- `edits::path::delete_from` meets its contract.
+-- `edits::path::write_remains` meets its contract.
 use native.Mathlib.Omega.{arith}
 use mathlib.Core.Path.{sym, _∙_}
 use Rattle.layout.proofs.Words.{octets-of}
@@ -8,8 +8,8 @@ use Rattle.edits.proofs.Lookups.{Target-read, Steps-counted, Container-
 use Rattle.edits.proofs.Deletions.{delete-left, delete-path, delete-extension, delete-kind, delete-whole}
 use Rattle.edits.proofs.Deletions.{delete-none, delete-finds, delete-found}
 use borrow.Author.Needs.{needs}
-use Rattle.edits.proofs.path.delete_from.Statement.{statement}
-use Rattle.edits.proofs.path.delete_from.Tie as tie
+use Rattle.edits.proofs.path.write_remains.Statement.{statement}
+use Rattle.edits.proofs.path.write_remains.Tie as tie
 
 -- The way back from each passed test to the arguments, and to where the steps were counted.
 abbrev start : tie.After-shared-slice-known2 → tie.Start
@@ -118,8 +118,8 @@ returns-7 c =
     let search = told .before .before in
     delete-found (searched search) (told .enum-told4 .given .1) (search .before .if2 .left) _ (stored .write-deleted .ensures)
 
-pub delete-from-spec : {M : Type 1} → statement M
-delete-from-spec =
+pub write-remains-spec : {M : Type 1} → statement M
+write-remains-spec =
     tie.close
     (tie.spec
     (λ c κs. search needs)
