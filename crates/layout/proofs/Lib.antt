@@ -24,6 +24,7 @@ pub mod TextCases
 pub mod Checks
 pub mod Pieces
 pub mod Passes
+pub mod Carries
 pub mod Nestings
 pub mod Orders
 pub mod Asks

@@ -52,7 +52,7 @@ unfolding lengths
 place-start s p = sym (add-zero p)
 
 -- One length more.
-lengths-snoc : (s : Bytes) (i : ℕ) → lengths s 0 (i + 1) ≡ lengths s 0 i + length-of (entry-at s i)
+pub lengths-snoc : (s : Bytes) (i : ℕ) → lengths s 0 (i + 1) ≡ lengths s 0 i + length-of (entry-at s i)
 unfolding lengths
 lengths-snoc s i = lengths-split s 0 i 1 ∙ rw (zero-add i, add-zero (length-of (entry-at s i)))
 

@@ -1,5 +1,6 @@
 -- What a walk over a readable record means: it hands out the record's parts in turn, and then answers the end.
 use Prim.Native.Nat.{ℕ, zero, suc, _+_, _*_, _-_, _≤_}
+use native.Mathlib.Nat.{add-zero, zero-add, sub-zero, not-suc-le-zero}
 use native.Mathlib.Omega.{arith}
 use mathlib.Core.Path.{_≡_, refl, sym, ap, _∙_}
 use mathlib.Core.Bool.{Bool, true, false, not, _&&_, _||_}
@@ -18,6 +19,7 @@ use Rattle.layout.specs.Read.{header, entry-ok, text, number-in, payload
 use Rattle.layout.specs.Place.{table-ok, parts-at}
 use Rattle.layout.specs.Walk.{item-of, counted, characters-of, item-at, ends-with, array-step, member-at, member-step, object-step}
 use Rattle.layout.specs.Walk.{array-walk, object-walk, opening}
+use Rattle.layout.specs.Table.{table-place, array-at, object-at, array-after, object-after}
 use Rattle.layout.specs.Walk.{array-opened, array-open, object-opened, object-open, walked, object-walked, paired}
 use Rattle.layout.specs.declared.item.Kind.{Kind}
 use Rattle.layout.specs.declared.item.Kind.the-variants.{Null, String, Number, False, True, Container, Extension}
@@ -109,29 +111,72 @@ step-at s i p k good table payload c given =
       b,
     )
 
--- A walk over entries that pass rule 5, with table and payloads inside the slice, and payloads that read, hands out their parts and
--- ends.
-walked-at : (s : Bytes) (m i p k : ℕ) → table-ok s m i k ≡ true → 4 + 4 * (i + k) ≤ length s → p + lengths s i k ≤ length s
-    → (inner : Bytes → Answer Tree) (ts : Items) → items-in inner (parts-at s i p k) ≡ gives ts
-    → walked s (walk-at i p k) (suc k) ≡ some (parts-at s i p k)
-unfolding walked array-step item-of parts-at
-walked-at s m i p zero ok table payload inner ts reads = refl
-walked-at s m i p (suc k) ok table payload inner ts reads =
-    let h = table-head s m i k ok in
+-- The `k` items from entry `i` on, the first at `p`: entries that pass rule 5, with table and payloads inside the slice, and payloads
+-- that read.
+pub record ItemsAhead (s : Bytes) (m i p k : ℕ) : Type 0 where
+  pub table : table-ok s m i k ≡ true
+  pub inside : 4 + 4 * (i + k) ≤ length s
+  pub payloads : p + lengths s i k ≤ length s
+  pub inner : Bytes → Answer Tree
+  pub trees : Items
+  pub reads : items-in inner (parts-at s i p k) ≡ gives trees
+
+-- A step hands out the first of them, and is then before the others.
+item-step : (s : Bytes) (m i p k : ℕ) → ItemsAhead s m i p (suc k)
+    → (c : Characters)
+    × (array-step s (walk-at i p (suc k)) ≡ Item (item-of (entry-at s i) p c) (walk-at (i + 1) (p + length-of (entry-at s i)) k))
+    × ItemsAhead s m (i + 1) (p + length-of (entry-at s i)) k
+unfolding parts-at
+item-step s m i p k a =
+    let h = table-head s m i k (a .table) in
     let l = lengths-cons s i k in
-    from-bind reads λ t ht reads₁. from-bind reads₁ λ us hu _.
-    let g = item-given s (entry-at s i) p inner t ht in
-    rw (
-      step-at s i p k (good-item (ltb i m) _ (ok-good (ltb i m) _ (h .0))) (omega arith) (omega arith) (g .0) (g .1),
-      walked-at s m (i + 1) (p + length-of (entry-at s i)) k (h .1) (omega arith) (omega arith) inner us hu,
+    from-bind (a .reads) λ t ht reads₁. from-bind reads₁ λ us hu _.
+    let g = item-given s (entry-at s i) p (a .inner) t ht in (
+      g .0,
+      step-at s i p k (good-item (ltb i m) _ (ok-good (ltb i m) _ (h .0))) (omega (arith, a .inside)) (omega (arith, a .payloads)) (g .0) (g .1),
+      record {
+        table = h .1;
+        inside = omega (arith, a .inside);
+        payloads = omega (arith, a .payloads);
+        inner = a .inner;
+        trees = us;
+        reads = hu;
+      },
     )
 
--- The walk before the first item of an array of `n` hands out its `n` parts in turn, and then answers the end.
-pub walked-array : (s : Bytes) (n : ℕ) → table-ok s 0 0 n ≡ true → 4 + 4 * n + lengths s 0 n ≤ length s
-    → (inner : Bytes → Answer Tree) (ts : Items) → items-in inner (parts-at s 0 (4 + 4 * n) n) ≡ gives ts
+-- So a walk over them hands out their parts, and ends; and it carries their places: behind `j` of them it is at the one that the lengths
+-- before it sum to.
+walked-at : (s : Bytes) (m i p k : ℕ) → ItemsAhead s m i p k → walked s (walk-at i p k) (suc k) ≡ some (parts-at s i p k)
+unfolding walked array-step item-of parts-at
+walked-at s m i p zero a = refl
+walked-at s m i p (suc k) a =
+    let w = item-step s m i p k a in
+    rw (w .1, walked-at s m (i + 1) (p + length-of (entry-at s i)) k (w .2))
+
+after-at : (s : Bytes) (m i p j k : ℕ) → j ≤ k → ItemsAhead s m i p k
+    → array-after s (walk-at i p k) j ≡ some (walk-at (i + j) (p + lengths s i j) (k - j))
+unfolding array-after lengths
+after-at s m i p zero k h a = rw (add-zero i, add-zero p, sub-zero k)
+after-at s m i p (suc j) zero h a = absurd (not-suc-le-zero h)
+after-at s m i p (suc j) (suc k) h a =
+    let w = item-step s m i p k a in
+    let l = length-of (entry-at s i) in
+    let e : i + 1 + j ≡ i + suc j = omega arith in
+    let e₁ : p + l + lengths s (i + 1) j ≡ p + (l + lengths s (i + 1) j) = omega arith in
+    let e₂ : k - j ≡ suc k - suc j = omega arith in
+    rw (w .1) (after-at s m (i + 1) (p + l) j k (omega arith) (w .2) ∙ rw (e, e₁, e₂))
+
+-- The walk before the first item of an array of `n` hands out its `n` parts in turn, and then answers the end. Before item `k` it holds
+-- the place that the table gives it: document 02 §4.
+pub walked-array : (s : Bytes) (n : ℕ) → ItemsAhead s 0 0 (4 + 4 * n) n
     → walked s (array-walk n) (suc n) ≡ some (parts-at s 0 (4 + 4 * n) n)
 unfolding array-walk
-walked-array s n ok fits inner ts reads = walked-at s 0 0 (4 + 4 * n) n ok (omega arith) fits inner ts reads
+walked-array s n a = walked-at s 0 0 (4 + 4 * n) n a
+
+pub array-carries : (s : Bytes) (n k : ℕ) → k ≤ n → ItemsAhead s 0 0 (4 + 4 * n) n
+    → array-after s (array-walk n) k ≡ some (array-at s n k)
+unfolding array-walk
+array-carries s n k h a = after-at s 0 0 (4 + 4 * n) k n h a ∙ rw (zero-add k)
 
 -- The same for an object: name entry `i`, value entry `j`, name at `q`, value at `p`.
 abbrev walk-over : ℕ → ℕ → ℕ → ℕ → ℕ → ObjectIterator
@@ -166,45 +211,102 @@ step-over s i j q p k name value table table′ payload payload′ c c′ given 
       b,
     )
 
-walked-over : (s : Bytes) (m i j q p k : ℕ) → i + k ≤ m → table-ok s m i k ≡ true → table-ok s m j k ≡ true
-    → 4 + 4 * (i + k) ≤ length s → 4 + 4 * (j + k) ≤ length s
-    → q + lengths s i k ≤ length s → p + lengths s j k ≤ length s
-    → (ns : List Bytes) → names-in (parts-at s i q k) ≡ gives ns
-    → (inner : Bytes → Answer Tree) (ts : Items) → items-in inner (parts-at s j p k) ≡ gives ts
-    → object-walked s (walk-over i j q p k) (suc k) ≡ some (paired (parts-at s i q k) (parts-at s j p k))
-unfolding object-walked object-step item-of parts-at
-walked-over s m i j q p zero names ok ok′ table table′ payload payload′ ns texts inner ts reads = refl
-walked-over s m i j q p (suc k) names ok ok′ table table′ payload payload′ ns texts inner ts reads =
-    let h = table-head s m i k ok in
-    let h′ = table-head s m j k ok′ in
+-- The `k` members from name entry `i` and value entry `j` on, in the same way.
+pub record MembersAhead (s : Bytes) (m i j q p k : ℕ) : Type 0 where
+  pub named : i + k ≤ m
+  pub names : table-ok s m i k ≡ true
+  pub values : table-ok s m j k ≡ true
+  pub names-inside : 4 + 4 * (i + k) ≤ length s
+  pub values-inside : 4 + 4 * (j + k) ≤ length s
+  pub names-fit : q + lengths s i k ≤ length s
+  pub values-fit : p + lengths s j k ≤ length s
+  pub texts : List Bytes
+  pub texts-read : names-in (parts-at s i q k) ≡ gives texts
+  pub inner : Bytes → Answer Tree
+  pub trees : Items
+  pub trees-read : items-in inner (parts-at s j p k) ≡ gives trees
+
+member-step-on : (s : Bytes) (m i j q p k : ℕ) → MembersAhead s m i j q p (suc k)
+    → (c : Characters) × (c′ : Characters)
+    × (object-step s (walk-over i j q p (suc k))
+    ≡ Member (record { key = item-of (entry-at s i) q c; val = item-of (entry-at s j) p c′ })
+    (walk-over (i + 1) (j + 1) (q + length-of (entry-at s i)) (p + length-of (entry-at s j)) k))
+    × MembersAhead s m (i + 1) (j + 1) (q + length-of (entry-at s i)) (p + length-of (entry-at s j)) k
+unfolding parts-at
+member-step-on s m i j q p k a =
+    let h = table-head s m i k (a .names) in
+    let h′ = table-head s m j k (a .values) in
     let l = lengths-cons s i k in
     let l′ = lengths-cons s j k in
-    let name : entry-ok true (entry-at s i) ≡ true = rw (lt-ltb i m (omega arith)) at (h .0) in
-    from-bind texts λ x hx texts₁. from-bind texts₁ λ xs hxs _.
-    from-bind reads λ t ht reads₁. from-bind reads₁ λ us hu _.
+    let name : entry-ok true (entry-at s i) ≡ true = rw (lt-ltb i m (omega (arith, a .named))) at (h .0) in
+    from-bind (a .texts-read) λ x hx texts₁. from-bind texts₁ λ xs hxs _.
+    from-bind (a .trees-read) λ t ht reads₁. from-bind reads₁ λ us hu _.
     let g = text-given s (entry-at s i) q x hx in
-    let g′ = item-given s (entry-at s j) p inner t ht in
-    rw (
+    let g′ = item-given s (entry-at s j) p (a .inner) t ht in (
+      g .0,
+      g′ .0,
       step-over s i j q p k (ok-good true _ name) (good-item (ltb j m) _ (ok-good (ltb j m) _ (h′ .0)))
-          (omega arith) (omega arith) (omega arith) (omega arith) (g .0) (g′ .0) (g .1) (g′ .1),
-      walked-over s m (i + 1) (j + 1) (q + length-of (entry-at s i)) (p + length-of (entry-at s j)) k
-          (omega arith) (h .1) (h′ .1) (omega arith) (omega arith) (omega arith) (omega arith) xs hxs inner us hu,
+          (omega (arith, a .names-inside)) (omega (arith, a .values-inside)) (omega (arith, a .names-fit)) (omega (arith, a .values-fit))
+          (g .0) (g′ .0) (g .1) (g′ .1),
+      record {
+        named = omega (arith, a .named);
+        names = h .1;
+        values = h′ .1;
+        names-inside = omega (arith, a .names-inside);
+        values-inside = omega (arith, a .values-inside);
+        names-fit = omega (arith, a .names-fit);
+        values-fit = omega (arith, a .values-fit);
+        texts = xs;
+        texts-read = hxs;
+        inner = a .inner;
+        trees = us;
+        trees-read = hu;
+      },
     )
 
--- The walk before the first member of an object of `n` hands out its `n` names with their values in turn, and then answers
--- the end.
-pub walked-object : (s : Bytes) (n : ℕ) → table-ok s n 0 (n + n) ≡ true → 4 + 8 * n + lengths s 0 (n + n) ≤ length s
-    → (ns : List Bytes) → names-in (parts-at s 0 (4 + 8 * n) n) ≡ gives ns
-    → (inner : Bytes → Answer Tree) (ts : Items) → items-in inner (parts-at s n (4 + 8 * n + lengths s 0 n) n) ≡ gives ts
+walked-over : (s : Bytes) (m i j q p k : ℕ) → MembersAhead s m i j q p k
+    → object-walked s (walk-over i j q p k) (suc k) ≡ some (paired (parts-at s i q k) (parts-at s j p k))
+unfolding object-walked object-step item-of parts-at
+walked-over s m i j q p zero a = refl
+walked-over s m i j q p (suc k) a =
+    let w = member-step-on s m i j q p k a in
+    rw (w .2, walked-over s m (i + 1) (j + 1) (q + length-of (entry-at s i)) (p + length-of (entry-at s j)) k (w .3))
+
+after-over : (s : Bytes) (m i j q p r k : ℕ) → r ≤ k → MembersAhead s m i j q p k
+    → object-after s (walk-over i j q p k) r ≡ some (walk-over (i + r) (j + r) (q + lengths s i r) (p + lengths s j r) (k - r))
+unfolding object-after lengths
+after-over s m i j q p zero k h a = rw (add-zero i, add-zero j, add-zero q, add-zero p, sub-zero k)
+after-over s m i j q p (suc r) zero h a = absurd (not-suc-le-zero h)
+after-over s m i j q p (suc r) (suc k) h a =
+    let w = member-step-on s m i j q p k a in
+    let l = length-of (entry-at s i) in
+    let l′ = length-of (entry-at s j) in
+    let e : i + 1 + r ≡ i + suc r = omega arith in
+    let e′ : j + 1 + r ≡ j + suc r = omega arith in
+    let e₁ : q + l + lengths s (i + 1) r ≡ q + (l + lengths s (i + 1) r) = omega arith in
+    let e₁′ : p + l′ + lengths s (j + 1) r ≡ p + (l′ + lengths s (j + 1) r) = omega arith in
+    let e₂ : k - r ≡ suc k - suc r = omega arith in
+    rw (w .2) (after-over s m (i + 1) (j + 1) (q + l) (p + l′) r k (omega arith) (w .3) ∙ rw (e, e′, e₁, e₁′, e₂))
+
+-- The walk before the first member of an object of `n` hands out its `n` names with their values in turn, and then answers the end.
+-- Before member `k` it holds the two places that the table gives it.
+abbrev ObjectAhead : Bytes → ℕ → Type 0
+ObjectAhead s n = MembersAhead s n 0 n (4 + 8 * n) (4 + 8 * n + lengths s 0 n) n
+
+pub walked-object : (s : Bytes) (n : ℕ) → ObjectAhead s n
     → object-walked s (object-walk s n) (suc n)
     ≡ some (paired (parts-at s 0 (4 + 8 * n) n) (parts-at s n (4 + 8 * n + lengths s 0 n) n))
 unfolding object-walk
-walked-object s n ok fits ns texts inner ts reads =
-    let e : 0 + n ≡ n = omega arith in
-    let h = table-split s n 0 n n ok in
-    let l : lengths s 0 (n + n) ≡ lengths s 0 n + lengths s n n = rw e at (lengths-split s 0 n n) in
-    walked-over s n 0 n (4 + 8 * n) (4 + 8 * n + lengths s 0 n) n (omega arith) (h .0) (rw e at (h .1))
-    (omega arith) (omega arith) (omega arith) (omega arith) ns texts inner ts reads
+walked-object s n a = walked-over s n 0 n (4 + 8 * n) (4 + 8 * n + lengths s 0 n) n a
+
+pub object-carries : (s : Bytes) (n k : ℕ) → k ≤ n → ObjectAhead s n
+    → object-after s (object-walk s n) k ≡ some (object-at s n k)
+unfolding object-walk
+object-carries s n k h a =
+    let e : 4 + 8 * n ≡ 4 + 4 * (n + n) = omega arith in
+    let e₁ : 4 + 4 * (n + n) + lengths s 0 n + lengths s n k ≡ table-place s (n + n) (n + k) =
+    omega (arith, rw (zero-add n) at (lengths-split s 0 n k)) in
+    after-over s n 0 n (4 + 8 * n) (4 + 8 * n + lengths s 0 n) k n h a ∙ rw (zero-add k, e, e₁)
 
 -- A scalar record holds no container.
 abbrev Flat : Tree → Type 0
@@ -234,6 +336,7 @@ pub record ArrayWalked (s : Bytes) (ts : Items) : Type 0 where
   pub each : List Part
   pub opened : array-open s ≡ Opened (array-walk count)
   pub handed-out : walked s (array-walk count) (suc count) ≡ some each
+  pub carried : (k : ℕ) → k ≤ count → array-after s (array-walk count) k ≡ some (array-at s count k)
   pub items : items-in (nested 63) each ≡ gives ts
 
 array-by : (s : Bytes) (ts : Items) (h : Header) → h ≡ header s → read s ≡ gives (array ts)
@@ -248,11 +351,21 @@ array-by s ts (Array n) hh e q =
     from-bind q λ ps hp q₁. from-bind q₁ λ us hu q₂.
     let l = laid s n 0 ps ((told-array s _ hh n refl) .0) hp in
     let same : us ≡ ts = cc in
+    let ahead : ItemsAhead s 0 0 (4 + 4 * n) n =
+    record {
+      table = l .table;
+      inside = omega (arith, l .fits);
+      payloads = l .fits;
+      inner = nested 63;
+      trees = us;
+      reads = rw (l .same) at hu;
+    } in
     record {
       count = n;
       each = ps;
       opened = rw (e, ← hh);
-      handed-out = rw (l .same) (walked-array s n (l .table) (l .fits) (nested 63) us (rw (l .same) at hu));
+      handed-out = rw (l .same) (walked-array s n ahead);
+      carried = λ k h. array-carries s n k h ahead;
       items = hu ∙ ap gives same;
     }
 
@@ -268,6 +381,7 @@ pub record ObjectWalked (s : Bytes) (ms : Members) : Type 0 where
   pub trees : Items
   pub opened : object-open s ≡ OpenedObject (object-walk s count)
   pub handed-out : object-walked s (object-walk s count) (suc count) ≡ some (paired keys vals)
+  pub carried : (k : ℕ) → k ≤ count → object-after s (object-walk s count) k ≡ some (object-at s count k)
   pub all-keys : length keys ≡ count
   pub all-vals : length vals ≡ count
   pub names : names-in keys ≡ gives texts
@@ -290,6 +404,23 @@ object-by s ms (Object n) hh e q =
     let same : ps ≡ parts-at s 0 (4 + 8 * n) (n + n) = rw (← a) (l .same) in
     let keys : take n ps ≡ parts-at s 0 (4 + 8 * n) n = rw same (take-parts s 0 (4 + 8 * n) n n) in
     let vals : drop n ps ≡ parts-at s n (4 + 8 * n + lengths s 0 n) n = rw (same, drop-parts s 0 (4 + 8 * n) n n, b) in
+    let t = table-split s n 0 n n (l .table) in
+    let total : lengths s 0 (n + n) ≡ lengths s 0 n + lengths s n n = rw b at (lengths-split s 0 n n) in
+    let ahead : ObjectAhead s n =
+    record {
+      named = omega arith;
+      names = t .0;
+      values = rw b at (t .1);
+      names-inside = omega (arith, l .fits);
+      values-inside = omega (arith, l .fits);
+      names-fit = omega (arith, l .fits);
+      values-fit = omega (arith, l .fits);
+      texts = ns;
+      texts-read = rw keys at hn;
+      inner = nested 63;
+      trees = us;
+      trees-read = rw vals at hu;
+    } in
     record {
       count = n;
       keys = take n ps;
@@ -297,9 +428,8 @@ object-by s ms (Object n) hh e q =
       texts = ns;
       trees = us;
       opened = rw (e, ← hh);
-      handed-out =
-          rw (keys, vals)
-          (walked-object s n (l .table) (rw a at (l .fits)) ns (rw keys at hn) (nested 63) us (rw vals at hu));
+      handed-out = rw (keys, vals) (walked-object s n ahead);
+      carried = λ k h. object-carries s n k h ahead;
       all-keys = rw (keys, length-parts s 0 (4 + 8 * n) n);
       all-vals = rw (vals, length-parts s n (4 + 8 * n + lengths s 0 n) n);
       names = hn;

@@ -23,6 +23,8 @@ pub mod Pipeline
 pub mod Walk
 -- The code points of a text in the RFC's own words, which no promise cites: a theorem says that they are those of `Text`.
 pub mod CodePoints
+-- Document 02 §4: the place that the table gives an item, which theorems say every carried place to be.
+pub mod Table
 -- Forms that follow the code, which the helpers for the crates above promise; theorems of proofs/ tie each to the definitions above.
 pub mod Patch
 pub mod Room

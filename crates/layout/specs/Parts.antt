@@ -7,7 +7,8 @@ use mathlib.Core.Bool.{Bool}
 use mathlib.Core.List.{List, [], _∷_}
 use lib.ListN.{length, take, drop}
 use Rattle.layout.specs.Bytes.{Bytes, word-at}
-use Rattle.layout.specs.Entry.{length-of, entry-at, lengths}
+use Rattle.layout.specs.Entry.{length-of, entry-at}
+use Rattle.layout.specs.Table.{table-place}
 use Rattle.layout.specs.Encode.{Part}
 use Rattle.layout.specs.Place.{part-at, parts-at, rising-parts}
 use Rattle.layout.specs.declared.util.Header.{Header}
@@ -53,7 +54,7 @@ abbrev pub first-part : ℕ → PartAt
 first-part n = record { index = 0; place = start-of n }
 
 abbrev pub nth-part : Bytes → ℕ → ℕ → PartAt
-nth-part s n k = record { index = k; place = start-of n + lengths s 0 k }
+nth-part s n k = record { index = k; place = table-place s n k }
 
 abbrev pub parts-end : Bytes → ℕ → PartAt
 parts-end s n = record { index = n; place = length s }
@@ -103,7 +104,7 @@ members-of s n =
       «key_jentry» = 4;
       «val_jentry» = start-of n;
       key = start-of (n + n);
-      val = start-of (n + n) + lengths s 0 n;
+      val = table-place s (n + n) n;
     }
 
 -- The places behind a member whose name and value are so long; and behind one that stands in a record.

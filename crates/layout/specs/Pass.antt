@@ -10,6 +10,7 @@ use Rattle.layout.specs.Entry.{code-of, length-of, kind-of, entry-at, le
 use Rattle.layout.specs.Tree.{Tree}
 use Rattle.layout.specs.Read.{entry-ok, payload-in}
 use Rattle.layout.specs.Place.{table-ok}
+use Rattle.layout.specs.Table.{table-place, table-part}
 use Rattle.layout.specs.Check.{checked}
 use Rattle.layout.specs.declared.refusal.Refusal.{Refusal}
 use Rattle.layout.specs.declared.refusal.Refusal.the-variants.{Layout}
@@ -38,6 +39,14 @@ items-checked inner s i p (suc k) =
     cond (ltb (length s) (p + length-of (entry-at s i))) (Refused Layout)
     (and-then (item-checked inner (entry-at s i) (take (length-of (entry-at s i)) (drop p s)))
     (items-checked inner s (i + 1) (p + length-of (entry-at s i)) k))
+
+-- The same for items of `n` entries, with nothing carried: for each the place that the table gives it (document 02 §4). `check-carries`
+-- of proofs/Carries.antt says that both have one answer.
+unfoldable pub items-by-table : (Bytes → Answer Tree) → Bytes → ℕ → ℕ → ℕ → Check
+items-by-table inner s n i zero = cond (eqb (table-place s n i) (length s)) Readable (Refused Layout)
+items-by-table inner s n i (suc k) =
+    cond (ltb (length s) (table-place s n (i + 1))) (Refused Layout)
+    (and-then (item-checked inner (entry-at s i) (table-part s n i .bytes)) (items-by-table inner s n (i + 1) k))
 
 -- Where the `k` names from the `i`th on end, the first of them at `p`.
 unfoldable pub names-end : Bytes → ℕ → ℕ → ℕ → NamesEnd

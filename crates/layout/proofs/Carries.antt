@@ -1,0 +1,108 @@
+-- Document 02 §4: "Show that each carried place is the one the table gives." Of the reading, of the check's pass, of the walks, and of
+-- parts and members, as the crates above take them; and the two steps by which a loop keeps to it.
+use Prim.Native.Nat.{ℕ, zero, suc, _+_, _*_, _-_, _≤_}
+use native.Mathlib.Omega.{arith}
+use native.Mathlib.Nat.{add-zero}
+use mathlib.Core.Path.{_≡_, refl, sym, ap, _∙_}
+use mathlib.Core.Bool.{Bool, true, false, cond, _&&_}
+use mathlib.Core.List.{List}
+use mathlib.Core.Option.{some}
+use lib.Dec.{ltb, eqb}
+use lib.ListN.{length, drop}
+use Rattle.layout.specs.Bytes.{Bytes, word-at}
+use Rattle.layout.specs.Answer.{Answer, gives}
+use Rattle.layout.specs.Entry.{length-of, entry-at, lengths}
+use Rattle.layout.specs.Tree.{Tree}
+use Rattle.layout.specs.Encode.{Part}
+use Rattle.layout.specs.Read.{parts}
+use Rattle.layout.specs.Place.{parts-at}
+use Rattle.layout.specs.Pass.{items-checked, items-by-table, names-end}
+use Rattle.layout.specs.Table.{table-place, parts-by-table, table-places, table-member, members-by-table, Carried, CarriedPair}
+use Rattle.layout.specs.Parts.{start-of, member-at, members-from, members-at, members-of, behind-member, nth-part, first-part, next-part}
+use Rattle.layout.specs.declared.check.NamesEnd.the-variants.{At}
+use Rattle.layout.specs.declared.parts.MemberAt.{MemberAt}
+use Rattle.layout.specs.declared.parts.Places.{Places}
+use Rattle.layout.specs.declared.parts.PartAt.{PartAt}
+use Rattle.layout.proofs.Places.{lengths-split, laid}
+use Rattle.layout.proofs.Pieces.{lengths-snoc}
+use Rattle.layout.proofs.Passes.{names-to}
+
+-- The first item stands behind the table, and each of the others behind the one before.
+pub place-first : (s : Bytes) (n : ℕ) → start-of n ≡ table-place s n 0
+unfolding lengths
+place-first s n = sym (add-zero (start-of n))
+
+pub place-behind : (s : Bytes) (n i : ℕ) → table-place s n i + length-of (entry-at s i) ≡ table-place s n (i + 1)
+place-behind s n i = omega (arith, lengths-snoc s i)
+
+-- A loop carries its place from the start, and from one item to the next.
+pub carried-start : (s : Bytes) (i p : ℕ) → Carried s i p i p
+carried-start s i p n e = e
+
+pub carried-on : (s : Bytes) (from start i p e l : ℕ) → Carried s from start i p → e ≡ entry-at s i → l ≡ length-of e
+    → Carried s from start (i + 1) (p + l)
+carried-on s from start i p e l c he hl n h = rw (c n h, hl, he) (place-behind s n i)
+
+-- The same for members.
+module _ (ks vs : Bytes) where
+  pub pair-start : (at : Places) → CarriedPair ks vs at 0 at
+  pair-start at a i b j e = rw (add-zero i, add-zero j) e
+
+  pub member-behind : (a i b j : ℕ)
+      → behind-member (table-places ks a i vs b j) (table-member ks a i vs b j) ≡ table-places ks a (i + 1) vs b (j + 1)
+  member-behind a i b j =
+      let x : 4 + 4 * i + 4 ≡ 4 + 4 * (i + 1) = omega arith in
+      let y : 4 + 4 * j + 4 ≡ 4 + 4 * (j + 1) = omega arith in
+      rw (x, y, place-behind ks a i, place-behind vs b j)
+
+  pub pair-on : (from at next : Places) (k : ℕ) (m : MemberAt) → CarriedPair ks vs from k at
+      → m ≡ member-at ks vs (at .«key_jentry») (at .«val_jentry») (at .key) (at .val) → next ≡ behind-member at m
+      → CarriedPair ks vs from (k + 1) next
+  unfolding entry-at
+  pair-on from at next k m c hm hn a i b j e =
+      let x : i + k + 1 ≡ i + (k + 1) = omega arith in
+      let y : j + k + 1 ≡ j + (k + 1) = omega arith in
+      rw (hn, hm, c a i b j e) (member-behind a (i + k) b (j + k) ∙ rw (x, y))
+
+  -- The members that are handed out one behind the other from a table's places on are the table's.
+  pub members-carry : (a i b j k : ℕ)
+      → members-at ks vs (table-places ks a i vs b j) k ≡ members-by-table ks a i vs b j k
+  unfolding members-at members-from members-by-table entry-at
+  members-carry a i b j zero = refl
+  members-carry a i b j (suc k) =
+      let x : 4 + 4 * i + 4 ≡ 4 + 4 * (i + 1) = omega arith in
+      let y : 4 + 4 * j + 4 ≡ 4 + 4 * (j + 1) = omega arith in
+      rw (x, y, place-behind ks a i, place-behind vs b j, members-carry a (i + 1) b (j + 1) k)
+
+-- Those of an object of `n`.
+pub object-places : (s : Bytes) (n : ℕ) → members-of s n ≡ table-places s (n + n) 0 s (n + n) n
+object-places s n =
+    ap (λ (p : ℕ). record { «key_jentry» = 4; «val_jentry» = start-of n; key = p; val = table-place s (n + n) n }) (place-first s (n + n))
+
+-- Parts one behind the other, from a place of the table on; those that a record of the layout is read by are these.
+pub parts-carry : (s : Bytes) (n i k : ℕ) → parts-at s i (table-place s n i) k ≡ parts-by-table s n i k
+unfolding parts-at parts-by-table
+parts-carry s n i zero = refl
+parts-carry s n i (suc k) = rw (place-behind s n i, parts-carry s n (i + 1) k)
+
+pub parts-read : (s : Bytes) (n names : ℕ) (ps : List Part) → 4 ≤ length s → parts n names (drop 4 s) ≡ gives ps
+    → ps ≡ parts-by-table s n 0 n
+parts-read s n names ps four e =
+    laid s n names ps four e .same ∙ ap (λ (p : ℕ). parts-at s 0 p n) (place-first s n) ∙ parts-carry s n 0 n
+
+-- A part by the number of its entry: the first, and the one behind another.
+pub first-carries : (s : Bytes) (n : ℕ) → first-part n ≡ nth-part s n 0
+first-carries s n = ap (λ (p : ℕ). record { index = 0; place = p }) (place-first s n)
+
+pub next-carries : (s : Bytes) (n k : ℕ) → next-part s (nth-part s n k) ≡ nth-part s n (k + 1)
+next-carries s n k = rw (place-behind s n k)
+
+-- The check: the items in one pass, and the place where the names end.
+pub check-carries : (inner : Bytes → Answer Tree) (s : Bytes) (n i k : ℕ)
+    → items-checked inner s i (table-place s n i) k ≡ items-by-table inner s n i k
+unfolding items-checked items-by-table
+check-carries inner s n i zero = refl
+check-carries inner s n i (suc k) = rw (place-behind s n i, check-carries inner s n (i + 1) k)
+
+pub names-carry : (s : Bytes) (n names e : ℕ) → names-end s 0 (start-of n) names ≡ At e → e ≡ table-place s n names
+names-carry s n names e q = names-to s names 0 (start-of n) names e (omega arith) q .place
