@@ -1,6 +1,6 @@
 -- `layout::check::check_body`, `check_item`, `check_items`, `check_nested` and `check_parts` meet their contracts.
 -- They call each other; the number that falls is five times the allowance, and a place in the turn. The loop over the items keeps
--- that the answer for all of them is the answer for the rest.
+-- that the answer for all of them is the answer for the rest, and that its place is the table's.
 use Prim.Native.Nat.{_+_, _*_, _-_, _≤_}
 use mathlib.Core.Path.{_≡_, refl, sym, _∙_}
 use native.Mathlib.Omega.{arith}
@@ -8,10 +8,12 @@ use lib.ListN.{length, length-take, length-drop}
 use borrow.Author.Needs.{needs}
 use Rattle.layout.specs.Read.{nested}
 use Rattle.layout.specs.Pass.{items-checked}
+use Rattle.layout.specs.Table.{Carried}
 use Rattle.layout.proofs.Fields.{part-all, length-lt}
 use Rattle.layout.proofs.Checks.{item-top, item-text, item-no-text, item-number, item-no-number, item-container, item-extension, item-unused, item-empty, item-not-empty}
 use Rattle.layout.proofs.Checks.{body-short, told-array, told-object, nested-refused, nested-scalar, deep-array, deep-object, nested-array, nested-object}
 use Rattle.layout.proofs.Passes.{pass-long, pass-stop, pass-more, pass-end, pass-short, names-within, parts-behind, parts-all, body-no-names, body-passed, body-refused}
+use Rattle.layout.proofs.Carries.{carried-start, carried-on}
 use Prim.Native.Nat.{ℕ, _<_}
 use borrow.Fn.Kinds.{In}
 use borrow.Fn.PlainCycle.{Measures, is, falls, and}
@@ -245,12 +247,13 @@ abbrev check-items-Inv-loop : check-items-lts.InvT-loop
 check-items-Inv-loop s n from start allowance place₀ i₀ place i =
     (place ≤ length s)
     × (items-checked (nested allowance) s from start (n - from) ≡ items-checked (nested allowance) s i place (n - i))
+    × Carried s from start i place
 
 abbrev check-items-μ-loop : check-items-lts.MeasureT-loop
 check-items-μ-loop s n from start allowance place₀ i₀ place i = n - i
 
 check-items-loop-holds : (t : ℕ) → check-items-lts.Need-loop-holds (check-items-claims t) (check-items-at t) check-items.Post check-items-Inv-loop check-items-μ-loop
-check-items-loop-holds t c = (search needs, refl)
+check-items-loop-holds t c = (search needs, refl, carried-start _ _ _)
 
 check-items-add-end : (t : ℕ) → check-items-lts.Need-add-end (check-items-claims t) (check-items-at t) check-items.Post check-items-Inv-loop check-items-μ-loop
 check-items-add-end t c = rw (c .payload-len .ensures) (omega (arith, length-lt (c .before .jentry-at .result)))
@@ -292,6 +295,7 @@ check-items-loop-again t c =
       pass-more _ _ _ (head .loop .i) (head .loop .place) _ (head .loop .inv .1) (turn .loop-test .taken) _ _
           (entry .jentry-at .ensures) (sized .payload-len .ensures) (passed .if1 .left) _ (asked .check-item .ensures)
           (c .enum-told .given .1),
+      carried-on _ _ _ _ _ _ _ (head .loop .inv .2) (entry .jentry-at .ensures) (sized .payload-len .ensures),
     )
 
 check-items-returns-3 : (t : ℕ) → check-items-lts.Need-returns-3 (check-items-claims t) (check-items-at t) check-items.Post check-items-Inv-loop check-items-μ-loop

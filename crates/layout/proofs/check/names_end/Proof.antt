@@ -1,25 +1,30 @@
 -- `layout::check::names_end` meets its contract.
--- The loop keeps that the end of all names is the end of the rest.
+-- The loop keeps that the end of all names is the end of the rest, and that its place is the table's.
 use native.Mathlib.Nat.{sub-zero}
 use Prim.Native.Nat.{_≤_, _*_, _-_, _+_}
 use mathlib.Core.Path.{_≡_}
 use native.Mathlib.Omega.{arith}
 use Rattle.layout.specs.Pass.{names-end}
+use Rattle.layout.specs.Table.{Carried}
 use Rattle.layout.proofs.Fields.{length-lt}
 use Rattle.layout.proofs.Passes.{names-bad, names-more, names-long, names-at}
+use Rattle.layout.proofs.Carries.{carried-start, carried-on}
 use borrow.Author.Needs.{needs}
 use Rattle.layout.proofs.check.names_end.Statement.{statement}
 use Rattle.layout.proofs.check.names_end.Tie as tie
 
 abbrev Inv-loop : tie.InvT-loop
 Inv-loop s names start place₀ i₀ place i =
-    (i ≤ names) × (place ≤ start + 268435456 * i) × (names-end s 0 start names ≡ names-end s i place (names - i))
+    (i ≤ names)
+    × (place ≤ start + 268435456 * i)
+    × (names-end s 0 start names ≡ names-end s i place (names - i))
+    × Carried s 0 start i place
 
 abbrev μ-loop : tie.MeasureT-loop
 μ-loop s names start place₀ i₀ place i = names - i
 
 loop-holds : tie.Need-loop-holds Inv-loop μ-loop
-loop-holds c = (search needs, search needs, rw sub-zero)
+loop-holds c = (search needs, search needs, rw sub-zero, carried-start _ _ _)
 
 returns : tie.Need-returns Inv-loop μ-loop
 returns c = let l = c .before .before .before .loop in
@@ -34,6 +39,7 @@ loop-again c = let l = c .before .before .before .before .loop in
       search needs,
       rw (c .payload-len .ensures) (omega (arith, length-lt (e .result))),
       names-more _ _ (l .i) (l .place) _ (l .inv .2) (c .before .before .before .loop-test .taken) _ (e .ensures) (c .before .if1 .left) _ (c .payload-len .ensures),
+      carried-on _ _ _ _ _ _ _ (l .inv .3) (e .ensures) (c .payload-len .ensures),
     )
 
 returns-2 : tie.Need-returns-2 Inv-loop μ-loop

@@ -1,18 +1,20 @@
 -- `layout::sound::are_sound`, `layout::sound::is_sound_item` and `layout::sound::is_sound_where_readable` meet their contracts.
 -- They call each other; the number that falls is three times the allowance, and a place in the turn. The loop over the
--- items keeps that all are sound where the rest are.
+-- items keeps that all are sound where the rest are, and that its place is the table's.
 use Prim.Native.Nat.{_+_, _*_, _-_, _≤_}
 use mathlib.Core.Path.{_≡_}
 use native.Mathlib.Nat.{sub-zero}
 use native.Mathlib.Omega.{arith}
 use borrow.Author.Needs.{needs}
 use Rattle.layout.specs.Place.{parts-at}
+use Rattle.layout.specs.Table.{Carried}
 use Rattle.layout.specs.Every.{sound-ask}
 use Rattle.layout.specs.EveryAt.{every-parts, sound-at}
 use Rattle.layout.proofs.Fields.{length-lt}
 use Rattle.layout.proofs.Checks.{told-array, told-object}
 use Rattle.layout.proofs.Asks.{every-container, every-stop, every-more, every-end, every-none, every-refused, every-array}
 use Rattle.layout.proofs.Sounds.{sound-other, sound-scalar, sound-object, sound-misnamed}
+use Rattle.layout.proofs.Carries.{carried-start, carried-on}
 use Prim.Native.Nat.{ℕ, _<_}
 use borrow.Fn.Kinds.{In}
 use borrow.Fn.PlainCycle.{Measures, is, falls, and}
@@ -70,6 +72,7 @@ abbrev are-sound-Inv-loop : are-sound-lts.InvT-loop
 are-sound-Inv-loop s n start allowance place₀ i₀ place i =
     (place ≤ start + 268435456 * i)
     × (every-parts sound-ask (sound-at allowance) (parts-at s 0 start n) ≡ every-parts sound-ask (sound-at allowance) (parts-at s i place (n - i)))
+    × Carried s 0 start i place
 
 abbrev are-sound-μ-loop : are-sound-lts.MeasureT-loop
 are-sound-μ-loop s n start allowance place₀ i₀ place i = n - i
@@ -107,7 +110,7 @@ nested-claims t = (
 -- The loop over the items.
 
 are-sound-loop-holds : (t : ℕ) → are-sound-lts.Need-loop-holds (are-sound-claims t) (are-sound-at t) are-sound.Post are-sound-Inv-loop are-sound-μ-loop
-are-sound-loop-holds t c = (omega arith, rw sub-zero)
+are-sound-loop-holds t c = (omega arith, rw sub-zero, carried-start _ _ _)
 
 are-sound-add-place : (t : ℕ) → are-sound-lts.Need-add-place (are-sound-claims t) (are-sound-at t) are-sound.Post are-sound-Inv-loop are-sound-μ-loop
 are-sound-add-place t c =
@@ -131,6 +134,7 @@ are-sound-loop-again t c =
           (asked .before .slice .ensures)
           (asked .is-sound-item .ensures)
           (c .if1 .taken),
+      carried-on _ _ _ _ _ _ _ (head .loop .inv .2) (entry .jentry-at .ensures) (sized .payload-len .ensures),
     )
 
 are-sound-returns : (t : ℕ) → are-sound-lts.Need-returns (are-sound-claims t) (are-sound-at t) are-sound.Post are-sound-Inv-loop are-sound-μ-loop
