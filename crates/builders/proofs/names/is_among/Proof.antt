@@ -1,10 +1,13 @@
 -- `builders::names::is_among` meets its contract.
+-- The loop keeps that the name is among all where it is among the rest, and that its place is the table's.
 use native.Mathlib.Omega.{arith}
 use borrow.Author.Needs.{needs}
 use Prim.Native.Nat.{_+_, _-_, _*_, _^_, _≤_}
 use mathlib.Core.Path.{_≡_, refl}
 use Rattle.layout.specs.Place.{parts-at}
+use Rattle.layout.specs.Table.{Carried}
 use Rattle.layout.proofs.Fields.{length-lt}
+use Rattle.layout.proofs.Carries.{carried-start, carried-on}
 use Rattle.builders.specs.Order.{has}
 use Rattle.layout.specs.Parts.{texts}
 use Rattle.builders.proofs.Naming.{among-found, among-more, among-end}
@@ -16,12 +19,13 @@ Inv-loop name s from n start place₀ i₀ place i =
     (i ≤ n)
     × (place ≤ start + 2 ^ 28 * i)
     × (has name (texts (parts-at s from start (n - from))) ≡ has name (texts (parts-at s i place (n - i))))
+    × Carried s from start i place
 
 abbrev μ-loop : tie.MeasureT-loop
 μ-loop name s from n start place₀ i₀ place i = n - i
 
 loop-holds : tie.Need-loop-holds Inv-loop μ-loop
-loop-holds c = (c .before .before .pre .0, omega arith, refl)
+loop-holds c = (c .before .before .pre .0, omega arith, refl, carried-start _ _ _)
 
 -- From the entry that a turn reads back to the head of the loop.
 abbrev head : tie.After-jentry-at Inv-loop μ-loop → tie.At-loop Inv-loop μ-loop
@@ -44,6 +48,7 @@ loop-again c =
       omega (arith, measured .payload-len .ensures, length-lt (entry .jentry-at .result)),
       among-more _ _ _ _ _ _ _ (head entry .loop .inv .2) (entry .before .loop-test .taken) _ _ _ _
           (entry .jentry-at .ensures) (measured .payload-len .ensures) (turn .before .slice .ensures) (turn .is-same-bytes .ensures) (c .if1 .left),
+      carried-on _ _ _ _ _ _ _ (head entry .loop .inv .3) (entry .jentry-at .ensures) (measured .payload-len .ensures),
     )
 
 returns-2 : tie.Need-returns-2 Inv-loop μ-loop
