@@ -1,6 +1,7 @@
 -- The laws of the builders.
 pub mod Orderings
 pub mod Searches
+pub mod Carries
 pub mod InOrders
 pub mod Proper
 pub mod Canons

@@ -16,6 +16,7 @@ use Rattle.layout.specs.Parts.{bytes-at, members-from}
 use Rattle.builders.specs.Search.{is-kept, kept-of, Bound, start, after, over, better, step, least, nth}
 use Rattle.builders.specs.Sorted.{put-in, put-all, sorted}
 use Rattle.layout.proofs.Fields.{length-lt}
+use Rattle.layout.proofs.Lists.{Each}
 use Rattle.layout.specs.declared.parts.ItemAt.{ItemAt}
 use Rattle.layout.specs.declared.parts.MemberAt.{MemberAt}
 use Rattle.builders.specs.declared.search.Kept.{Kept}
@@ -222,35 +223,54 @@ module _ (key : MemberAt → Bytes) where
   unfolding least step better
   least-first last m ms h a = rw h (least-stays last m ms a)
 
-  -- What the search finds is above the last.
-  abbrev OverAt : Bound → Found → Type 0
-  OverAt last Nothing = Unit {0}
-  OverAt last (At m) = over last (key m) ≡ true
+  -- What holds of each member above the last holds of what the search finds.
+  module _ (P : MemberAt → Type 0) (last : Bound) where
+    abbrev Of : Found → Type 0
+    Of Nothing = Unit {0}
+    Of (At m) = P m
 
-  over-better : (last : Bound) (best : Found) (m : MemberAt) → OverAt last best → over last (key m) ≡ true → OverAt last (better key best m)
-  unfolding better
-  over-better last Nothing m h o = o
-  over-better last (At b) m h o = go (before (key m) (key b))
-    where
-      go : (u : Bool) → OverAt last (cond u (At m) (At b))
-      go true = o
-      go false = h
+    of-better : (best : Found) (m : MemberAt) → Of best → P m → Of (better key best m)
+    unfolding better
+    of-better Nothing m h o = o
+    of-better (At b) m h o = go (before (key m) (key b))
+      where
+        go : (u : Bool) → Of (cond u (At m) (At b))
+        go true = o
+        go false = h
 
-  over-step : (last : Bound) (best : Found) (m : MemberAt) → OverAt last best → OverAt last (step key last best m)
-  unfolding step
-  over-step last best m h = go (over last (key m)) refl
-    where
-      go : (u : Bool) → over last (key m) ≡ u → OverAt last (cond u (better key best m) best)
-      go true q = over-better last best m h q
-      go false q = h
+    of-step : (best : Found) (m : MemberAt) → Of best → (over last (key m) ≡ true → P m) → Of (step key last best m)
+    unfolding step
+    of-step best m h o = go (over last (key m)) refl
+      where
+        go : (u : Bool) → over last (key m) ≡ u → Of (cond u (better key best m) best)
+        go true q = of-better best m h (o q)
+        go false q = h
 
-  over-least : (last : Bound) (best : Found) (ms : List MemberAt) → OverAt last best → OverAt last (least key last best ms)
-  unfolding least
-  over-least last best [] h = h
-  over-least last best (m ∷ ms) h = over-least last (step key last best m) ms (over-step last best m h)
+    of-least : (best : Found) (ms : List MemberAt) → Of best → Each (λ (m : MemberAt). over last (key m) ≡ true → P m) ms
+        → Of (least key last best ms)
+    unfolding least
+    of-least best [] h e = h
+    of-least best (m ∷ ms) h e = of-least (step key last best m) ms (of-step best m h (e .0)) (e .1)
 
+    pub least-of : (ms : List MemberAt) → Each (λ (m : MemberAt). over last (key m) ≡ true → P m) ms
+        → (m : MemberAt) → least key last Nothing ms ≡ At m → P m
+    least-of ms e m q = rw q at (of-least Nothing ms tt e)
+
+  -- So what it finds is above the last; and what holds of all members holds of it.
   pub least-over : (last : Bound) (ms : List MemberAt) (m : MemberAt) → least key last Nothing ms ≡ At m → over last (key m) ≡ true
-  least-over last ms m e = rw e at (over-least last Nothing ms tt)
+  least-over last ms m q = least-of (λ (x : MemberAt). over last (key x) ≡ true) last ms (each ms) m q
+    where
+      each : (xs : List MemberAt) → Each (λ (x : MemberAt). over last (key x) ≡ true → over last (key x) ≡ true) xs
+      each [] = tt
+      each (x ∷ xs) = ((λ h. h), each xs)
+
+  pub least-each : (P : MemberAt → Type 0) (last : Bound) (ms : List MemberAt) → Each P ms → (m : MemberAt)
+      → least key last Nothing ms ≡ At m → P m
+  least-each P last ms h m q = least-of P last ms (each ms h) m q
+    where
+      each : (xs : List MemberAt) → Each P xs → Each (λ (x : MemberAt). over last (key x) ≡ true → P x) xs
+      each [] h = tt
+      each (x ∷ xs) h = ((λ _. h .0), each xs (h .1))
 
   -- A name above the last, taken: those passed before it stay so, and what is above it is above the bound that it sets.
   later-passed : (last : Bound) (x n : Bytes) → over last x ≡ true → over last n ≡ false → over (after x) n ≡ false
@@ -354,6 +374,15 @@ pub length-kept : (k : Kept) (i : ℕ) (ms : List MemberAt) → length (kept-of 
 unfolding kept-of
 length-kept k i [] = omega arith
 length-kept k i (m ∷ ms) = one-fewer (is-kept k i m) m (kept-of k (i + 1) ms) (length ms) (length-kept k (i + 1) ms)
+
+pub each-kept : (P : MemberAt → Type 0) (k : Kept) (i : ℕ) (ms : List MemberAt) → Each P ms → Each P (kept-of k i ms)
+unfolding kept-of
+each-kept P k i [] h = tt
+each-kept P k i (m ∷ ms) h = go (is-kept k i m) (each-kept P k (i + 1) ms (h .1))
+  where
+    go : (g : Bool) → Each P (kept-of k (i + 1) ms) → Each P (cond g (m ∷ kept-of k (i + 1) ms) (kept-of k (i + 1) ms))
+    go true r = (h .0, r)
+    go false r = r
 
 pub kept-all : (i : ℕ) (ms : List MemberAt) → kept-of All i ms ≡ ms
 unfolding kept-of is-kept

@@ -17,7 +17,7 @@ use Rattle.layout.specs.Encode.{Part}
 use Rattle.layout.specs.Read.{parts}
 use Rattle.layout.specs.Place.{parts-at}
 use Rattle.layout.specs.Pass.{items-checked, items-by-table, names-end}
-use Rattle.layout.specs.Table.{table-place, parts-by-table, table-places, table-member, members-by-table, Carried, CarriedPair}
+use Rattle.layout.specs.Table.{table-place, parts-by-table, table-places, nth-member, table-member, members-by-table, Carried, CarriedPair}
 use Rattle.layout.specs.Parts.{start-of, member-at, members-from, members-at, members-of, behind-member, nth-part, first-part, next-part}
 use Rattle.layout.specs.declared.check.NamesEnd.the-variants.{At}
 use Rattle.layout.specs.declared.parts.MemberAt.{MemberAt}
@@ -74,10 +74,29 @@ module _ (ks vs : Bytes) where
       let y : 4 + 4 * j + 4 ≡ 4 + 4 * (j + 1) = omega arith in
       rw (x, y, place-behind ks a i, place-behind vs b j, members-carry a (i + 1) b (j + 1) k)
 
--- Those of an object of `n`.
-pub object-places : (s : Bytes) (n : ℕ) → members-of s n ≡ table-places s (n + n) 0 s (n + n) n
-object-places s n =
-    ap (λ (p : ℕ). record { «key_jentry» = 4; «val_jentry» = start-of n; key = p; val = table-place s (n + n) n }) (place-first s (n + n))
+-- Those of an object of `n`: the first, the one behind another, and all of them.
+module _ (s : Bytes) (n : ℕ) where
+  pub object-start : members-of s n ≡ nth-member s n 0
+  object-start =
+      let z : start-of (n + 0) ≡ start-of n = ap start-of (add-zero n) in
+      let v : table-place s (n + n) (n + 0) ≡ table-place s (n + n) n = ap (table-place s (n + n)) (add-zero n) in
+      rw (z, v)
+      (ap (λ (p : ℕ). record { «key_jentry» = 4; «val_jentry» = start-of n; key = p; val = table-place s (n + n) n }) (place-first s (n + n)))
+
+  pub object-on : (i : ℕ) (at next : Places) (m : MemberAt) → at ≡ nth-member s n i
+      → m ≡ member-at s s (at .«key_jentry») (at .«val_jentry») (at .key) (at .val) → next ≡ behind-member at m
+      → next ≡ nth-member s n (i + 1)
+  unfolding entry-at
+  object-on i at next m e hm hn =
+      let x : n + i + 1 ≡ n + (i + 1) = omega arith in
+      rw (hn, hm, e) (member-behind s s (n + n) i (n + n) (n + i) ∙ rw x)
+
+  pub object-members : members-at s s (members-of s n) n ≡ members-by-table s (n + n) 0 s (n + n) n n
+  object-members =
+      let z : n + 0 ≡ n = add-zero n in
+      ap (λ (at : Places). members-at s s at n) object-start
+      ∙ members-carry s s (n + n) 0 (n + n) (n + 0) n
+      ∙ ap (λ (j : ℕ). members-by-table s (n + n) 0 s (n + n) j n) z
 
 -- Parts one behind the other, from a place of the table on; those that a record of the layout is read by are these.
 pub parts-carry : (s : Bytes) (n i k : ℕ) → parts-at s i (table-place s n i) k ≡ parts-by-table s n i k
@@ -90,12 +109,16 @@ pub parts-read : (s : Bytes) (n names : ℕ) (ps : List Part) → 4 ≤ length s
 parts-read s n names ps four e =
     laid s n names ps four e .same ∙ ap (λ (p : ℕ). parts-at s 0 p n) (place-first s n) ∙ parts-carry s n 0 n
 
--- A part by the number of its entry: the first, and the one behind another.
-pub first-carries : (s : Bytes) (n : ℕ) → first-part n ≡ nth-part s n 0
-first-carries s n = ap (λ (p : ℕ). record { index = 0; place = p }) (place-first s n)
+-- A part by the number of its entry: the first of `n`, and the one behind another, of the `n` or from any place on.
+pub part-start : (s : Bytes) (n : ℕ) (p : PartAt) → p ≡ first-part n → p ≡ nth-part s n (p .index)
+part-start s n p e = rw e (ap (λ (q : ℕ). record { index = 0; place = q }) (place-first s n))
 
-pub next-carries : (s : Bytes) (n k : ℕ) → next-part s (nth-part s n k) ≡ nth-part s n (k + 1)
-next-carries s n k = rw (place-behind s n k)
+pub part-on : (s : Bytes) (n : ℕ) (p q : PartAt) → p ≡ nth-part s n (p .index) → q ≡ next-part s p → q ≡ nth-part s n (q .index)
+part-on s n p q e h = rw (h, e) (rw (place-behind s n (p .index)))
+
+pub carried-part : (s : Bytes) (from start : ℕ) (p q : PartAt) → Carried s from start (p .index) (p .place) → q ≡ next-part s p
+    → Carried s from start (q .index) (q .place)
+carried-part s from start p q c h = rw h (carried-on s from start (p .index) (p .place) _ _ c refl refl)
 
 -- The check: the items in one pass, and the place where the names end.
 pub check-carries : (inner : Bytes → Answer Tree) (s : Bytes) (n i k : ℕ)

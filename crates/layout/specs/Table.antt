@@ -54,6 +54,10 @@ abbrev pub table-places : Bytes → ℕ → ℕ → Bytes → ℕ → ℕ → Pl
 table-places ks a i vs b j =
     record { «key_jentry» = 4 + 4 * i; «val_jentry» = 4 + 4 * j; key = table-place ks a i; val = table-place vs b j }
 
+-- Those of member `i` of an object of `n`.
+abbrev pub nth-member : Bytes → ℕ → ℕ → Places
+nth-member s n i = table-places s (n + n) i s (n + n) (n + i)
+
 -- A pass that starts at item `from`, which stands at `start`, and has come to item `i` with this place: whatever table gives the start
 -- gives this place. The same of the four places of members, `k` of them behind the first.
 abbrev pub Carried : Bytes → ℕ → ℕ → ℕ → ℕ → Type 0
