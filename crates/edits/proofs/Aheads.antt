@@ -23,7 +23,9 @@ use Rattle.builders.proofs.Orderings.{order-less}
 use Rattle.builders.proofs.Searches.{Above, Ascending, Passed, least-append, least-passed, least-first, passed-later, over-less, over-itself, ascending-kept}
 use Rattle.builders.proofs.Stands.{Stand}
 use Rattle.layout.specs.Parts.{members-of}
-use Rattle.edits.specs.Members.{all-ahead, kept-ahead, Near, Standing, Searching, Next}
+use Rattle.layout.specs.Table.{nth-member}
+use Rattle.layout.proofs.Carries.{object-start}
+use Rattle.edits.specs.Members.{all-ahead, kept-ahead, Near, CarriedAhead, Standing, Searching, Next}
 use Rattle.edits.specs.declared.members.Ahead.{Ahead}
 use Rattle.edits.specs.declared.members.NextMember.{NextMember}
 use Rattle.edits.specs.declared.members.NextMember.the-variants.{End, Member}
@@ -52,6 +54,7 @@ pub record AheadOf (s : Bytes) (n : ℕ) (kept : Kept) (last : Bound) (a : Ahead
   pub near : Near a
   pub all : a .«is_rising» ≡ false → a ≡ all-ahead s n
   pub rest : a .«is_rising» ≡ true → Rest s n kept last a
+  pub carried : a .at ≡ nth-member s n (a .index)
 
 -- What `next_in_order` asks of it.
 abbrev pub Ready : Ahead → Type 0
@@ -106,6 +109,7 @@ ahead-starts s n kept w =
                 (ascending-kept (name-in s) kept 0 (members-at s s (members-of s n) n)
                 (stand-ascending s _ _ (members-at s s (members-of s n) n) (w .members) (w .stand) (object-rises (w .members) s n (w .bytes) (w .short) (w .count) t)));
           };
+      carried = object-start s n;
     }
 
 module _ (s : Bytes) (n : ℕ) (kept : Kept) (last : Bound) (a : Ahead) (h : AheadOf s n kept last a) where
@@ -164,6 +168,7 @@ module _ (s : Bytes) (n : ℕ) (kept : Kept) (last : Bound) (a : Ahead) (h : Ahe
                     above = λ k ks z. let w : Above (name-in s) m (k ∷ ks) = rw z at (up .0) in over-less (name-in s) (name-in s m) (name-in s k) (w .0);
                     rising = up .1;
                   };
+              carried = st .3 n (h .carried);
             }
           where
             passed-and : (xs : List MemberAt) → Passed (name-in s) (after (name-in s m)) xs → Passed (name-in s) (after (name-in s m)) (xs ++ (m ∷ []))
@@ -174,12 +179,17 @@ module _ (s : Bytes) (n : ℕ) (kept : Kept) (last : Bound) (a : Ahead) (h : Ahe
         go true q = rising q
         go false q =
             let z : b ≡ a = e .searched q .1 in
-            rw z (record { near = h .near; all = h .all; rest = λ t. let y : true ≡ false = sym t ∙ q in let z : _≡_ {A = ℕ} 0 1 = cc in let w : ⊥ = omega arith in absurd w })
+            rw z (record {
+              near = h .near;
+              all = h .all;
+              rest = λ t. let y : true ≡ false = sym t ∙ q in let z : _≡_ {A = ℕ} 0 1 = cc in let w : ⊥ = omega arith in absurd w;
+              carried = h .carried;
+            })
 
   -- Where names rise, a member that is left out changes nothing.
-  pub ahead-aside : (b : Ahead) → a .«is_rising» ≡ true → b .«is_rising» ≡ true → Near b → kept-ahead s kept a ≡ kept-ahead s kept b
-      → AheadOf s n kept last b
-  ahead-aside b ta tb near e =
+  pub ahead-aside : (b : Ahead) → a .«is_rising» ≡ true → b .«is_rising» ≡ true → Near b → CarriedAhead s a b
+      → kept-ahead s kept a ≡ kept-ahead s kept b → AheadOf s n kept last b
+  ahead-aside b ta tb near c e =
       record {
         near = near;
         all = λ f. let z : true ≡ false = sym tb ∙ f in cc;
@@ -191,6 +201,7 @@ module _ (s : Bytes) (n : ℕ) (kept : Kept) (last : Bound) (a : Ahead) (h : Ahe
               above = λ m ms q. h .rest ta .above m ms (e ∙ q);
               rising = rw e at (h .rest ta .rising);
             };
+        carried = c n (h .carried);
       }
 
   -- A name above the last and below the next, or where there is no next: what is ahead stays, and so does the next.
@@ -210,6 +221,7 @@ module _ (s : Bytes) (n : ℕ) (kept : Kept) (last : Bound) (a : Ahead) (h : Ahe
               above = λ m ms q. over-less (name-in s) x (name-in s m) (head r m ms q (e .stands t) l);
               rising = h .rest t .rising;
             };
+        carried = h .carried;
       }
     where
       head : (r : NextMember) (m : MemberAt) (ms : List MemberAt) → kept-ahead s kept a ≡ m ∷ ms → Standing s kept a r → below-next x r → order x (name-in s m) ≡ Less

@@ -48,6 +48,7 @@ pub mod Turns
 pub mod Merges
 pub mod Walks
 pub mod Overlays
+pub mod Carries
 pub mod ConcatWrites
 pub mod Refusals
 pub mod PathResults

@@ -8,7 +8,8 @@ use mathlib.Core.List.{List, [], _∷_}
 use lib.ListN.{length}
 use Rattle.layout.specs.Bytes.{Bytes}
 use Rattle.layout.proofs.Fields.{length-lt}
-use Rattle.layout.specs.Parts.{name-in, value-in, member-at, members-from, members-at}
+use Rattle.layout.specs.Parts.{name-in, value-in, member-at, members-from, members-at, behind-member}
+use Rattle.layout.proofs.Carries.{object-on}
 use Rattle.builders.specs.Search.{is-kept, kept-of, Bound, least}
 use Rattle.builders.specs.Weave.{column}
 use Rattle.builders.specs.declared.search.Kept.{Kept}
@@ -17,7 +18,7 @@ use Rattle.builders.specs.declared.search.Found.{Found}
 use Rattle.builders.specs.declared.search.Found.the-variants.{Nothing, At}
 use Rattle.builders.proofs.Searches.{length-kept, length-members, bytes-short}
 use Rattle.builders.proofs.Storing.{column-cons, column-none}
-use Rattle.edits.specs.Members.{behind-ahead, kept-ahead, sizes-of, Near, Standing, Next}
+use Rattle.edits.specs.Members.{behind-ahead, kept-ahead, sizes-of, Near, CarriedAhead, Standing, Next}
 use Rattle.edits.specs.declared.members.Ahead.{Ahead}
 use Rattle.edits.specs.declared.members.Sizes.{Sizes}
 use Rattle.edits.specs.declared.members.NextMember.{NextMember}
@@ -39,6 +40,13 @@ near-on a m next h more en =
 pub fewer-on : (a : Ahead) (m : MemberAt) (next : Ahead) → a .index < a .count → next ≡ behind-ahead a m
     → next .count - next .index < a .count - a .index
 fewer-on a m next more en = rw en (omega arith)
+
+-- And it stands where the table gives it.
+pub carried-ahead : (s : Bytes) (from a : Ahead) (m : MemberAt) (next : Ahead) → CarriedAhead s from a
+    → m ≡ member-at s s (a .at .«key_jentry») (a .at .«val_jentry») (a .at .key) (a .at .val) → next ≡ behind-ahead a m
+    → CarriedAhead s from next
+carried-ahead s from a m next c em en n e =
+    rw en (object-on s n (a .index) (a .at) (behind-member (a .at) m) m (c n e) em refl)
 
 -- The first of the members ahead, and the rest.
 module _ (s : Bytes) (kept : Kept) (a : Ahead) (more : a .index < a .count) (m : MemberAt)
@@ -65,6 +73,7 @@ pub record Sized (s : Bytes) (kept : Kept) (all : Ahead) (sizes : Sizes) (here :
   pub keys : sizes .keys + length (column (name-in s) (kept-ahead s kept here)) ≡ length (column (name-in s) (kept-ahead s kept all))
   pub vals : sizes .vals + length (column (value-in s) (kept-ahead s kept here)) ≡ length (column (value-in s) (kept-ahead s kept all))
   pub few : length (kept-ahead s kept all) < 2 ^ 29
+  pub carried : CarriedAhead s all here
 
 -- As many members, names and values of at most so many bytes.
 pub column-short : (f : MemberAt → Bytes) (ms : List MemberAt) → ((m : MemberAt) → length (f m) < 2 ^ 28) → length (column f ms) ≤ 2 ^ 28 * length ms
@@ -83,7 +92,7 @@ few-ahead s kept a h =
 
 module _ (s : Bytes) (kept : Kept) (all : Ahead) where
   pub sized-starts : Near all → Sized s kept all (record { count = 0; keys = 0; vals = 0 }) all
-  sized-starts h = record { near = h; count = omega arith; keys = omega arith; vals = omega arith; few = few-ahead s kept all h }
+  sized-starts h = record { near = h; count = omega arith; keys = omega arith; vals = omega arith; few = few-ahead s kept all h; carried = λ n e. e }
 
   module _ (sizes : Sizes) (here : Ahead) (now : Sized s kept all sizes here) where
     pub sized-ends : kept-ahead s kept here ≡ [] → sizes ≡ sizes-of s (kept-ahead s kept all)
@@ -102,8 +111,8 @@ module _ (s : Bytes) (kept : Kept) (all : Ahead) where
         let v = column-short (value-in s) (kept-ahead s kept all) (λ m. bytes-short s (m .val)) in
         (omega (arith, now .count, now .few), omega (arith, now .keys, now .few), omega (arith, now .vals, now .few))
 
-    module _ (m : MemberAt) (next : Ahead) (e : kept-ahead s kept here ≡ m ∷ kept-ahead s kept next) (near : Near next) (n v : Bytes)
-        (hn : n ≡ name-in s m) (hv : v ≡ value-in s m) where
+    module _ (m : MemberAt) (next : Ahead) (e : kept-ahead s kept here ≡ m ∷ kept-ahead s kept next) (near : Near next)
+        (carried : CarriedAhead s all next) (n v : Bytes) (hn : n ≡ name-in s m) (hv : v ≡ value-in s m) where
       pub sized-on : Sized s kept all (record { count = sizes .count + 1; keys = sizes .keys + length n; vals = sizes .vals + length v }) next
       sized-on =
           record {
@@ -114,12 +123,21 @@ module _ (s : Bytes) (kept : Kept) (all : Ahead) where
             vals =
                 omega (arith, now .vals, ap (λ (l : List MemberAt). length (column (value-in s) l)) e, column-cons (value-in s) m (kept-ahead s kept next), ap length hv);
             few = now .few;
+            carried = carried;
           }
 
     -- A member that is left out.
-    pub sized-passed : (next : Ahead) → kept-ahead s kept here ≡ kept-ahead s kept next → Near next → Sized s kept all sizes next
-    sized-passed next e near =
-        record { near = near; count = rw e at (now .count); keys = rw e at (now .keys); vals = rw e at (now .vals); few = now .few }
+    pub sized-passed : (next : Ahead) → kept-ahead s kept here ≡ kept-ahead s kept next → Near next → CarriedAhead s all next
+        → Sized s kept all sizes next
+    sized-passed next e near carried =
+        record {
+          near = near;
+          count = rw e at (now .count);
+          keys = rw e at (now .keys);
+          vals = rw e at (now .vals);
+          few = now .few;
+          carried = carried;
+        }
 
 -- The next in byte order, by how it was taken.
 module _ (s : Bytes) (kept : Kept) (last : Bound) (a : Ahead) where

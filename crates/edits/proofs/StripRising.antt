@@ -20,13 +20,13 @@ use Rattle.layout.specs.declared.parts.Places.{Places}
 use Rattle.builders.specs.declared.search.Found.the-variants.{Nothing, At}
 use Rattle.builders.proofs.Searches.{least-over}
 use Rattle.edits.specs.Stripping.{stripped-of, unrepeated-of, Strippable, strip-item, strip-value, value-entry, unrepeated-item, Strips}
-use Rattle.edits.specs.Members.{places-for, sizes-of, behind-ahead, kept-ahead, all-ahead, Near, Next}
+use Rattle.edits.specs.Members.{places-for, sizes-of, behind-ahead, kept-ahead, all-ahead, Near, CarriedAhead, Next}
 use Rattle.edits.specs.declared.members.Ahead.{Ahead}
 use Rattle.edits.specs.declared.members.Sizes.{Sizes}
 use Rattle.edits.specs.declared.members.NextMember.the-variants.{Member}
 use Rattle.edits.specs.declared.strip.Stripped.{Stripped}
 use Rattle.edits.specs.declared.strip.Stripped.the-variants.{Len}
-use Rattle.edits.proofs.Standings.{near-on, one-kept, one-passed, none-left, next-stands}
+use Rattle.edits.proofs.Standings.{near-on, carried-ahead, one-kept, one-passed, none-left, next-stands}
 use Rattle.edits.proofs.Aheads.{searched, all-is, AheadOf, ahead-starts, ahead-taken, ahead-aside, next-is}
 use Rattle.edits.proofs.StripMembers.{Setting, Storing-members, members-starts, members-asks, members-on, members-ends}
 
@@ -76,6 +76,9 @@ module _ {s : Bytes} {n a at : ℕ} {to₀ : Places} {o out : Bytes} {to : Place
     next-up : next .«is_rising» ≡ true
     next-up = ap (λ (x : Ahead). x .«is_rising») (read .behind) ∙ now .up
 
+    next-carried : CarriedAhead s here next
+    next-carried = carried-ahead s here here m next (λ n e. e) (read .member-is) (read .behind)
+
     -- A member that is left out.
     pub rising-passed : g ≡ false → Storing-rising s n a at to₀ o out to next
     rising-passed f =
@@ -84,7 +87,7 @@ module _ {s : Bytes} {n a at : ℕ} {to₀ : Places} {o out : Bytes} {to : Place
           last = now .last;
           count = now .count;
           storing = now .storing;
-          rest = ahead-aside s n NonNull (bound (eqb (now .count) 0) (now .last)) here (now .rest) next (now .up) next-up next-near p;
+          rest = ahead-aside s n NonNull (bound (eqb (now .count) 0) (now .last)) here (now .rest) next (now .up) next-up next-near next-carried p;
           up = next-up;
           left = omega (arith, now .left, ap length p);
         }
@@ -97,7 +100,7 @@ module _ {s : Bytes} {n a at : ℕ} {to₀ : Places} {o out : Bytes} {to : Place
       taken : Next s NonNull (bound (eqb (now .count) 0) (now .last)) here (Member m next)
       taken =
           next-stands s NonNull (bound (eqb (now .count) 0) (now .last)) here (Member m next) (now .up)
-          (split, ap (λ (x : Ahead). x .«is_rising») (read .behind), next-near)
+          (split, ap (λ (x : Ahead). x .«is_rising») (read .behind), next-near, next-carried)
 
       pub rising-found : At m ≡ least (name-in s) (bound (eqb (now .count) 0) (now .last)) Nothing (searched s n NonNull)
       rising-found = next-is s n NonNull (bound (eqb (now .count) 0) (now .last)) here (now .rest) (Member m next) taken

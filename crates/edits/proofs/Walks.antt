@@ -16,6 +16,8 @@ use Rattle.layout.specs.declared.order.Ordering.{Ordering}
 use Rattle.layout.specs.declared.order.Ordering.the-variants.{Less, Equal, Greater}
 use Rattle.layout.proofs.Fields.{length-lt}
 use Rattle.layout.proofs.Patches.{length-patch}
+use Rattle.layout.specs.Table.{CarriedPair}
+use Rattle.layout.proofs.Carries.{pair-start, pair-on}
 use Rattle.layout.proofs.Places.{and-both}
 use Rattle.layout.specs.Parts.{bytes-at, name-in, value-in, member-at, members-from, members-at}
 use Rattle.builders.specs.Search.{is-kept, Bound, start, bound}
@@ -33,7 +35,7 @@ use Rattle.edits.specs.declared.members.NextMember.{NextMember}
 use Rattle.edits.specs.declared.members.NextMember.the-variants.{End as NoMember, Member}
 use Rattle.edits.specs.declared.merge.Turn.the-variants.{Left, Right, Both, End}
 use Rattle.edits.proofs.Sorteds.{Object-at}
-use Rattle.edits.proofs.Standings.{one-kept, none-left, near-on, column-short, next-stands}
+use Rattle.edits.proofs.Standings.{one-kept, none-left, near-on, carried-ahead, column-short, next-stands}
 use Rattle.edits.proofs.Aheads.{ahead-starts}
 use Rattle.edits.proofs.Turns.{turn-less, turn-equal, turn-greater}
 use Rattle.edits.proofs.Merges.{Merging, merging-starts, merging-within, goes-left, goes-right, goes-both, merging-end}
@@ -149,6 +151,7 @@ module _ (s : Bytes) (count : ℕ) (o : Bytes) (from to : Places) where
     pub behind-rest : behind-members s (members-at s s from count) to ≡ behind-members s (members-at s s here (count - i)) at
     pub run : put-each s o to (members-at s s from count) ≡ put-each s out at (members-at s s here (count - i))
     pub as-long : length out ≡ length o
+    pub carried : CarriedPair s s from i here
 
   pub putting-starts : Putting o from to 0
   putting-starts =
@@ -159,6 +162,7 @@ module _ (s : Bytes) (count : ℕ) (o : Bytes) (from to : Places) where
         behind-rest = rw (sub-zero count);
         run = rw (sub-zero count);
         as-long = refl;
+        carried = pair-start s s from;
       }
 
   module _ (out : Bytes) (here at : Places) (i : ℕ) (h : Putting out here at i) where
@@ -178,6 +182,7 @@ module _ (s : Bytes) (count : ℕ) (o : Bytes) (from to : Places) where
           behind-rest = h .behind-rest ∙ ap (λ (ms : List MemberAt). behind-members s ms at) cut ∙ behind-first s out at m rest;
           run = h .run ∙ ap (put-each s out at) cut ∙ put-first s out at m rest;
           as-long = length-put s out at m [] ∙ h .as-long;
+          carried = pair-on s s from here (behind-member here m) i m (h .carried) em refl;
         })
 
     pub putting-ends : count ≤ i
@@ -248,6 +253,7 @@ module _ (s : Bytes) (at : Places) (i n : ℕ) where
               one-kept s All (standing-at at i n) lt (member-here s at) refl _ refl true refl refl,
               refl,
               near-behind (member-here s at) lt,
+              carried-ahead s (standing-at at i n) (standing-at at i n) (member-here s at) _ (λ n e. e) refl refl,
             )
         go false q = none-left s All (standing-at at i n) (ltb-false i n q)
 

@@ -8,6 +8,7 @@ use mathlib.Core.List.{List, [], _∷_}
 use lib.ListN.{length}
 use Rattle.layout.specs.Bytes.{Bytes}
 use Rattle.layout.specs.Place.{parts-at, rising-parts}
+use Rattle.layout.specs.Table.{nth-member}
 use Rattle.layout.specs.Parts.{name-in, value-in, members-at, members-of, behind-member}
 use Rattle.builders.specs.Search.{kept-of, Bound, least}
 use Rattle.builders.specs.Sorted.{sorted}
@@ -66,11 +67,15 @@ pub record Near (a : Ahead) : Type 0 where
   pub key : a .at .key ≤ 2 ^ 31 + 2 ^ 28 * a .index
   pub val : a .at .val ≤ 2 ^ 31 + 2 ^ 28 * a .index
 
+-- Document 02 §4: the object whose table gives the places of what was ahead gives those of what still is.
+abbrev pub CarriedAhead : Bytes → Ahead → Ahead → Type 0
+CarriedAhead s a b = (n : ℕ) → a .at ≡ nth-member s n (a .index) → b .at ≡ nth-member s n (b .index)
+
 -- The next member as it stands, and what is ahead behind it.
 abbrev pub Standing : Bytes → Kept → Ahead → NextMember → Type 0
 Standing s kept a End = kept-ahead s kept a ≡ []
 Standing s kept a (Member m b) =
-    (kept-ahead s kept a ≡ m ∷ kept-ahead s kept b) × (b .«is_rising» ≡ a .«is_rising») × Near b
+    (kept-ahead s kept a ≡ m ∷ kept-ahead s kept b) × (b .«is_rising» ≡ a .«is_rising») × Near b × CarriedAhead s a b
 
 -- The next member by the search, behind which the same are searched.
 abbrev pub Searching : Bytes → Kept → Bound → Ahead → NextMember → Type 0

@@ -2,7 +2,7 @@
 -- parts and members, as the crates above take them; and the two steps by which a loop keeps to it.
 use Prim.Native.Nat.{ℕ, zero, suc, _+_, _*_, _-_, _≤_}
 use native.Mathlib.Omega.{arith}
-use native.Mathlib.Nat.{add-zero}
+use native.Mathlib.Nat.{zero-add, add-zero}
 use mathlib.Core.Path.{_≡_, refl, sym, ap, _∙_}
 use mathlib.Core.Bool.{Bool, true, false, cond, _&&_}
 use mathlib.Core.List.{List}
@@ -24,7 +24,6 @@ use Rattle.layout.specs.declared.parts.MemberAt.{MemberAt}
 use Rattle.layout.specs.declared.parts.Places.{Places}
 use Rattle.layout.specs.declared.parts.PartAt.{PartAt}
 use Rattle.layout.proofs.Places.{lengths-split, laid}
-use Rattle.layout.proofs.Pieces.{lengths-snoc}
 use Rattle.layout.proofs.Passes.{names-to}
 
 -- The first item stands behind the table, and each of the others behind the one before.
@@ -32,8 +31,15 @@ pub place-first : (s : Bytes) (n : ℕ) → start-of n ≡ table-place s n 0
 unfolding lengths
 place-first s n = sym (add-zero (start-of n))
 
+lengths-snoc : (s : Bytes) (i : ℕ) → lengths s 0 (i + 1) ≡ lengths s 0 i + length-of (entry-at s i)
+unfolding lengths
+lengths-snoc s i = lengths-split s 0 i 1 ∙ rw (zero-add i, add-zero (length-of (entry-at s i)))
+
 pub place-behind : (s : Bytes) (n i : ℕ) → table-place s n i + length-of (entry-at s i) ≡ table-place s n (i + 1)
 place-behind s n i = omega (arith, lengths-snoc s i)
+
+pub place-on : (s : Bytes) (n i p e l : ℕ) → p ≡ table-place s n i → e ≡ entry-at s i → l ≡ length-of e → p + l ≡ table-place s n (i + 1)
+place-on s n i p e l h he hl = rw (h, hl, he) (place-behind s n i)
 
 -- A loop carries its place from the start, and from one item to the next.
 pub carried-start : (s : Bytes) (i p : ℕ) → Carried s i p i p
@@ -41,7 +47,7 @@ carried-start s i p n e = e
 
 pub carried-on : (s : Bytes) (from start i p e l : ℕ) → Carried s from start i p → e ≡ entry-at s i → l ≡ length-of e
     → Carried s from start (i + 1) (p + l)
-carried-on s from start i p e l c he hl n h = rw (c n h, hl, he) (place-behind s n i)
+carried-on s from start i p e l c he hl n h = place-on s n i p e l (c n h) he hl
 
 -- The same for members.
 module _ (ks vs : Bytes) where

@@ -1,7 +1,6 @@
 -- The parts of a container by their places: sums of lengths, step by step.
 use Prim.Native.Nat.{ℕ, _+_, _*_, _-_, _^_, _<_, _≤_}
 use native.Mathlib.Omega.{arith}
-use native.Mathlib.Nat.{zero-add, add-zero}
 use mathlib.Core.Path.{_≡_, refl, sym, ap, _∙_}
 use lib.ListN.{take, drop}
 use Rattle.layout.specs.Bytes.{Bytes}
@@ -13,7 +12,6 @@ use Rattle.layout.specs.declared.parts.PartAt.{PartAt}
 use Rattle.layout.specs.declared.parts.Places.{Places}
 use Rattle.layout.proofs.Fields.{length-lt}
 use Rattle.layout.proofs.Checks.{lengths-step}
-use Rattle.layout.proofs.Places.{lengths-split}
 
 pub payload-is : (r s : Bytes) (x : ItemAt) (n : ℕ) → n ≡ length-of (x .jentry) → r ≡ take n (drop (x .place) s)
     → r ≡ bytes-at s x
@@ -46,21 +44,6 @@ place-more s i n p total e l lt inv he hl =
 pub place-end : (s : Bytes) (i n p total : ℕ) → n ≤ i → total ≡ p + lengths s i (n - i) → p ≡ total
 unfolding lengths
 place-end s i n p total h inv = let k : n - i ≡ 0 = omega arith in rw inv (rw k (omega arith))
-
-pub place-start : (s : Bytes) (p : ℕ) → p ≡ p + lengths s 0 0
-unfolding lengths
-place-start s p = sym (add-zero p)
-
--- One length more.
-pub lengths-snoc : (s : Bytes) (i : ℕ) → lengths s 0 (i + 1) ≡ lengths s 0 i + length-of (entry-at s i)
-unfolding lengths
-lengths-snoc s i = lengths-split s 0 i 1 ∙ rw (zero-add i, add-zero (length-of (entry-at s i)))
-
-pub place-next : (s : Bytes) (start i p e l : ℕ) → e ≡ entry-at s i → l ≡ length-of e → p ≡ start + lengths s 0 i
-    → p + l ≡ start + lengths s 0 (i + 1)
-place-next s start i p e l he hl at =
-    let le : l ≡ length-of (entry-at s i) = cc in
-    omega (arith, lengths-snoc s i)
 
 -- The places of the members of an object.
 pub members-places : (s : Bytes) (n p : ℕ) (first : PartAt) → first ≡ first-part (n + n)

@@ -14,7 +14,8 @@ use Rattle.layout.specs.Bytes.{Bytes, word-at}
 use Rattle.layout.specs.Encode.{Part}
 use Rattle.layout.specs.Entry.{code, code-of, kind-of, entry-at, lengths}
 use Rattle.layout.specs.Order.{same-bytes}
-use Rattle.layout.specs.Parts.{first-part, next-part, part-in, part-payload, parts-of}
+use Rattle.layout.specs.Parts.{first-part, nth-part, next-part, part-in, part-payload, parts-of}
+use Rattle.layout.specs.Table.{Carried}
 use Rattle.layout.specs.Place.{parts-at}
 use Rattle.layout.specs.Read.{header}
 use Rattle.layout.specs.Value.{same-kind}
@@ -26,6 +27,7 @@ use Rattle.layout.specs.declared.util.Header.the-variants.{Array, Object, Scala
 use Rattle.layout.proofs.Fields.{length-lt}
 use Rattle.layout.proofs.Checks.{one-less, parts-step}
 use Rattle.layout.proofs.Pieces.{nth-is}
+use Rattle.layout.proofs.Carries.{carried-start, carried-part, part-start, part-on}
 use Rattle.layout.proofs.Walks.{lengths-le}
 use Rattle.values.specs.Alike.{same-payload, same-part, same-parts, Member, member-at, Near, next, members-from, first, members, like, likes, same-members, same-by, same-at}
 use Rattle.values.specs.declared.value.PairAt.{PairAt}
@@ -98,10 +100,20 @@ pub record Items-left (f : Bytes → Bytes → Bool) (a b : Bytes) (start n : �
   pub near : p .place ≤ start + 2 ^ 28 * p .index
   pub other-near : q .place ≤ start + 2 ^ 28 * p .index
   pub is : same-parts f (parts-at a 0 start n) (parts-at b 0 start n) ≡ same-parts f (parts-from a p n) (parts-from b q n)
+  pub carried : Carried a 0 start (p .index) (p .place)
+  pub other-carried : Carried b 0 start (q .index) (q .place)
 
 pub items-start : (f : Bytes → Bytes → Bool) (a b : Bytes) (start n : ℕ)
     → Items-left f a b start n (record { index = 0; place = start }) (record { index = 0; place = start })
-items-start f a b start n = record { level = refl; near = omega arith; other-near = omega arith; is = rw (sub-zero n) }
+items-start f a b start n =
+    record {
+      level = refl;
+      near = omega arith;
+      other-near = omega arith;
+      is = rw (sub-zero n);
+      carried = carried-start a 0 start;
+      other-carried = carried-start b 0 start;
+    }
 
 module _ {f : Bytes → Bytes → Bool} {a b : Bytes} {start n : ℕ} {p q : PartAt} (inv : Items-left f a b start n p q) where
   pub items-end : n ≤ p .index → true ≡ same-parts f (parts-at a 0 start n) (parts-at b 0 start n)
@@ -129,6 +141,8 @@ module _ {f : Bytes → Bytes → Bool} {a b : Bytes} {start n : ℕ} {p q : Par
         near = omega (arith, inv .near, length-lt (entry-at a (p .index)));
         other-near = omega (arith, inv .other-near, length-lt (entry-at b (q .index)));
         is = rw (items-turn g lt hg, t);
+        carried = carried-part a 0 start p (next-part a p) (inv .carried) refl;
+        other-carried = carried-part b 0 start q (next-part b q) (inv .other-carried) refl;
       })
 
 -- Members by their places.
@@ -187,6 +201,15 @@ module _ (f : Bytes → Bytes → Bool) (a b : Bytes) (m o : PairAt) (x y : Byte
   unfolding like member-at
   like-by r t h = rw (← hx, ← hy, ← hg, t) h
 
+-- The member behind one has the part behind its name, and the part behind its value.
+next-key : (s : Bytes) (at : PairAt) {to : PairAt} → to ≡ next s at → to .key ≡ next-part s (at .key)
+unfolding next
+next-key s at h = ap (λ (x : PairAt). x .key) h
+
+next-val : (s : Bytes) (at : PairAt) {to : PairAt} → to ≡ next s at → to .val ≡ next-part s (at .val)
+unfolding next
+next-val s at h = ap (λ (x : PairAt). x .val) h
+
 -- Counting, up to a limit. A test counts as 0 or 1.
 bit : (g : Bool) → boolByte g ≡ cond g 1 0
 bit true = refl
@@ -201,19 +224,29 @@ unfolding likes
 likes-most f x [] = omega arith
 likes-most f x (m ∷ ms) = omega (arith, likes-most f x ms, bit (like f x m), bit-most (like f x m))
 
--- What is counted of all members is `count` and what is counted from `at` on.
-pub record Counting (f : Bytes → Bytes → Bool) (x : Member) (b : Bytes) (n limit whole : ℕ) (at : PairAt) (count : ℕ) : Type 0 where
+-- What is counted of all members is `count` and what is counted from `at` on; `from` is the first of them.
+pub record Counting (f : Bytes → Bytes → Bool) (x : Member) (b : Bytes) (n limit whole : ℕ) (from at : PairAt) (count : ℕ) : Type 0 where
   pub inside : at .key .index ≤ n
   pub near : Near at
   pub most : count ≤ limit
   pub is : min limit whole ≡ min limit (count + likes f x (members-left b n at))
+  pub key-carried : Carried b (from .key .index) (from .key .place) (at .key .index) (at .key .place)
+  pub val-carried : Carried b (from .val .index) (from .val .place) (at .val .index) (at .val .place)
 
 pub count-start : (f : Bytes → Bytes → Bool) (x : Member) (b : Bytes) (n limit : ℕ) (at : PairAt) → at .key .index ≤ n → Near at
-    → Counting f x b n limit (likes f x (members-left b n at)) at 0
-count-start f x b n limit at le near = record { inside = le; near = near; most = omega arith; is = omega arith }
+    → Counting f x b n limit (likes f x (members-left b n at)) at at 0
+count-start f x b n limit at le near =
+    record {
+      inside = le;
+      near = near;
+      most = omega arith;
+      is = omega arith;
+      key-carried = carried-start b (at .key .index) (at .key .place);
+      val-carried = carried-start b (at .val .index) (at .val .place);
+    }
 
-module _ {f : Bytes → Bytes → Bool} {x : Member} {b : Bytes} {n limit whole : ℕ} {at : PairAt} {count : ℕ}
-    (inv : Counting f x b n limit whole at count) where
+module _ {f : Bytes → Bytes → Bool} {x : Member} {b : Bytes} {n limit whole : ℕ} {from at : PairAt} {count : ℕ}
+    (inv : Counting f x b n limit whole from at count) where
   pub count-full : count ≡ limit → count ≡ min limit whole
   count-full e = omega (arith, inv .is)
 
@@ -222,9 +255,9 @@ module _ {f : Bytes → Bytes → Bool} {x : Member} {b : Bytes} {n limit whole 
   count-end le = omega (arith, inv .is, inv .most, ap (likes f x) (members-none b n at le))
 
   pub count-more : (g : Bool) {to : PairAt} → at .key .index < n → (count ≡ limit → ⊥) → g ≡ like f x (member-at b at) → to ≡ next b at
-      → Counting f x b n limit whole to (count + boolByte g)
+      → Counting f x b n limit whole from to (count + boolByte g)
   unfolding likes
-  count-more g lt more hg ht =
+  count-more g {to} lt more hg ht =
       let s = ap (likes f x) (members-step b n at lt) in
       let behind = next-near b at ht (inv .near) in
       record {
@@ -232,6 +265,8 @@ module _ {f : Bytes → Bytes → Bool} {x : Member} {b : Bytes} {n limit whole 
         near = behind .1;
         most = omega (arith, inv .most, bit-most g);
         is = rw (ht, bit g, hg) (omega (arith, inv .is));
+        key-carried = carried-part b (from .key .index) (from .key .place) (at .key) (to .key) (inv .key-carried) (next-key b at ht);
+        val-carried = carried-part b (from .val .index) (from .val .place) (at .val) (to .val) (inv .val-carried) (next-val b at ht);
       }
 
 -- Members in turn: the answer for all `n` is the answer for those from `at` on.
@@ -239,13 +274,21 @@ pub record Members-left (f : Bytes → Bytes → Bool) (a b : Bytes) (n : ℕ) (
   pub inside : at .key .index ≤ n
   pub near : Near at
   pub is : same-members f (members a n) (members b n) ≡ same-members f (members-left a n at) (members b n)
+  pub key-carried : at .key ≡ nth-part a (n + n) (at .key .index)
+  pub val-carried : at .val ≡ nth-part a (n + n) (at .val .index)
 
 pub members-start : (f : Bytes → Bytes → Bool) (a b : Bytes) (n : ℕ) {at : PairAt} → at ≡ first a n → n < 2 ^ 29
     → Members-left f a b n at
 unfolding first
 members-start f a b n h small =
     let near = first-near a n h small in
-    record { inside = near .0; near = near .1; is = rw (h, sub-zero n) }
+    record {
+      inside = near .0;
+      near = near .1;
+      is = rw (h, sub-zero n);
+      key-carried = part-start a (n + n) _ (ap (λ (x : PairAt). x .key) h);
+      val-carried = rw h;
+    }
 
 pub members-end : {f : Bytes → Bytes → Bool} {a b : Bytes} {n : ℕ} {at : PairAt} → Members-left f a b n at → n ≤ at .key .index
     → true ≡ same-members f (members a n) (members b n)
@@ -292,6 +335,8 @@ module _ {f : Bytes → Bytes → Bool} {a b : Bytes} {n : ℕ} {at start to : P
         inside = omega (arith, near .0, turn .more);
         near = near .1;
         is = rw (members-turn true (sym (lt-ltb left (likes f (member-at a at) (members b n)) many)));
+        key-carried = part-on a (n + n) (at .key) (to .key) (turn .inv .key-carried) (next-key a at (turn .steps));
+        val-carried = part-on a (n + n) (at .val) (to .val) (turn .inv .val-carried) (next-val a at (turn .steps));
       }
 
 -- A record.

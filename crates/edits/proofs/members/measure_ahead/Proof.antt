@@ -1,10 +1,12 @@
 -- `edits::members::measure_ahead` meets its contract.
+-- The loop keeps the sizes so far beside those of what is ahead, and that its places are the table's.
 use borrow.Author.Needs.{needs}
 use native.Mathlib.Omega.{arith}
 use Prim.Native.Nat.{_-_}
 use Rattle.builders.proofs.Storing.{payload-short}
 use Rattle.edits.proofs.Standings.{Sized, sized-starts, sized-ends, sized-room, sized-on, sized-passed}
-use Rattle.edits.proofs.Standings.{near-on, fewer-on, one-kept, one-passed, none-left}
+use Rattle.edits.specs.Members.{CarriedAhead}
+use Rattle.edits.proofs.Standings.{near-on, fewer-on, carried-ahead, one-kept, one-passed, none-left}
 use Rattle.edits.proofs.members.measure_ahead.Statement.{statement}
 use Rattle.edits.proofs.members.measure_ahead.Tie as tie
 
@@ -66,6 +68,14 @@ add-t16 c =
       payload-short (start h .args .s .now) _ (read .read-member .result .val) (value .payload-at2 .ensures),
     )
 
+-- What is ahead behind the member read stands where the table gives it.
+carried : (c : tie.After-ahead-behind Inv-loop μ-loop)
+    → CarriedAhead (start (head (c .before)) .args .s .now) (start (head (c .before)) .args .ahead) (c .ahead-behind .result)
+carried c =
+    let read = c .before in
+    carried-ahead _ (start (head read) .args .ahead) (head read .loop .here) (read .read-member .result) _ (head read .loop .inv .carried) (read .read-member .ensures)
+    (c .ahead-behind .ensures)
+
 -- The member is kept.
 loop-less : tie.Need-loop-less Inv-loop μ-loop
 loop-less c =
@@ -85,8 +95,8 @@ loop-again c =
     sized-on _ _ _ _ _ (h .loop .inv) _ _
     (one-kept _ _ (h .loop .here) (more .if1 .taken) _ (read .read-member .ensures) _ (behind .ahead-behind .ensures) _
     (kept .is-kept .ensures) (name .before .before .if2 .taken))
-    (near-on _ (read .read-member .result) _ (h .loop .inv .near) (more .if1 .taken) (behind .ahead-behind .ensures)) _ _
-    (name .payload-at .ensures) (value .payload-at2 .ensures)
+    (near-on _ (read .read-member .result) _ (h .loop .inv .near) (more .if1 .taken) (behind .ahead-behind .ensures))
+    (carried behind) _ _ (name .payload-at .ensures) (value .payload-at2 .ensures)
 
 -- It is not.
 loop-less-2 : tie.Need-loop-less-2 Inv-loop μ-loop
@@ -106,6 +116,7 @@ loop-again-2 c =
     (one-passed _ _ (h .loop .here) (more .if1 .taken) _ (read .read-member .ensures) _ (behind .ahead-behind .ensures) _
     (kept .is-kept .ensures) (c .if2 .left))
     (near-on _ (read .read-member .result) _ (h .loop .inv .near) (more .if1 .taken) (behind .ahead-behind .ensures))
+    (carried behind)
 
 returns : tie.Need-returns Inv-loop μ-loop
 returns c = sized-ends _ _ _ _ _ (c .before .before .loop .inv) (none-left _ _ (c .before .before .loop .here) (c .if1 .left))

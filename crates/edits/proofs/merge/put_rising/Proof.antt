@@ -1,8 +1,14 @@
 -- `edits::merge::put_rising` meets its contract.
+-- The loop keeps what is stored so far, and that the places of both sides are those of their tables.
 use Prim.Native.Nat.{_+_, _-_, _^_, _≤_, _<_}
 use native.Mathlib.Omega.{arith}
 use borrow.Author.Needs.{needs}
+use mathlib.Core.Path.{_≡_, _∙_}
+use Rattle.layout.specs.Parts.{behind-member}
+use Rattle.layout.specs.Table.{nth-member}
+use Rattle.layout.specs.declared.parts.Places.{Places}
 use Rattle.layout.proofs.Words.{octets-of}
+use Rattle.layout.proofs.Carries.{object-start, object-on}
 use Rattle.edits.proofs.Merges.{objects-at, few-both}
 use Rattle.edits.proofs.Sorteds.{Object-at}
 use Rattle.edits.proofs.Walks.{Under, under-up, near-under, both-more, behind-near}
@@ -11,7 +17,11 @@ use Rattle.edits.proofs.merge.put_rising.Statement.{statement}
 use Rattle.edits.proofs.merge.put_rising.Tie as tie
 
 abbrev Inv-loop : tie.InvT-loop
-Inv-loop left m right n out₀ l₀ r₀ at₀ i₀ j₀ out l r at i j = (m + n ≤ 16384) × Walking left m right n out₀ at₀ out l r at i j
+Inv-loop left m right n out₀ l₀ r₀ at₀ i₀ j₀ out l r at i j =
+    (m + n ≤ 16384)
+    × Walking left m right n out₀ at₀ out l r at i j
+    × (l ≡ nth-member left m i)
+    × (r ≡ nth-member right n j)
 
 abbrev μ-loop : tie.MeasureT-loop
 μ-loop left m right n out₀ l₀ r₀ at₀ i₀ j₀ out l r at i j = m - i + (n - j)
@@ -68,6 +78,15 @@ out-near c =
 more : (c : Turn) → (head c .loop .i < start (head c) .args .m) × (head c .loop .j < start (head c) .args .n)
 more c = both-more _ _ _ _ (read-left (names c) .before .loop-test .taken)
 
+-- A side that is behind its member is where its table gives the next one.
+left-on : (c : Turn) {next : Places} → next ≡ behind-member (head c .loop .l) (read-left (names c) .read-member .result)
+    → next ≡ nth-member (start (head c) .args .left .now) (start (head c) .args .m) (head c .loop .i + 1)
+left-on c e = object-on _ _ _ _ _ _ (head c .loop .inv .2) (read-left (names c) .read-member .ensures) e
+
+right-on : (c : Turn) {next : Places} → next ≡ behind-member (head c .loop .r) (names c .before .read-member2 .result)
+    → next ≡ nth-member (start (head c) .args .right .now) (start (head c) .args .n) (head c .loop .j + 1)
+right-on c e = object-on _ _ _ _ _ _ (head c .loop .inv .3) (names c .before .read-member2 .ensures) e
+
 members-of-requires : tie.Need-members-of-requires Inv-loop μ-loop
 members-of-requires c κs = omega (arith, few (c .before))
 
@@ -78,7 +97,9 @@ loop-holds : tie.Need-loop-holds Inv-loop μ-loop
 loop-holds c =
     let e = c .before .before .before in
     let p = entered e .pre in
-    (few e, walking-starts _ _ _ _ _ _ (objects e) (p .1) (p .2) _ _ (c .before .members-of .ensures) (c .members-of2 .ensures))
+    let l = c .before .members-of .ensures in
+    let r = c .members-of2 .ensures in
+    (few e, walking-starts _ _ _ _ _ _ (objects e) (p .1) (p .2) _ _ l r, l ∙ object-start _ _, r ∙ object-start _ _)
 
 -- The left name is less.
 put-member-requires : tie.Need-put-member-requires Inv-loop μ-loop
@@ -109,6 +130,8 @@ loop-again c =
           (read-left (names t) .read-member .ensures) (names t .before .read-member2 .ensures) _ _ _
           (names t .payload-at .ensures) (t .before .payload-at2 .ensures) (t .compare .ensures) _ _ _
           (told₁ stored .enum-told .given .1) (stored .before .before .put-member .ensures) (c .places-behind .ensures),
+      left-on t (c .places-behind .ensures),
+      h .loop .inv .3,
     )
 
 -- The names are the same.
@@ -147,6 +170,8 @@ loop-again-2 c =
           (names t .payload-at .ensures) (t .before .payload-at2 .ensures) (t .compare .ensures) _ _ _ _
           (told₂ stored .enum-told2 .given .1) (stored .before .before .put-member2 .ensures)
           (c .before .places-behind2 .ensures) (c .places-behind3 .ensures),
+      left-on t (c .before .places-behind2 .ensures),
+      right-on t (c .places-behind3 .ensures),
     )
 
 -- The right name is less.
@@ -178,6 +203,8 @@ loop-again-3 c =
           (read-left (names t) .read-member .ensures) (names t .before .read-member2 .ensures) _ _ _
           (names t .payload-at .ensures) (t .before .payload-at2 .ensures) (t .compare .ensures) _ _ _
           (told₃ stored .enum-told3 .given .1) (stored .before .before .put-member3 .ensures) (c .places-behind4 .ensures),
+      h .loop .inv .2,
+      right-on t (c .places-behind4 .ensures),
     )
 
 -- One side is done: what stands on the other follows.

@@ -3,20 +3,26 @@ use native.Mathlib.Omega.{arith}
 use borrow.Author.Needs.{needs}
 use Prim.Native.Nat.{_+_, _-_, _*_, _^_, _<_, _≤_}
 use Rattle.layout.specs.Bytes.{Octets}
+use mathlib.Core.Path.{_≡_}
 use Rattle.layout.specs.Parts.{start-of}
+use Rattle.layout.specs.Table.{table-place}
 use Rattle.layout.proofs.Fields.{length-lt}
 use Rattle.layout.proofs.Words.{octets-of}
 use Rattle.layout.proofs.Pieces.{same-part}
+use Rattle.layout.proofs.Carries.{place-first, place-on}
 use Rattle.edits.specs.Find.{step-into, look-up}
 use Rattle.edits.proofs.Descents.{Going, going-start, going-stop, going-on, going-end}
 use Rattle.edits.proofs.Lookups.{steps-in, steps-left, left-first, left-none, left-all}
 use Rattle.edits.proofs.path.find_path.Statement.{statement}
 use Rattle.edits.proofs.path.find_path.Tie as tie
 
--- What the whole path finds is what the steps that are left find, from the item on.
+-- What the whole path finds is what the steps that are left find, from the item on; step i stands where the path's table gives it.
 abbrev Inv-loop : tie.InvT-loop
 Inv-loop s path n item₀ place₀ i₀ item place i =
-    (i ≤ n) × (place ≤ start-of n + 2 ^ 28 * i) × Going s (look-up (steps-in path n)) item (steps-left path n place i)
+    (i ≤ n)
+    × (place ≤ start-of n + 2 ^ 28 * i)
+    × Going s (look-up (steps-in path n)) item (steps-left path n place i)
+    × (place ≡ table-place path n i)
 
 abbrev μ-loop : tie.MeasureT-loop
 μ-loop s path n item₀ place₀ i₀ item place i = n - i
@@ -59,6 +65,7 @@ loop-holds c =
       omega arith,
       rw (← left-all (start .args .path .now) (start .args .n))
           (going-start _ _ _ (octets encoded) (start .pre .0) (start .pre .1) (encoded .encoded .ensures)),
+      place-first (start .args .path .now) (start .args .n),
     )
 
 step-from-requires : tie.Need-step-from-requires Inv-loop μ-loop
@@ -96,6 +103,7 @@ loop-again c =
           (left-first _ _ _ _ _ _ _ (entry .before .loop-test .taken) (entry .jentry-at .ensures) (sized .payload-len .ensures)
           (sliced .slice .ensures))
           _ (turn .step-from .ensures) _ (found .next .given .1),
+      place-on _ _ _ _ _ _ (head .loop .inv .3) (entry .jentry-at .ensures) (sized .payload-len .ensures),
     )
 
 returns-2 : tie.Need-returns-2 Inv-loop μ-loop

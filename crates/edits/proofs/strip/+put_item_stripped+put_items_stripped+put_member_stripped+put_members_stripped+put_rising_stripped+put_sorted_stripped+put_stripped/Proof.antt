@@ -5,9 +5,10 @@ use mathlib.Core.Path.{_≡_, refl, ap, sym, _∙_}
 use lib.Dec.{eqb}
 use lib.ListN.{length, take}
 use Rattle.layout.specs.Bytes.{Octets}
-use Rattle.layout.specs.Parts.{name-in}
+use Rattle.layout.specs.Parts.{name-in, nth-part}
 use Rattle.layout.proofs.Words.{octets-of}
 use Rattle.layout.proofs.Pieces.{same-part}
+use Rattle.layout.proofs.Carries.{part-start, part-on}
 use Rattle.layout.proofs.Patches.{length-patch}
 use Rattle.builders.specs.Search.{bound, least}
 use Rattle.builders.specs.declared.search.Found.the-variants.{Nothing, At}
@@ -320,7 +321,7 @@ put-stripped-claims t = (
 
 abbrev put-items-stripped-Inv-loop : put-items-stripped-lts.InvT-loop
 put-items-stripped-Inv-loop s n out₀ at allowance part₀ here₀ out part here =
-    (w : Array-at s n allowance) × Storing s n allowance at w out₀ out here part
+    (w : Array-at s n allowance) × Storing s n allowance at w out₀ out here part × (part ≡ nth-part s n (part .index))
 
 abbrev put-items-stripped-μ-loop : put-items-stripped-lts.MeasureT-loop
 put-items-stripped-μ-loop s n out₀ at allowance part₀ here₀ out part here = n - part .index
@@ -529,7 +530,7 @@ put-items-stripped-cast-put-u32 t c =
 put-items-stripped-loop-holds : (t : ℕ) → Items put-items-stripped-lts.Need-loop-holds t
 put-items-stripped-loop-holds t c =
     let first = items-first t (c .before .before) in
-    (array-known t (items-entry t first), storing-starts _ _ _ (first .first-part .ensures))
+    (array-known t (items-entry t first), storing-starts _ _ _ (first .first-part .ensures), part-start _ _ _ (first .first-part .ensures))
 
 put-items-stripped-jentry-at-requires : (t : ℕ) → Items put-items-stripped-lts.Need-jentry-at-requires t
 put-items-stripped-jentry-at-requires t c κs = omega (arith, storing-room (c .before .before .loop .inv .1), c .if1 .taken)
@@ -593,7 +594,11 @@ put-items-stripped-loop-again t c =
     let stored = items-stored t len in
     let item = items-item t stored in
     let inv = items-loop t item .loop .inv in
-    (inv .0, storing-on (inv .1) (item-next t item) _ _ (stored .put-item-stripped .ensures) (len .len .given .1) (c .part-behind .ensures))
+    (
+      inv .0,
+      storing-on (inv .1) (item-next t item) _ _ (stored .put-item-stripped .ensures) (len .len .given .1) (c .part-behind .ensures),
+      part-on _ _ _ _ (inv .2) (c .part-behind .ensures),
+    )
 
 put-items-stripped-sub-t10 : (t : ℕ) → Items put-items-stripped-lts.Need-sub-t10 t
 put-items-stripped-sub-t10 t c = omega (arith, storing-room (c .before .before .before .loop .inv .1))

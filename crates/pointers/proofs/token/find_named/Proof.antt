@@ -3,23 +3,24 @@ use native.Mathlib.Omega.{arith}
 use borrow.Author.Needs.{needs}
 use Prim.Native.Nat.{_+_, _-_, _*_, _^_, _≤_}
 use mathlib.Core.Path.{_≡_}
-use Rattle.layout.specs.Entry.{lengths}
+use Rattle.layout.specs.Table.{table-place}
 use Rattle.layout.specs.Place.{parts-at}
 use Rattle.layout.specs.Parts.{start-of, texts}
 use Rattle.layout.proofs.Fields.{length-lt}
-use Rattle.layout.proofs.Pieces.{same-part, place-start, place-next}
+use Rattle.layout.proofs.Pieces.{same-part}
+use Rattle.layout.proofs.Carries.{place-first, place-on}
 use Rattle.edits.specs.Spot.{first}
 use Rattle.pointers.specs.Pointer.{undo}
 use Rattle.edits.proofs.Parts.{moved, first-start, first-found, first-more, first-none}
 use Rattle.pointers.proofs.token.find_named.Statement.{statement}
 use Rattle.pointers.proofs.token.find_named.Tie as tie
 
--- Name i stands behind those before it, and the first of all is the first of what is left.
+-- Name i stands where the table gives it, and the first of all is the first of what is left.
 abbrev Inv-loop : tie.InvT-loop
 Inv-loop s n token place₀ i₀ place i =
     (i ≤ n)
     × (place ≤ start-of (n + n) + 2 ^ 28 * i)
-    × (place ≡ start-of (n + n) + lengths s 0 i)
+    × (place ≡ table-place s (n + n) i)
     × (first (undo token) (texts (parts-at s 0 (start-of (n + n)) n)) ≡ moved i (first (undo token) (texts (parts-at s i place (n - i)))))
 
 abbrev μ-loop : tie.MeasureT-loop
@@ -36,7 +37,7 @@ abbrev to-head : Turn → tie.At-loop Inv-loop μ-loop
 to-head c = to-entry c .before .before
 
 loop-holds : tie.Need-loop-holds Inv-loop μ-loop
-loop-holds c = rw (same-part (c .first-part .ensures) .1) (omega arith, omega arith, place-start _ _, first-start _ _ _ _)
+loop-holds c = rw (same-part (c .first-part .ensures) .1) (omega arith, omega arith, place-first _ _, first-start _ _ _ _)
 
 returns : tie.Need-returns Inv-loop μ-loop
 returns c =
@@ -56,7 +57,7 @@ loop-again c =
     let head = to-head turn in (
       omega arith,
       omega (arith, sized .payload-len .ensures, length-lt (entry .jentry-at .result)),
-      place-next _ _ _ _ _ _ (entry .jentry-at .ensures) (sized .payload-len .ensures) (head .loop .inv .2),
+      place-on _ _ _ _ _ _ (head .loop .inv .2) (entry .jentry-at .ensures) (sized .payload-len .ensures),
       first-more _ _ _ _ _ (head .loop .inv .3) (entry .before .loop-test .taken) _ _ _ _ (entry .jentry-at .ensures)
           (sized .payload-len .ensures) (sliced .slice .ensures) (turn .is-named .ensures) (c .if1 .left),
     )

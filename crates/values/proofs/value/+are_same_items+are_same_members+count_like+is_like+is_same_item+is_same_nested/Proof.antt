@@ -389,7 +389,7 @@ abbrev count-like-Inv-loop : count-like-lts.InvT-loop
 count-like-Inv-loop a member b n limit allowance at₀ count₀ at count =
     Counting (same-at allowance) (member-at a member) b n limit
     (likes (same-at allowance) (member-at a member) (members-from b at₀ (n - at₀ .key .index)))
-    at count
+    at₀ at count
 
 abbrev count-like-μ-loop : count-like-lts.MeasureT-loop
 count-like-μ-loop a member b n limit allowance at₀ count₀ at count = n - at .key .index
