@@ -35,3 +35,4 @@ pub mod Walks
 pub mod Walked
 pub mod Numbered
 pub mod WalkCases
+pub mod TableCases

@@ -593,8 +593,7 @@ put-items-stripped-loop-again t c =
     let len = c .before .before .before .before in
     let stored = items-stored t len in
     let item = items-item t stored in
-    let inv = items-loop t item .loop .inv in
-    (
+    let inv = items-loop t item .loop .inv in (
       inv .0,
       storing-on (inv .1) (item-next t item) _ _ (stored .put-item-stripped .ensures) (len .len .given .1) (c .part-behind .ensures),
       part-on _ _ _ _ (inv .2) (c .part-behind .ensures),
