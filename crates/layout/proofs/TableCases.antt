@@ -5,7 +5,7 @@ use mathlib.Core.Option.{some}
 use Rattle.layout.specs.Bytes.{Bytes, be32, word, inside, word-at}
 use Rattle.layout.specs.Entry.{top-of, code-of, length-of, kind-of, entry-at, lengths, entry-good}
 use Rattle.layout.specs.Walk.{item-of, item-at, ends-with, array-step, array-walk, member-at, member-step, object-step, object-walk}
-use Rattle.layout.specs.Table.{table-place, nth-member, array-after, object-after}
+use Rattle.layout.specs.Table.{table-place, nth-member, after, array-after, object-after}
 use Rattle.layout.proofs.Cases.{_▸_}
 
 -- ["aa", 0, "b"]: 16 bytes of header and table, then 2 bytes, 1 and 1.
@@ -26,11 +26,11 @@ unfolding lengths entry-at length-of word-at word be32
 members-stand = (refl, refl, refl, refl, refl)
 
 -- The walk behind two items, and behind one member.
-items-walked : array-after items (array-walk 3) 2 ≡ some (record { «jentry_offset» = 12; «item_offset» = 19; remaining = 1 })
-unfolding array-after array-walk array-step item-at item-of ends-with entry-good inside word-at word top-of code-of length-of kind-of be32
+items-walked : array-after items 2 (array-walk 3) ≡ some (record { «jentry_offset» = 12; «item_offset» = 19; remaining = 1 })
+unfolding after array-walk array-step item-at item-of ends-with entry-good inside word-at word top-of code-of length-of kind-of be32
 items-walked = refl
 
-members-walked : object-after members (object-walk members 2) 1
+members-walked : object-after members 1 (object-walk members 2)
     ≡ some (record {
       «key_jentry_offset» = 8;
       «val_jentry_offset» = 16;
@@ -38,6 +38,6 @@ members-walked : object-after members (object-walk members 2) 1
       «val_offset» = 24;
       remaining = 1;
     })
-unfolding object-after object-walk object-step member-step member-at item-at item-of ends-with entry-good inside word-at word top-of code-of
+unfolding after object-walk object-step member-step member-at item-at item-of ends-with entry-good inside word-at word top-of code-of
     length-of kind-of lengths entry-at be32
 members-walked = refl

@@ -19,7 +19,7 @@ use Rattle.layout.specs.Read.{header, entry-ok, text, number-in, payload
 use Rattle.layout.specs.Place.{table-ok, parts-at}
 use Rattle.layout.specs.Walk.{item-of, counted, characters-of, item-at, ends-with, array-step, member-at, member-step, object-step}
 use Rattle.layout.specs.Walk.{array-walk, object-walk, opening}
-use Rattle.layout.specs.Table.{table-place, array-at, object-at, array-after, object-after}
+use Rattle.layout.specs.Table.{table-place, array-at, object-at, after, array-after, object-after}
 use Rattle.layout.specs.Walk.{array-opened, array-open, object-opened, object-open, walked, object-walked, paired}
 use Rattle.layout.specs.declared.item.Kind.{Kind}
 use Rattle.layout.specs.declared.item.Kind.the-variants.{Null, String, Number, False, True, Container, Extension}
@@ -154,8 +154,8 @@ walked-at s m i p (suc k) a =
     rw (w .1, walked-at s m (i + 1) (p + length-of (entry-at s i)) k (w .2))
 
 after-at : (s : Bytes) (m i p j k : ℕ) → j ≤ k → ItemsAhead s m i p k
-    → array-after s (walk-at i p k) j ≡ some (walk-at (i + j) (p + lengths s i j) (k - j))
-unfolding array-after lengths
+    → array-after s j (walk-at i p k) ≡ some (walk-at (i + j) (p + lengths s i j) (k - j))
+unfolding after lengths
 after-at s m i p zero k h a = rw (add-zero i, add-zero p, sub-zero k)
 after-at s m i p (suc j) zero h a = absurd (not-suc-le-zero h)
 after-at s m i p (suc j) (suc k) h a =
@@ -174,7 +174,7 @@ unfolding array-walk
 walked-array s n a = walked-at s 0 0 (4 + 4 * n) n a
 
 pub array-carries : (s : Bytes) (n k : ℕ) → k ≤ n → ItemsAhead s 0 0 (4 + 4 * n) n
-    → array-after s (array-walk n) k ≡ some (array-at s n k)
+    → array-after s k (array-walk n) ≡ some (array-at s n k)
 unfolding array-walk
 array-carries s n k h a = after-at s 0 0 (4 + 4 * n) k n h a ∙ rw (zero-add k)
 
@@ -273,8 +273,8 @@ walked-over s m i j q p (suc k) a =
     rw (w .2, walked-over s m (i + 1) (j + 1) (q + length-of (entry-at s i)) (p + length-of (entry-at s j)) k (w .3))
 
 after-over : (s : Bytes) (m i j q p r k : ℕ) → r ≤ k → MembersAhead s m i j q p k
-    → object-after s (walk-over i j q p k) r ≡ some (walk-over (i + r) (j + r) (q + lengths s i r) (p + lengths s j r) (k - r))
-unfolding object-after lengths
+    → object-after s r (walk-over i j q p k) ≡ some (walk-over (i + r) (j + r) (q + lengths s i r) (p + lengths s j r) (k - r))
+unfolding after lengths
 after-over s m i j q p zero k h a = rw (add-zero i, add-zero j, add-zero q, add-zero p, sub-zero k)
 after-over s m i j q p (suc r) zero h a = absurd (not-suc-le-zero h)
 after-over s m i j q p (suc r) (suc k) h a =
@@ -300,7 +300,7 @@ unfolding object-walk
 walked-object s n a = walked-over s n 0 n (4 + 8 * n) (4 + 8 * n + lengths s 0 n) n a
 
 pub object-carries : (s : Bytes) (n k : ℕ) → k ≤ n → ObjectAhead s n
-    → object-after s (object-walk s n) k ≡ some (object-at s n k)
+    → object-after s k (object-walk s n) ≡ some (object-at s n k)
 unfolding object-walk
 object-carries s n k h a =
     let e : 4 + 8 * n ≡ 4 + 4 * (n + n) = omega arith in
@@ -336,7 +336,7 @@ pub record ArrayWalked (s : Bytes) (ts : Items) : Type 0 where
   pub each : List Part
   pub opened : array-open s ≡ Opened (array-walk count)
   pub handed-out : walked s (array-walk count) (suc count) ≡ some each
-  pub carried : (k : ℕ) → k ≤ count → array-after s (array-walk count) k ≡ some (array-at s count k)
+  pub carried : (k : ℕ) → k ≤ count → array-after s k (array-walk count) ≡ some (array-at s count k)
   pub items : items-in (nested 63) each ≡ gives ts
 
 array-by : (s : Bytes) (ts : Items) (h : Header) → h ≡ header s → read s ≡ gives (array ts)
@@ -381,7 +381,7 @@ pub record ObjectWalked (s : Bytes) (ms : Members) : Type 0 where
   pub trees : Items
   pub opened : object-open s ≡ OpenedObject (object-walk s count)
   pub handed-out : object-walked s (object-walk s count) (suc count) ≡ some (paired keys vals)
-  pub carried : (k : ℕ) → k ≤ count → object-after s (object-walk s count) k ≡ some (object-at s count k)
+  pub carried : (k : ℕ) → k ≤ count → object-after s k (object-walk s count) ≡ some (object-at s count k)
   pub all-keys : length keys ≡ count
   pub all-vals : length vals ≡ count
   pub names : names-in keys ≡ gives texts

@@ -81,21 +81,28 @@ object-at s n i =
       remaining = n - i;
     }
 
--- The walk behind the next `k` items or members; nothing where a step is refused, or the end comes before.
-abbrev pub array-behind : ArrayStep → (ArrayIterator → Option ArrayIterator) → Option ArrayIterator
-array-behind (Item i next) rest = rest next
-array-behind End rest = nothing
-array-behind (Refused r) rest = nothing
+-- The walk that a step hands back: none where it is refused, or at the end.
+abbrev pub array-next : ArrayStep → Option ArrayIterator
+array-next (Item i next) = some next
+array-next End = nothing
+array-next (Refused r) = nothing
 
-unfoldable pub array-after : Bytes → ArrayIterator → ℕ → Option ArrayIterator
-array-after s w zero = some w
-array-after s w (suc k) = array-behind (array-step s w) (λ next. array-after s next k)
+abbrev pub object-next : ObjectStep → Option ObjectIterator
+object-next (Member m next) = some next
+object-next NoMember = nothing
+object-next (RefusedMember r) = nothing
 
-abbrev pub object-behind : ObjectStep → (ObjectIterator → Option ObjectIterator) → Option ObjectIterator
-object-behind (Member m next) rest = rest next
-object-behind NoMember rest = nothing
-object-behind (RefusedMember r) rest = nothing
+-- What there is behind `k` steps, each of which may come to nothing; and the walks over an array and over an object there.
+abbrev pub steps-on : {W : Type 0} → Option W → (W → Option W) → Option W
+steps-on nothing rest = nothing
+steps-on (some w) rest = rest w
 
-unfoldable pub object-after : Bytes → ObjectIterator → ℕ → Option ObjectIterator
-object-after s w zero = some w
-object-after s w (suc k) = object-behind (object-step s w) (λ next. object-after s next k)
+unfoldable pub after : {W : Type 0} → (W → Option W) → ℕ → W → Option W
+after next zero w = some w
+after next (suc k) w = steps-on (next w) (after next k)
+
+abbrev pub array-after : Bytes → ℕ → ArrayIterator → Option ArrayIterator
+array-after s = after (λ (w : ArrayIterator). array-next (array-step s w))
+
+abbrev pub object-after : Bytes → ℕ → ObjectIterator → Option ObjectIterator
+object-after s = after (λ (w : ObjectIterator). object-next (object-step s w))

@@ -79,7 +79,7 @@ pub fn part_payload(s: &[u8], part: PartAt) -> &[u8]
     )
 }
 
-// Where the payload of part `to` stands: behind those from `from` on.
+// Where the payload of part `to` stands: the place of `from` is carried on over the parts between them.
 pub fn place_after(s: &[u8], from: PartAt, to: usize) -> usize
     requires { ⌜ (from .index ≤ to) × (to < 2 ^ 30) × (from .place < 2 ^ 60) ⌝ }
     ensures { λ r. ⌜ r ≡ from .place + lengths (now (s .entry)) (from .index) (to - from .index) ⌝ }
@@ -128,7 +128,7 @@ pub fn read_member(keys: &[u8], vals: &[u8], at: Places) -> MemberAt
     }
 }
 
-// The places of the members of an object.
+// The places of the members of an object. The first value stands behind all names, whose lengths are summed for it once.
 pub fn members_of(s: &[u8], n: usize) -> Places
     requires { ⌜ n < 2 ^ 29 ⌝ }
     ensures { λ r. ⌜ r ≡ membersOf (now (s .entry)) n ⌝ }
