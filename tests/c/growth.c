@@ -13,8 +13,8 @@
 
 #define FEW 4000
 #define MANY 16000
-#define RUNS 15
-#define CALLS 100
+#define RUNS 21
+#define CALLS 20
 #define LIMIT 8.0
 
 /* An array of so many nulls: a header, and an entry of zeros for each. */
