@@ -52,14 +52,14 @@ static double seconds(void) {
 
 /* One run of calls, whose answer must be `wanted`; keeps the least time of all runs. Gives how many answers were others. */
 static int run(uint64_t (*call)(const struct nulls *), struct nulls *array, uint64_t wanted) {
-    double start = seconds(), time;
+    double start = seconds(), taken;
     int i, wrong = 0;
     for (i = 0; i < CALLS; i++) {
         wrong += call(array) != wanted;
     }
-    time = seconds() - start;
-    if (array->least == 0 || time < array->least) {
-        array->least = time;
+    taken = seconds() - start;
+    if (array->least == 0 || taken < array->least) {
+        array->least = taken;
     }
     return wrong;
 }

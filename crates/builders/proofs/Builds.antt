@@ -46,7 +46,7 @@ use Rattle.builders.specs.Room.{room-for, sized}
 use Rattle.builders.specs.declared.search.Kept.the-variants.{All}
 use Rattle.builders.specs.declared.room.Room.{Room}
 use Rattle.builders.specs.declared.room.Room.the-variants.{Serves, Refused as NoRoom}
-use Rattle.layout.specs.Parts.{texts, name-in, value-in, members-at, parts-of}
+use Rattle.layout.specs.Parts.{texts, name-in, value-in, members-at, pairs-of, parts-of}
 use Rattle.builders.specs.Names.{strings-at, Pairs}
 use Rattle.builders.specs.Search.{kept-of}
 use Rattle.builders.specs.Sorted.{sorted}
@@ -295,7 +295,7 @@ module _ (ks vs : Bytes) (n : ℕ) (ts us : Items) (kk : Known ks (array ts)) (k
           )
 
       abbrev from : Places
-      from = record { «key_jentry» = 4; «val_jentry» = 4; key = 4 + 4 * n; val = 4 + 4 * n }
+      from = pairs-of n
 
       behind-header : (s : Bytes) (ws : Items) → Known s (array ws)
           → drop 4 s ≡ entries (item-parts ws) ++ payloads (item-parts ws)
@@ -415,7 +415,7 @@ module _ {ks vs : Bytes} {n : ℕ} (p : Paired ks vs n) where
       pub pairs-done : (w : ℕ) (o₁ o₂ : Bytes) → serves ≡ Serves → w ≡ bitOr (2 ^ 30) n → o₁ ≡ patch o 0 (be32 w)
           → o₂ ≡ woven (name-in ks) (value-in vs) own-entry o₁ 4 (4 + 4 * n) (4 + 4 * n + 4 * n) (length ks + 4 * n)
           (sorted (name-in ks)
-          (kept-of All 0 (members-at ks vs (record { «key_jentry» = 4; «val_jentry» = 4; key = 4 + 4 * n; val = 4 + 4 * n }) n)))
+          (kept-of All 0 (members-at ks vs (pairs-of n) n)))
           → On (Done len) o₂
       pairs-done w o₁ o₂ qs ew e₁ e₂ =
           sorted-done ks vs n (keys-known .0) (vals-known .0) (keys-known .1) (vals-known .1) (keys-known .2) (vals-known .2)

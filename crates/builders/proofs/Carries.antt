@@ -2,15 +2,13 @@
 use Prim.Native.Nat.{ℕ, zero, suc, _+_, _<_}
 use native.Mathlib.Nat.{zero-add, add-zero}
 use native.Mathlib.Omega.{arith}
-use mathlib.Core.Path.{_≡_, refl, sym, ap, _∙_}
-use mathlib.Core.List.{List}
+use mathlib.Core.Path.{_≡_, refl}
 use Rattle.layout.specs.Bytes.{Bytes}
-use Rattle.layout.specs.Table.{table-place, table-places, table-member, members-by-table}
-use Rattle.layout.specs.Parts.{start-of, name-in, members-at, members-of}
+use Rattle.layout.specs.Table.{table-member, members-by-table}
+use Rattle.layout.specs.Parts.{name-in, members-at, members-of, pairs-of}
 use Rattle.layout.specs.declared.parts.MemberAt.{MemberAt}
-use Rattle.layout.specs.declared.parts.Places.{Places}
 use Rattle.layout.proofs.Lists.{Each}
-use Rattle.layout.proofs.Carries.{place-first, members-carry, object-members}
+use Rattle.layout.proofs.Carries.{object-members, pairs-members}
 use Rattle.builders.specs.Search.{Bound, kept-of, least}
 use Rattle.builders.specs.declared.search.Kept.{Kept}
 use Rattle.builders.specs.declared.search.Found.the-variants.{Nothing, At}
@@ -44,15 +42,6 @@ pub object-search-carries : (s : Bytes) (n : ℕ) (kept : Kept) (last : Bound) (
     → least (name-in s) last Nothing (kept-of kept 0 (members-at s s (members-of s n) n)) ≡ At m → OfTables s (n + n) 0 s (n + n) n n m
 object-search-carries s n kept last m e = search-carries s (n + n) 0 s (n + n) n n kept last m (rw (object-members s n) at e)
 
-abbrev pub pairs-places : ℕ → Places
-pairs-places n = record { «key_jentry» = 4; «val_jentry» = 4; key = start-of n; val = start-of n }
-
 pub pairs-search-carries : (ks vs : Bytes) (n : ℕ) (kept : Kept) (last : Bound) (m : MemberAt)
-    → least (name-in ks) last Nothing (kept-of kept 0 (members-at ks vs (pairs-places n) n)) ≡ At m → OfTables ks n 0 vs n 0 n m
-pairs-search-carries ks vs n kept last m e =
-    let p : pairs-places n ≡ table-places ks n 0 vs n 0 =
-    ap (λ (x : ℕ). record { «key_jentry» = 4; «val_jentry» = 4; key = x; val = start-of n }) (place-first ks n)
-    ∙ ap (λ (x : ℕ). record { «key_jentry» = 4; «val_jentry» = 4; key = table-place ks n 0; val = x }) (place-first vs n) in
-    let q : members-at ks vs (pairs-places n) n ≡ members-by-table ks n 0 vs n 0 n =
-    ap (λ (at : Places). members-at ks vs at n) p ∙ members-carry ks vs n 0 n 0 n in
-    search-carries ks n 0 vs n 0 n kept last m (rw q at e)
+    → least (name-in ks) last Nothing (kept-of kept 0 (members-at ks vs (pairs-of n) n)) ≡ At m → OfTables ks n 0 vs n 0 n m
+pairs-search-carries ks vs n kept last m e = search-carries ks n 0 vs n 0 n kept last m (rw (pairs-members ks vs n) at e)

@@ -1,6 +1,6 @@
 -- The members of an object taken one by one: whether they are taken as they stand or searched for, each is the next one in byte
 -- order.
-use Prim.Native.Nat.{ℕ, _+_}
+use Prim.Native.Nat.{ℕ}
 use native.Mathlib.Nat.{sub-zero}
 use native.Mathlib.Omega.{arith}
 use mathlib.Core.Path.{_≡_, refl, ap, sym, _∙_}

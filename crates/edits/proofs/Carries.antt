@@ -1,67 +1,42 @@
 -- Document 02 §4, of what the edits copy: the part that a step finds, the runs of parts beside it, and the members that concat and
 -- strip take, each where the table gives it.
 use Prim.Native.Nat.{ℕ, _+_}
-use native.Mathlib.Nat.{zero-add, sub-zero}
-use native.Mathlib.Omega.{arith}
-use mathlib.Core.Path.{_≡_, refl, sym, ap, _∙_}
-use mathlib.Core.List.{List, _++_}
+use native.Mathlib.Nat.{sub-zero}
+use mathlib.Core.Path.{_≡_, sym}
+use mathlib.Core.List.{_++_}
 use mathlib.Core.Option.{Option, none as nothing, some}
 use lib.ListN.{length}
 use Rattle.layout.specs.Bytes.{Bytes}
 use Rattle.layout.specs.Entry.{lengths}
 use Rattle.layout.specs.Table.{members-by-table}
-use Rattle.layout.specs.Parts.{start-of, count-parts, nth-part, parts-end, members-of}
-use Rattle.layout.specs.declared.parts.MemberAt.{MemberAt}
+use Rattle.layout.specs.Parts.{start-of, count-parts, nth-part, parts-end}
 use Rattle.layout.specs.declared.parts.PartAt.{PartAt}
 use Rattle.layout.specs.declared.util.Header.{Header}
 use Rattle.layout.specs.declared.util.Header.the-variants.{Array, Object, Scalar, Refused}
 use Rattle.layout.proofs.Carries.{object-members}
-use Rattle.layout.proofs.Places.{lengths-split}
 use Rattle.builders.specs.Search.{kept-of}
 use Rattle.builders.specs.declared.search.Kept.{Kept}
 use Rattle.edits.specs.Keypath.{Step}
 use Rattle.edits.specs.Find.{step-place, step-name}
-use Rattle.edits.specs.Spot.{first, spot-at, spot-member, value-of, spot}
+use Rattle.edits.specs.Spot.{first, spot-member, spot}
 use Rattle.edits.specs.Members.{all-ahead, kept-ahead}
 use Rattle.edits.specs.Merge.{moved-all, in-a-row}
-use Rattle.edits.specs.declared.find.Spot.{Spot}
-use Rattle.edits.specs.declared.find.Spot.the-variants.{Nothing, At}
+use Rattle.edits.specs.declared.find.Spot.the-variants.{At}
+use Rattle.edits.proofs.Finds.{key-part}
+use Rattle.edits.proofs.Spots.{no-spot}
 
--- The part that a step finds.
-no-spot : {C : Type 0} {a : PartAt} → Nothing ≡ At a → C
-no-spot e = let z : _≡_ {A = ℕ} 0 1 = cc in let w : ⊥ = omega arith in absurd w
-
-found-spot : (s : Bytes) (n k : ℕ) (a : PartAt) → At (nth-part s n k) ≡ At a → a ≡ nth-part s n (a .index)
-found-spot s n k a e = let q : nth-part s n k ≡ a = cc in rw (← q)
-
-spot-by : (s : Bytes) (n : ℕ) (o : Option ℕ) (a : PartAt) → spot-at s n o ≡ At a → a ≡ nth-part s n (a .index)
-unfolding spot-at
-spot-by s n nothing a e = no-spot e
-spot-by s n (some k) a e = found-spot s n k a e
-
+-- The part that a step finds. Where it is the value of a member, its place goes on from that of the name: `value-at` of Finds.
 member-by : (s : Bytes) (n : ℕ) (o : Option ℕ) (a : PartAt) → spot-member s n o ≡ At a → a ≡ nth-part s (n + n) (a .index)
 unfolding spot-member
-member-by s n nothing a e = no-spot e
-member-by s n (some k) a e = found-spot s (n + n) (n + k) a e
+member-by s n nothing a e = no-spot a e
+member-by s n (some k) a e = let q : nth-part s (n + n) (n + k) ≡ a = cc in rw (← q)
 
 pub spot-carries : (h : Header) (s : Bytes) (p : Step) (a : PartAt) → spot h s p ≡ At a → a ≡ nth-part s (count-parts h) (a .index)
 unfolding spot
-spot-carries (Array n) s p a e = spot-by s n (step-place p n) a e
+spot-carries (Array n) s p a e = rw (key-part s n (step-place p n) a (sym e) .2)
 spot-carries (Object n) s p a e = member-by s n (first (step-name p) _) a e
-spot-carries (Scalar n) s p a e = no-spot e
-spot-carries (Refused r) s p a e = no-spot e
-
--- The value of a member, whose place is carried on from that of its name.
-pub value-carries : (s : Bytes) (n : ℕ) (a : PartAt) → a ≡ nth-part s (n + n) (a .index)
-    → value-of s n (At a) ≡ At (nth-part s (n + n) (n + a .index))
-value-carries s n a e =
-    let c : n + a .index ≡ a .index + n = omega arith in
-    let l : lengths s 0 (a .index + n) ≡ lengths s 0 (a .index) + lengths s (a .index) n =
-    rw (zero-add (a .index)) at (lengths-split s 0 (a .index) n) in
-    let q : a .place ≡ start-of (n + n) + lengths s 0 (a .index) = ap (λ (x : PartAt). x .place) e in
-    let p : a .place + lengths s (a .index) n ≡ start-of (n + n) + lengths s 0 (n + a .index) =
-    omega (arith, q, l, ap (lengths s 0) c) in
-    ap (λ (x : ℕ). At (record { index = n + a .index; place = x })) p
+spot-carries (Scalar n) s p a e = no-spot a e
+spot-carries (Refused r) s p a e = no-spot a e
 
 -- The end of the last run: where the payloads end with the bytes, the end is where the table gives the part behind the last.
 pub end-carries : (s : Bytes) (n : ℕ) → start-of n + lengths s 0 n ≡ length s → parts-end s n ≡ nth-part s n n

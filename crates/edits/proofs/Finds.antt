@@ -46,7 +46,7 @@ key-part s n nothing key e = let z : _≡_ {A = ℕ} 0 1 = cc in let w : ⊥ = o
 key-part s n (some k) key e = (k, refl, cc)
 
 -- The value by the part of its name: the names from there on, and the values before it, stand between the two.
-value-at : (s : Bytes) (n : ℕ) (o : Option ℕ) → value-of s n (spot-at s (n + n) o) ≡ spot-member s n o
+pub value-at : (s : Bytes) (n : ℕ) (o : Option ℕ) → value-of s n (spot-at s (n + n) o) ≡ spot-member s n o
 unfolding spot-at spot-member
 value-at s n nothing = refl
 value-at s n (some k) =

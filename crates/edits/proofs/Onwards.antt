@@ -27,6 +27,8 @@ use Rattle.edits.specs.Steps.{code-key, step}
 use Rattle.edits.specs.Spot.{spot}
 use Rattle.edits.specs.Held.{search-in}
 use Rattle.edits.specs.Remains.{remains-of}
+use Rattle.layout.specs.Parts.{next-part}
+use Rattle.layout.proofs.Carries.{part-on}
 use Rattle.edits.specs.Way.{step-at, steps-from, way-behind, Cuts, Onward}
 use Rattle.layout.specs.declared.parts.PartAt.{PartAt}
 use Rattle.edits.specs.declared.find.Spot.{Spot}
@@ -133,6 +135,7 @@ below-by s path w a allowance p₂ q₂ o c h e₂ t k =
             more = h .more;
             few = c .few;
             near = omega (arith, c .near, length-lt (entry-at path (w .step .index)));
+            carried = part-on path (w .count) (w .step) (next-part path (w .step)) (c .carried) refl;
             finds = (c .finds .0, rw (e₂, r₆) found-in);
           };
       inner = rw (e₂, r₆);

@@ -38,7 +38,7 @@ use Rattle.edits.proofs.Tables.{object-names}
 
 -- What a spot says of the number that it was made from.
 
-no-spot : {C : Type 0} (a : PartAt) → Nothing ≡ At a → C
+pub no-spot : {C : Type 0} (a : PartAt) → Nothing ≡ At a → C
 no-spot a e = let z : _≡_ {A = ℕ} 0 1 = cc in let w : ⊥ = omega arith in absurd w
 
 spot-at-none : (s : Bytes) (n : ℕ) (o : Option ℕ) → spot-at s n o ≡ Nothing → o ≡ nothing

@@ -2,7 +2,7 @@
 -- the same writer on a part of no bytes, and stored where there is room.
 use Prim.Native.Nat.{ℕ, _-_, _^_, _≤_, _<_}
 use native.Mathlib.Omega.{arith}
-use mathlib.Core.Path.{_≡_, ap, sym, _∙_}
+use mathlib.Core.Path.{_≡_, refl, ap, sym, _∙_}
 use mathlib.Core.List.{[], _++_}
 use mathlib.Core.Option.{some}
 use lib.ListN.{length}
@@ -14,6 +14,7 @@ use Rattle.layout.specs.Patch.{patch}
 use Rattle.layout.specs.Ended.{into}
 use Rattle.layout.specs.Room.{EndedIn}
 use Rattle.layout.specs.Parts.{first-part, parts-of}
+use Rattle.layout.proofs.Carries.{part-start}
 use Rattle.layout.specs.declared.check.Check.the-variants.{Readable}
 use Rattle.layout.specs.declared.refusal.Refusal.the-variants.{Buffer}
 use Rattle.layout.specs.declared.ending.Ending.the-variants.{Done, Refused}
@@ -57,6 +58,7 @@ module _ {s path : Bytes} {n : ℕ} {w : Way} (d : Deletion s path n w) where
         more = d .more;
         few = d .few;
         near = omega (arith, d .few);
+        carried = part-start path n (first-part n) refl;
         finds = (d .finds .0, ap (finding s) found ∙ d .finds .1);
       }
 

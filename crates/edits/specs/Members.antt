@@ -7,7 +7,6 @@ use mathlib.Core.Bool.{true, false}
 use mathlib.Core.List.{List, [], _∷_}
 use lib.ListN.{length}
 use Rattle.layout.specs.Bytes.{Bytes}
-use Rattle.layout.specs.Place.{parts-at, rising-parts}
 use Rattle.layout.specs.Table.{nth-member}
 use Rattle.layout.specs.Parts.{name-in, value-in, members-at, members-of, behind-member}
 use Rattle.builders.specs.Search.{kept-of, Bound, least}

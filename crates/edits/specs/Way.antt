@@ -12,7 +12,7 @@ use Rattle.layout.specs.Place.{parts-at}
 use Rattle.layout.specs.declared.check.Check.the-variants.{Readable}
 use Rattle.edits.specs.Keypath.{Step}
 use Rattle.edits.specs.Steps.{part-step, part-steps}
-use Rattle.layout.specs.Parts.{next-part, part-in}
+use Rattle.layout.specs.Parts.{nth-part, next-part, part-in}
 use Rattle.edits.specs.Spot.{spot}
 use Rattle.edits.specs.Held.{finding}
 use Rattle.layout.specs.declared.parts.PartAt.{PartAt}
@@ -37,6 +37,7 @@ pub record Cuts (s path : Bytes) (w : Way) (allowance : ℕ) : Type 0 where
   pub more : w .step .index < w .count
   pub few : w .count < 2 ^ 29
   pub near : w .step .place ≤ 2 ^ 32 + 2 ^ 28 * w .step .index
+  pub carried : w .step ≡ nth-part path (w .count) (w .step .index)
   pub finds : (t : Tree) × (finding s (steps-from path w) ≡ some t)
 
 -- Where the next step leads, and it is not the last.

@@ -1,15 +1,12 @@
--- Document 02 §4: "Show that each carried place is the one the table gives." Of the reading, of the check's pass, of the walks, and of
--- parts and members, as the crates above take them; and the two steps by which a loop keeps to it.
-use Prim.Native.Nat.{ℕ, zero, suc, _+_, _*_, _-_, _≤_}
+-- Document 02 §4: "Show that each carried place is the one the table gives." Of the reading, of the check's pass, and of parts and
+-- members, as the crates above take them; and the steps by which a loop keeps to it. Walks are in proofs/Walked.antt.
+use Prim.Native.Nat.{ℕ, zero, suc, _+_, _*_, _≤_}
 use native.Mathlib.Omega.{arith}
 use native.Mathlib.Nat.{zero-add, add-zero}
 use mathlib.Core.Path.{_≡_, refl, sym, ap, _∙_}
-use mathlib.Core.Bool.{Bool, true, false, cond, _&&_}
 use mathlib.Core.List.{List}
-use mathlib.Core.Option.{some}
-use lib.Dec.{ltb, eqb}
 use lib.ListN.{length, drop}
-use Rattle.layout.specs.Bytes.{Bytes, word-at}
+use Rattle.layout.specs.Bytes.{Bytes}
 use Rattle.layout.specs.Answer.{Answer, gives}
 use Rattle.layout.specs.Entry.{length-of, entry-at, lengths}
 use Rattle.layout.specs.Tree.{Tree}
@@ -18,7 +15,7 @@ use Rattle.layout.specs.Read.{parts}
 use Rattle.layout.specs.Place.{parts-at}
 use Rattle.layout.specs.Pass.{items-checked, items-by-table, names-end}
 use Rattle.layout.specs.Table.{table-place, parts-by-table, table-places, nth-member, table-member, members-by-table, Carried, CarriedPair}
-use Rattle.layout.specs.Parts.{start-of, member-at, members-from, members-at, members-of, behind-member, nth-part, first-part, next-part}
+use Rattle.layout.specs.Parts.{start-of, member-at, members-from, members-at, members-of, pairs-of, behind-member, nth-part, first-part, next-part}
 use Rattle.layout.specs.declared.check.NamesEnd.the-variants.{At}
 use Rattle.layout.specs.declared.parts.MemberAt.{MemberAt}
 use Rattle.layout.specs.declared.parts.Places.{Places}
@@ -103,6 +100,13 @@ module _ (s : Bytes) (n : ℕ) where
       ap (λ (at : Places). members-at s s at n) object-start
       ∙ members-carry s s (n + n) 0 (n + n) (n + 0) n
       ∙ ap (λ (j : ℕ). members-by-table s (n + n) 0 s (n + n) j n) z
+
+-- Those of `n` names and `n` values.
+pub pairs-members : (ks vs : Bytes) (n : ℕ) → members-at ks vs (pairs-of n) n ≡ members-by-table ks n 0 vs n 0 n
+pairs-members ks vs n =
+    ap (λ (p : ℕ). members-at ks vs (record { «key_jentry» = 4; «val_jentry» = 4; key = p; val = start-of n }) n) (place-first ks n)
+    ∙ ap (λ (p : ℕ). members-at ks vs (record { «key_jentry» = 4; «val_jentry» = 4; key = table-place ks n 0; val = p }) n) (place-first vs n)
+    ∙ members-carry ks vs n 0 n 0 n
 
 -- Parts one behind the other, from a place of the table on; those that a record of the layout is read by are these.
 pub parts-carry : (s : Bytes) (n i k : ℕ) → parts-at s i (table-place s n i) k ≡ parts-by-table s n i k

@@ -1,5 +1,5 @@
 -- What a walk over a readable record means: it hands out the record's parts in turn, and then answers the end.
-use Prim.Native.Nat.{ℕ, zero, suc, _+_, _*_, _-_, _≤_}
+use Prim.Native.Nat.{ℕ, zero, suc, _+_, _*_, _-_, _≤_, _<_}
 use native.Mathlib.Nat.{add-zero, zero-add, sub-zero, not-suc-le-zero}
 use native.Mathlib.Omega.{arith}
 use mathlib.Core.Path.{_≡_, refl, sym, ap, _∙_}
@@ -19,7 +19,8 @@ use Rattle.layout.specs.Read.{header, entry-ok, text, number-in, payload
 use Rattle.layout.specs.Place.{table-ok, parts-at}
 use Rattle.layout.specs.Walk.{item-of, counted, characters-of, item-at, ends-with, array-step, member-at, member-step, object-step}
 use Rattle.layout.specs.Walk.{array-walk, object-walk, opening}
-use Rattle.layout.specs.Table.{table-place, array-at, object-at, after, array-after, object-after}
+use Rattle.layout.specs.Parts.{first-part, nth-part}
+use Rattle.layout.specs.Table.{table-place, nth-member, ItemCarried, ArrayCarried, MemberCarried, ObjectCarried}
 use Rattle.layout.specs.Walk.{array-opened, array-open, object-opened, object-open, walked, object-walked, paired}
 use Rattle.layout.specs.declared.item.Kind.{Kind}
 use Rattle.layout.specs.declared.item.Kind.the-variants.{Null, String, Number, False, True, Container, Extension}
@@ -39,8 +40,9 @@ use Rattle.layout.proofs.Answers.{from-bind, from-require, refused-give
 use Rattle.layout.proofs.Texts.{utf8-some}
 use Rattle.layout.proofs.Decoding.{text-is, text-valid, read-is}
 use Rattle.layout.proofs.Places.{and-both, table-head, table-split, lengths-split, laid, length-parts, take-parts, drop-parts}
-use Rattle.layout.proofs.Checks.{told-array, told-object}
-use Rattle.layout.proofs.Walks.{array-other, object-other}
+use Rattle.layout.proofs.Checks.{one-less, told-array, told-object}
+use Rattle.layout.proofs.Carries.{place-behind, part-start, object-start}
+use Rattle.layout.proofs.Walks.{array-opens, object-opens, array-other, object-other}
 
 -- One entry of a table.
 lengths-cons : (s : Bytes) (i n : ℕ) → lengths s i (suc n) ≡ length-of (entry-at s i) + lengths s (i + 1) n
@@ -144,8 +146,7 @@ item-step s m i p k a =
       },
     )
 
--- So a walk over them hands out their parts, and ends; and it carries their places: behind `j` of them it is at the one that the lengths
--- before it sum to.
+-- So a walk over them hands out their parts, and ends.
 walked-at : (s : Bytes) (m i p k : ℕ) → ItemsAhead s m i p k → walked s (walk-at i p k) (suc k) ≡ some (parts-at s i p k)
 unfolding walked array-step item-of parts-at
 walked-at s m i p zero a = refl
@@ -153,30 +154,36 @@ walked-at s m i p (suc k) a =
     let w = item-step s m i p k a in
     rw (w .1, walked-at s m (i + 1) (p + length-of (entry-at s i)) k (w .2))
 
-after-at : (s : Bytes) (m i p j k : ℕ) → j ≤ k → ItemsAhead s m i p k
-    → array-after s j (walk-at i p k) ≡ some (walk-at (i + j) (p + lengths s i j) (k - j))
-unfolding after lengths
-after-at s m i p zero k h a = rw (add-zero i, add-zero p, sub-zero k)
-after-at s m i p (suc j) zero h a = absurd (not-suc-le-zero h)
-after-at s m i p (suc j) (suc k) h a =
-    let w = item-step s m i p k a in
+-- Behind `j` of them the others are ahead, from where the lengths before them sum to.
+items-behind : (s : Bytes) (m i p j k : ℕ) → j ≤ k → ItemsAhead s m i p k → ItemsAhead s m (i + j) (p + lengths s i j) (k - j)
+unfolding lengths
+items-behind s m i p zero k h a = rw (add-zero i, add-zero p, sub-zero k) a
+items-behind s m i p (suc j) zero h a = absurd (not-suc-le-zero h)
+items-behind s m i p (suc j) (suc k) h a =
     let l = length-of (entry-at s i) in
-    let e : i + 1 + j ≡ i + suc j = omega arith in
-    let e₁ : p + l + lengths s (i + 1) j ≡ p + (l + lengths s (i + 1) j) = omega arith in
-    let e₂ : k - j ≡ suc k - suc j = omega arith in
-    rw (w .1) (after-at s m (i + 1) (p + l) j k (omega arith) (w .2) ∙ rw (e, e₁, e₂))
+    let e : i + suc j ≡ i + 1 + j = omega arith in
+    let e₁ : p + (l + lengths s (i + 1) j) ≡ p + l + lengths s (i + 1) j = omega arith in
+    let e₂ : suc k - suc j ≡ k - j = omega arith in
+    rw (e, e₁, e₂) (items-behind s m (i + 1) (p + l) j k (omega arith) (item-step s m i p k a .2))
 
--- The walk before the first item of an array of `n` hands out its `n` parts in turn, and then answers the end. Before item `k` it holds
--- the place that the table gives it: document 02 §4.
+-- The walk before the first item of an array of `n` hands out its `n` parts in turn, and then answers the end; and it carries their places.
 pub walked-array : (s : Bytes) (n : ℕ) → ItemsAhead s 0 0 (4 + 4 * n) n
     → walked s (array-walk n) (suc n) ≡ some (parts-at s 0 (4 + 4 * n) n)
 unfolding array-walk
 walked-array s n a = walked-at s 0 0 (4 + 4 * n) n a
 
-pub array-carries : (s : Bytes) (n k : ℕ) → k ≤ n → ItemsAhead s 0 0 (4 + 4 * n) n
-    → array-after s k (array-walk n) ≡ some (array-at s n k)
-unfolding array-walk
-array-carries s n k h a = after-at s 0 0 (4 + 4 * n) k n h a ∙ rw (zero-add k)
+item-carried : (s : Bytes) (n k r : ℕ) → n - k ≡ suc r → ItemsAhead s 0 k (table-place s n k) (suc r) → ItemCarried s n k
+item-carried s n k r e a =
+    let q : n - (k + 1) ≡ r = omega arith in
+    let w = item-step s 0 k (table-place s n k) r a in
+    (w .0, rw (e, q, ← place-behind s n k) (w .1))
+
+pub array-carries : (s : Bytes) (n : ℕ) → ItemsAhead s 0 0 (4 + 4 * n) n → ArrayCarried s n
+array-carries s n a = (
+  rw (sub-zero n) (sym (array-opens n (nth-part s n 0) (sym (part-start s n (first-part n) refl)))),
+  λ k h. item-carried s n k (n - (k + 1)) (one-less n k h)
+      (rw (zero-add k, one-less n k h) at (items-behind s 0 0 (4 + 4 * n) k n (omega arith) a)),
+)
 
 -- The same for an object: name entry `i`, value entry `j`, name at `q`, value at `p`.
 abbrev walk-over : ℕ → ℕ → ℕ → ℕ → ℕ → ObjectIterator
@@ -272,24 +279,24 @@ walked-over s m i j q p (suc k) a =
     let w = member-step-on s m i j q p k a in
     rw (w .2, walked-over s m (i + 1) (j + 1) (q + length-of (entry-at s i)) (p + length-of (entry-at s j)) k (w .3))
 
-after-over : (s : Bytes) (m i j q p r k : ℕ) → r ≤ k → MembersAhead s m i j q p k
-    → object-after s r (walk-over i j q p k) ≡ some (walk-over (i + r) (j + r) (q + lengths s i r) (p + lengths s j r) (k - r))
-unfolding after lengths
-after-over s m i j q p zero k h a = rw (add-zero i, add-zero j, add-zero q, add-zero p, sub-zero k)
-after-over s m i j q p (suc r) zero h a = absurd (not-suc-le-zero h)
-after-over s m i j q p (suc r) (suc k) h a =
-    let w = member-step-on s m i j q p k a in
+members-behind : (s : Bytes) (m i j q p r k : ℕ) → r ≤ k → MembersAhead s m i j q p k
+    → MembersAhead s m (i + r) (j + r) (q + lengths s i r) (p + lengths s j r) (k - r)
+unfolding lengths
+members-behind s m i j q p zero k h a = rw (add-zero i, add-zero j, add-zero q, add-zero p, sub-zero k) a
+members-behind s m i j q p (suc r) zero h a = absurd (not-suc-le-zero h)
+members-behind s m i j q p (suc r) (suc k) h a =
     let l = length-of (entry-at s i) in
     let l′ = length-of (entry-at s j) in
-    let e : i + 1 + r ≡ i + suc r = omega arith in
-    let e′ : j + 1 + r ≡ j + suc r = omega arith in
-    let e₁ : q + l + lengths s (i + 1) r ≡ q + (l + lengths s (i + 1) r) = omega arith in
-    let e₁′ : p + l′ + lengths s (j + 1) r ≡ p + (l′ + lengths s (j + 1) r) = omega arith in
-    let e₂ : k - r ≡ suc k - suc r = omega arith in
-    rw (w .2) (after-over s m (i + 1) (j + 1) (q + l) (p + l′) r k (omega arith) (w .3) ∙ rw (e, e′, e₁, e₁′, e₂))
+    let e : i + suc r ≡ i + 1 + r = omega arith in
+    let e′ : j + suc r ≡ j + 1 + r = omega arith in
+    let e₁ : q + (l + lengths s (i + 1) r) ≡ q + l + lengths s (i + 1) r = omega arith in
+    let e₁′ : p + (l′ + lengths s (j + 1) r) ≡ p + l′ + lengths s (j + 1) r = omega arith in
+    let e₂ : suc k - suc r ≡ k - r = omega arith in
+    rw (e, e′, e₁, e₁′, e₂)
+    (members-behind s m (i + 1) (j + 1) (q + l) (p + l′) r k (omega arith) (member-step-on s m i j q p k a .3))
 
--- The walk before the first member of an object of `n` hands out its `n` names with their values in turn, and then answers the end.
--- Before member `k` it holds the two places that the table gives it.
+-- The walk before the first member of an object of `n` hands out its `n` names with their values in turn, and then answers the end; and
+-- it carries their places.
 abbrev ObjectAhead : Bytes → ℕ → Type 0
 ObjectAhead s n = MembersAhead s n 0 n (4 + 8 * n) (4 + 8 * n + lengths s 0 n) n
 
@@ -299,14 +306,27 @@ pub walked-object : (s : Bytes) (n : ℕ) → ObjectAhead s n
 unfolding object-walk
 walked-object s n a = walked-over s n 0 n (4 + 8 * n) (4 + 8 * n + lengths s 0 n) n a
 
-pub object-carries : (s : Bytes) (n k : ℕ) → k ≤ n → ObjectAhead s n
-    → object-after s k (object-walk s n) ≡ some (object-at s n k)
-unfolding object-walk
-object-carries s n k h a =
+member-carried : (s : Bytes) (n k r : ℕ) → n - k ≡ suc r
+    → MembersAhead s n k (n + k) (table-place s (n + n) k) (table-place s (n + n) (n + k)) (suc r) → MemberCarried s n k
+member-carried s n k r e a =
+    let q : n - (k + 1) ≡ r = omega arith in
+    let x : n + (k + 1) ≡ n + k + 1 = omega arith in
+    let w = member-step-on s n k (n + k) (table-place s (n + n) k) (table-place s (n + n) (n + k)) r a in
+    (w .0, w .1, rw (e, q, x, ← place-behind s (n + n) k, ← place-behind s (n + n) (n + k)) (w .2))
+
+members-at-table : (s : Bytes) (n k : ℕ) → k < n → ObjectAhead s n
+    → MembersAhead s n k (n + k) (table-place s (n + n) k) (table-place s (n + n) (n + k)) (suc (n - (k + 1)))
+members-at-table s n k h a =
     let e : 4 + 8 * n ≡ 4 + 4 * (n + n) = omega arith in
-    let e₁ : 4 + 4 * (n + n) + lengths s 0 n + lengths s n k ≡ table-place s (n + n) (n + k) =
+    let v : 4 + 4 * (n + n) + lengths s 0 n + lengths s n k ≡ table-place s (n + n) (n + k) =
     omega (arith, rw (zero-add n) at (lengths-split s 0 n k)) in
-    after-over s n 0 n (4 + 8 * n) (4 + 8 * n + lengths s 0 n) k n h a ∙ rw (zero-add k, e, e₁)
+    rw (zero-add k, one-less n k h, e, v) at (members-behind s n 0 n (4 + 8 * n) (4 + 8 * n + lengths s 0 n) k n (omega arith) a)
+
+pub object-carries : (s : Bytes) (n : ℕ) → ObjectAhead s n → ObjectCarried s n
+object-carries s n a = (
+  rw (sub-zero n) (sym (object-opens s n (nth-member s n 0) (sym (object-start s n)))),
+  λ k h. member-carried s n k (n - (k + 1)) (one-less n k h) (members-at-table s n k h a),
+)
 
 -- A scalar record holds no container.
 abbrev Flat : Tree → Type 0
@@ -336,7 +356,7 @@ pub record ArrayWalked (s : Bytes) (ts : Items) : Type 0 where
   pub each : List Part
   pub opened : array-open s ≡ Opened (array-walk count)
   pub handed-out : walked s (array-walk count) (suc count) ≡ some each
-  pub carried : (k : ℕ) → k ≤ count → array-after s k (array-walk count) ≡ some (array-at s count k)
+  pub carried : ArrayCarried s count
   pub items : items-in (nested 63) each ≡ gives ts
 
 array-by : (s : Bytes) (ts : Items) (h : Header) → h ≡ header s → read s ≡ gives (array ts)
@@ -365,7 +385,7 @@ array-by s ts (Array n) hh e q =
       each = ps;
       opened = rw (e, ← hh);
       handed-out = rw (l .same) (walked-array s n ahead);
-      carried = λ k h. array-carries s n k h ahead;
+      carried = array-carries s n ahead;
       items = hu ∙ ap gives same;
     }
 
@@ -381,7 +401,7 @@ pub record ObjectWalked (s : Bytes) (ms : Members) : Type 0 where
   pub trees : Items
   pub opened : object-open s ≡ OpenedObject (object-walk s count)
   pub handed-out : object-walked s (object-walk s count) (suc count) ≡ some (paired keys vals)
-  pub carried : (k : ℕ) → k ≤ count → object-after s k (object-walk s count) ≡ some (object-at s count k)
+  pub carried : ObjectCarried s count
   pub all-keys : length keys ≡ count
   pub all-vals : length vals ≡ count
   pub names : names-in keys ≡ gives texts
@@ -429,7 +449,7 @@ object-by s ms (Object n) hh e q =
       trees = us;
       opened = rw (e, ← hh);
       handed-out = rw (keys, vals) (walked-object s n ahead);
-      carried = λ k h. object-carries s n k h ahead;
+      carried = object-carries s n ahead;
       all-keys = rw (keys, length-parts s 0 (4 + 8 * n) n);
       all-vals = rw (vals, length-parts s n (4 + 8 * n + lengths s 0 n) n);
       names = hn;

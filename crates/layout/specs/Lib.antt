@@ -23,12 +23,13 @@ pub mod Pipeline
 pub mod Walk
 -- The code points of a text in the RFC's own words, which no promise cites: a theorem says that they are those of `Text`.
 pub mod CodePoints
--- Document 02 §4: the place that the table gives an item, which theorems say every carried place to be.
-pub mod Table
 -- Forms that follow the code, which the helpers for the crates above promise; theorems of proofs/ tie each to the definitions above.
 pub mod Patch
 pub mod Room
 pub mod Place
+-- Document 02 §4: the place that the table gives an item, by which the forms behind it go; theorems say that every carried place is it.
+pub mod Table
+-- Forms again.
 pub mod Parts
 pub mod EveryAt
 -- Forms that follow the code, inside the crate.

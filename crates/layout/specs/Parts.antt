@@ -107,6 +107,10 @@ members-of s n =
       val = table-place s (n + n) n;
     }
 
+-- The places of `n` names and `n` values, the items of two arrays.
+abbrev pub pairs-of : ℕ → Places
+pairs-of n = record { «key_jentry» = 4; «val_jentry» = 4; key = start-of n; val = start-of n }
+
 -- The places behind a member whose name and value are so long; and behind one that stands in a record.
 abbrev pub past : Places → ℕ → ℕ → Places
 past at k v =

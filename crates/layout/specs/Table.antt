@@ -1,24 +1,23 @@
 -- Document 02 §4: "Carry a running sum along each pass over the items [..] Show that each carried place is the one the table gives."
 -- Here is the place that the table gives, and what a pass meets there, for each item by itself: nothing is carried from one to the
--- next. `Carried` says that a pass has kept to it; the theorems are those of proofs/Carries.antt and of the crates above.
-use Prim.Native.Nat.{ℕ, zero, suc, _+_, _*_, _-_}
+-- next. `Carried` and its neighbours say that a pass has kept to it; the theorems are in proofs/Carries.antt and proofs/Walked.antt, and
+-- in proofs/Carries.antt of the crates above.
+use Prim.Native.Nat.{ℕ, zero, suc, _+_, _*_, _-_, _<_}
 use mathlib.Core.Path.{_≡_}
 use mathlib.Core.List.{List, [], _∷_}
-use mathlib.Core.Option.{Option, none as nothing, some}
-use lib.ListN.{take, drop}
 use Rattle.layout.specs.Bytes.{Bytes}
-use Rattle.layout.specs.Entry.{code-of, length-of, kind-of, entry-at, lengths}
+use Rattle.layout.specs.Entry.{entry-at, lengths}
 use Rattle.layout.specs.Encode.{Part}
-use Rattle.layout.specs.Walk.{array-step, object-step}
+use Rattle.layout.specs.Place.{part-at}
+use Rattle.layout.specs.Walk.{item-of, array-step, object-step, array-walk, object-walk}
+use Rattle.layout.specs.declared.item.Characters.{Characters}
 use Rattle.layout.specs.declared.parts.ItemAt.{ItemAt}
 use Rattle.layout.specs.declared.parts.MemberAt.{MemberAt}
 use Rattle.layout.specs.declared.parts.Places.{Places}
 use Rattle.layout.specs.declared.iterator.ArrayIterator.{ArrayIterator}
-use Rattle.layout.specs.declared.iterator.ArrayStep.{ArrayStep}
-use Rattle.layout.specs.declared.iterator.ArrayStep.the-variants.{Item, End, Refused}
+use Rattle.layout.specs.declared.iterator.ArrayStep.the-variants.{Item}
 use Rattle.layout.specs.declared.iterator.ObjectIterator.{ObjectIterator}
-use Rattle.layout.specs.declared.iterator.ObjectStep.{ObjectStep}
-use Rattle.layout.specs.declared.iterator.ObjectStep.the-variants.{Member, End as NoMember, Refused as RefusedMember}
+use Rattle.layout.specs.declared.iterator.ObjectStep.the-variants.{Member}
 
 -- The place that a table of `n` entries gives item `i`: behind the header, the table, and the payloads before it.
 abbrev pub table-place : Bytes → ℕ → ℕ → ℕ
@@ -26,22 +25,19 @@ table-place s n i = 4 + 4 * n + lengths s 0 i
 
 -- Item `i` of `n`, its kind and its bytes there; and the `k` from the `i`th on.
 abbrev pub table-part : Bytes → ℕ → ℕ → Part
-table-part s n i =
-    record {
-      kind = kind-of (code-of (entry-at s i));
-      bytes = take (length-of (entry-at s i)) (drop (table-place s n i) s);
-    }
+table-part s n i = part-at s i (table-place s n i)
 
 unfoldable pub parts-by-table : Bytes → ℕ → ℕ → ℕ → List Part
 parts-by-table s n i zero = []
 parts-by-table s n i (suc k) = table-part s n i ∷ parts-by-table s n (i + 1) k
 
--- A member, whose name is item `i` of the `a` in `ks` and whose value item `j` of the `b` in `vs`, by its entries and its two places;
--- and the `k` members from there on. In an object of `n` member `i` has the items `i` and `n + i` of `n + n`; an object is built of item
--- `i` of the names and item `i` of the values.
+-- The same item by its entry and its place.
 abbrev pub table-item : Bytes → ℕ → ℕ → ItemAt
 table-item s n i = record { jentry = entry-at s i; place = table-place s n i }
 
+-- A member, whose name is item `i` of the `a` in `ks` and whose value item `j` of the `b` in `vs`; and the `k` members from there on. In
+-- an object of `n` member `i` has the items `i` and `n + i` of `n + n`; an object is built of item `i` of the names and item `i` of the
+-- values.
 abbrev pub table-member : Bytes → ℕ → ℕ → Bytes → ℕ → ℕ → MemberAt
 table-member ks a i vs b j = record { key = table-item ks a i; val = table-item vs b j }
 
@@ -81,28 +77,25 @@ object-at s n i =
       remaining = n - i;
     }
 
--- The walk that a step hands back: none where it is refused, or at the end.
-abbrev pub array-next : ArrayStep → Option ArrayIterator
-array-next (Item i next) = some next
-array-next End = nothing
-array-next (Refused r) = nothing
+-- A step there hands out what stands where the table gives it, with whatever characters it has, and is then before the next one. So a
+-- walk that starts before the first keeps to the table.
+abbrev pub ItemCarried : Bytes → ℕ → ℕ → Type 0
+ItemCarried s n i =
+    (c : Characters) × (array-step s (array-at s n i) ≡ Item (item-of (entry-at s i) (table-place s n i) c) (array-at s n (i + 1)))
 
-abbrev pub object-next : ObjectStep → Option ObjectIterator
-object-next (Member m next) = some next
-object-next NoMember = nothing
-object-next (RefusedMember r) = nothing
+abbrev pub ArrayCarried : Bytes → ℕ → Type 0
+ArrayCarried s n = (array-walk n ≡ array-at s n 0) × ((i : ℕ) → i < n → ItemCarried s n i)
 
--- What there is behind `k` steps, each of which may come to nothing; and the walks over an array and over an object there.
-abbrev pub steps-on : {W : Type 0} → Option W → (W → Option W) → Option W
-steps-on nothing rest = nothing
-steps-on (some w) rest = rest w
+abbrev pub MemberCarried : Bytes → ℕ → ℕ → Type 0
+MemberCarried s n i =
+    (c : Characters) × (d : Characters)
+    × (object-step s (object-at s n i)
+    ≡ Member
+    (record {
+      key = item-of (entry-at s i) (table-place s (n + n) i) c;
+      val = item-of (entry-at s (n + i)) (table-place s (n + n) (n + i)) d;
+    })
+    (object-at s n (i + 1)))
 
-unfoldable pub after : {W : Type 0} → (W → Option W) → ℕ → W → Option W
-after next zero w = some w
-after next (suc k) w = steps-on (next w) (after next k)
-
-abbrev pub array-after : Bytes → ℕ → ArrayIterator → Option ArrayIterator
-array-after s = after (λ (w : ArrayIterator). array-next (array-step s w))
-
-abbrev pub object-after : Bytes → ℕ → ObjectIterator → Option ObjectIterator
-object-after s = after (λ (w : ObjectIterator). object-next (object-step s w))
+abbrev pub ObjectCarried : Bytes → ℕ → Type 0
+ObjectCarried s n = (object-walk s n ≡ object-at s n 0) × ((i : ℕ) → i < n → MemberCarried s n i)
