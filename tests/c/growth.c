@@ -1,7 +1,7 @@
 /*
  * Document 02 §4: the check, and append, on an array of 16,000 nulls take less than eight times as long as on one of 4,000. Measured
  * are the functions themselves, by the processor's time: the least of several runs of many calls each, in which the two lengths take
- * turns. Where each item's place were summed from the table, four times the items would take sixteen times as long.
+ * turns. If each item's place were summed from the table, four times the items would take sixteen times as long.
  */
 #define _XOPEN_SOURCE 700
 
