@@ -29,6 +29,7 @@ pub mod Nestings
 pub mod Orders
 pub mod Asks
 pub mod Sounds
+pub mod Questions
 pub mod Sames
 pub mod InLines
 pub mod Walks

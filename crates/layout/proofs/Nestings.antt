@@ -1,4 +1,4 @@
--- A record inside another: what the check with a level less says of it. And the header of a tree's record.
+-- How deep a record nests: what the check with fewer levels says of it. And the header of a tree's record.
 use Prim.Native.Nat.{ℕ, _≤_, _<_}
 use native.Mathlib.Omega.{arith}
 use mathlib.Core.Path.{_≡_, refl, ap, sym, _∙_}
@@ -11,7 +11,7 @@ use Rattle.layout.specs.Tree.{Tree, null, boolean, number, string, exten
 use Rattle.layout.specs.Encode.{item-parts, member-parts, part, encode}
 use Rattle.layout.specs.Read.{header, nested, read}
 use Rattle.layout.specs.Limits.{Valid, depth}
-use Rattle.layout.specs.Check.{checked, nesting}
+use Rattle.layout.specs.Check.{checked, nesting-to}
 use Rattle.layout.specs.declared.item.Kind.the-variants.{Container}
 use Rattle.layout.specs.declared.refusal.Refusal.{Refusal}
 use Rattle.layout.specs.declared.util.Header.{Header}
@@ -60,8 +60,8 @@ refused-as (gives a) c r e q = let z : Readable ≡ Refused r = sym e ∙ q in c
 refused-as (refused x) c r e q = cc
 
 -- A record that the check refuses is refused with the same number.
-pub nesting-refused : (m : Answer Tree) (c : Check) (r : Refusal) → c ≡ checked m → c ≡ Refused r → NotNested r ≡ nesting m
-nesting-refused m c r e q = rw (refused-as m c r e q)
+pub nesting-refused : (levels : ℕ) (m : Answer Tree) (c : Check) (r : Refusal) → c ≡ checked m → c ≡ Refused r → NotNested r ≡ nesting-to levels m
+nesting-refused levels m c r e q = rw (refused-as m c r e q)
 
 container-part : (t : Tree) → ((n : ℕ) → head-of t ≡ Scalar n → ⊥) → part t ≡ record { kind = Container; bytes = encode t }
 container-part null h = absurd (h 0 refl)
@@ -81,36 +81,37 @@ scalar-depth (extension b) n h = refl
 scalar-depth (array ts) n h = cc
 scalar-depth (object ms) n h = cc
 
-module _ (s : Bytes) (o : Octets s) (l : length s ≤ 65536) (c : Check) (hc : c ≡ checked (nested 63 s)) where
-  -- A container with a level to spare.
-  pub nesting-fits : c ≡ Readable → Fits ≡ nesting (read s)
+module _ (levels : ℕ) (few : levels ≤ 64) (s : Bytes) (o : Octets s) (l : length s ≤ 65536) (c : Check)
+    (hc : c ≡ checked (nested levels s)) where
+  -- A container that reads with these levels.
+  pub nesting-fits : c ≡ Readable → Fits ≡ nesting-to levels (read s)
   nesting-fits q =
-      let w = readable-gives (nested 63 s) c hc q in
+      let w = readable-gives (nested levels s) c hc q in
       let t = w .0 in
-      let h = nested-reads 63 s t o l .0 (w .1) in
+      let h = nested-reads levels s t o l .0 (w .1) in
       let b : encode t ≡ s = container-encode t s (h .0) in
       let e : read s ≡ gives t = reads s t o .1 (b, (h .1, omega (arith, h .2), omega (arith, length-encode t, ap length b))) in
-      rw (e, le-leb (depth t) 63 (h .2))
+      rw (e, le-leb (depth t) levels (h .2))
 
   module _ (c₂ : Check) (h : Header) (r : Refusal) (bad : c ≡ Refused r) (hc₂ : c₂ ≡ checked (read s)) (good : c₂ ≡ Readable) (hh : h ≡ header s) where
-    pub nesting-scalar : (n : ℕ) → h ≡ Scalar n → Fits ≡ nesting (read s)
+    pub nesting-scalar : (n : ℕ) → h ≡ Scalar n → Fits ≡ nesting-to levels (read s)
     nesting-scalar n q =
         let w = readable-gives (read s) c₂ hc₂ good in
         let t = w .0 in
         let d : depth t ≡ 0 = scalar-depth t n (sym (header-read s t o (w .1)) ∙ sym hh ∙ q) in
-        rw (w .1, le-leb (depth t) 63 (omega arith))
+        rw (w .1, le-leb (depth t) levels (omega arith))
 
-    -- A container that reads only with all levels has them all.
-    pub nesting-deep : ((n : ℕ) → h ≡ Scalar n → ⊥) → Deep ≡ nesting (read s)
+    -- A container that reads only with all levels has more than these.
+    pub nesting-deep : ((n : ℕ) → h ≡ Scalar n → ⊥) → Deep ≡ nesting-to levels (read s)
     nesting-deep q =
         let w = readable-gives (read s) c₂ hc₂ good in
         let t = w .0 in
         let b = reads s t o .0 (w .1) in
         let p : part t ≡ record { kind = Container; bytes = encode t } = container-part t (λ n k. q n (hh ∙ header-read s t o (w .1) ∙ k)) in
         let p′ : part t ≡ record { kind = Container; bytes = s } = p ∙ ap (λ x. record { kind = Container; bytes = x }) (b .0) in
-        let deep : 63 < depth t = by-depth t (b .1 .0) p′ (decLe (depth t) 63) in
-        rw (w .1, lt-leb (depth t) 63 deep)
+        let deep : levels < depth t = by-depth t (b .1 .0) p′ (decLe (depth t) levels) in
+        rw (w .1, lt-leb (depth t) levels deep)
       where
-        by-depth : (t : Tree) → Valid t → part t ≡ record { kind = Container; bytes = s } → Dec (depth t ≤ 63) → 63 < depth t
-        by-depth t v p (yes k) = refused-gives (sym (refused-as (nested 63 s) c r hc bad) ∙ nested-reads 63 s t o l .1 (p, v, k))
+        by-depth : (t : Tree) → Valid t → part t ≡ record { kind = Container; bytes = s } → Dec (depth t ≤ levels) → levels < depth t
+        by-depth t v p (yes k) = refused-gives (sym (refused-as (nested levels s) c r hc bad) ∙ nested-reads levels s t o l .1 (p, v, k))
         by-depth t v p (no k) = omega arith

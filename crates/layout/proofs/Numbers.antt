@@ -18,7 +18,7 @@ use mir.Val.{SFits, toZ, ofZ}
 use Rattle.layout.specs.Bytes.{Bytes, be-bytes, be-value}
 use Rattle.layout.specs.Patch.{patch}
 use Rattle.layout.specs.Ended.{Ended, into}
-use Rattle.layout.specs.Number.{is-width, listed, signed, pattern, decimal-of, number-of, decoded, uint-width, int-width, uint-payload, int-payload, float-payload, decimal-payload}
+use Rattle.layout.specs.Number.{is-integer, is-width, listed, signed, pattern, decimal-of, number-of, decoded, uint-width, int-width, uint-payload, int-payload, float-payload, decimal-payload}
 use Rattle.layout.specs.declared.ending.Ending.the-variants.{Done, Refused as RefusedEnding}
 use Rattle.layout.specs.declared.number.Number.{Number}
 use Rattle.layout.specs.declared.number.Number.the-variants.{Nan, Infinity, NegInfinity, Int64, UInt64, Float64, Decimal64, WideDecimal, Refused}
@@ -46,6 +46,17 @@ listed-is [] h = absurd (h refl)
 listed-is (x ∷ b) h =
     let n : suc (length b) - 1 ≡ length b = omega arith in
     simp (or-false) (rw n)
+
+pub integer-none : (b : Bytes) → length b ≡ 0 → false ≡ is-integer b
+unfolding is-integer
+integer-none [] h = refl
+integer-none (x ∷ b) h = let z : ⊥ = omega arith in absurd z
+
+pub integer-is : (b : Bytes) → (length b ≡ 0 → ⊥) →
+    is-integer b ≡ (eqb (getD b 0 0) 0x00 || (eqb (getD b 0 0) 0x40 || eqb (getD b 0 0) 0x50))
+unfolding is-integer
+integer-is [] h = absurd (h refl)
+integer-is (x ∷ b) h = simp (or-false)
 
 -- ---- reading
 

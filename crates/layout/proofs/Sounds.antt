@@ -9,28 +9,24 @@ use lib.Dec.{T}
 use lib.ListN.{take, drop}
 use Rattle.layout.specs.Bytes.{Bytes, Octets}
 use Rattle.layout.specs.Answer.{Answer, gives, refused}
-use Rattle.layout.specs.Entry.{length-of, entry-at, kind-of}
+use Rattle.layout.specs.Entry.{length-of, entry-at}
 use Rattle.layout.specs.Tree.{Tree, null, boolean, number, string, extension, array, object, Items, none, item, Members, empty, member, names}
 use Rattle.layout.specs.Encode.{Part, name-parts}
-use Rattle.layout.specs.Read.{header, read}
+use Rattle.layout.specs.Read.{read}
 use Rattle.layout.specs.Order.{before, rising}
 use Rattle.layout.specs.Sound.{Rising, Sound, SoundItems, SoundMembers}
 use Rattle.layout.specs.Place.{parts-at, rising-from, rising-parts}
-use Rattle.layout.specs.Parts.{start-of, texts, rises}
+use Rattle.layout.specs.Parts.{texts}
 use Rattle.layout.specs.Every.{every-items, every-members, sound-ask, is-sound}
-use Rattle.layout.specs.EveryAt.{every-part, every-parts, every-at, sound-at}
+use Rattle.layout.specs.EveryAt.{sound-at}
 use Rattle.layout.specs.Check.{checked, soundness}
 use Rattle.layout.specs.declared.refusal.Refusal.{Refusal}
-use Rattle.layout.specs.declared.item.Kind.{Kind}
-use Rattle.layout.specs.declared.item.Kind.the-variants.{Null, String, Number, False, True, Container, Extension}
-use Rattle.layout.specs.declared.util.Header.{Header}
-use Rattle.layout.specs.declared.util.Header.the-variants.{Object, Scalar}
 use Rattle.layout.specs.declared.check.Check.{Check}
 use Rattle.layout.specs.declared.check.Check.the-variants.{Readable, Refused as NotReadable}
 use Rattle.layout.specs.declared.sound.Soundness.the-variants.{Sound as IsSound, Unsound, Refused as NoRecord}
 use Rattle.layout.proofs.Orders.{before-is}
 use Rattle.layout.proofs.Checks.{parts-step}
-use Rattle.layout.proofs.Asks.{texts-names, every-read, every-other, every-scalar, every-object, every-misnamed}
+use Rattle.layout.proofs.Asks.{texts-names, every-read}
 
 -- The test and what it says.
 
@@ -116,36 +112,6 @@ pub rising-end : (s : Bytes) (start i p n : ℕ) (name : Bytes) → n ≤ i → 
     true ≡ rising-parts (parts-at s 0 start n)
 unfolding rising-from parts-at
 rising-end s start i p n name le inv = let z : n - i ≡ 0 = omega arith in rw (inv, z)
-
--- One item. Numbers and extensions are free.
-pub sound-other : (f : Bytes → Bool) (c : ℕ) (b : Bytes) → (c ≡ 5 → ⊥) → true ≡ every-part sound-ask f (kind-of c) b
-sound-other f c b h = every-other sound-ask f c b h (λ q. refl) (λ q. refl)
-
--- A record. Nothing in a scalar one is asked.
-alone-sound : (k : Kind) (b : Bytes) → true ≡ every-part sound-ask (sound-at 0) k b
-unfolding every-part every-at
-alone-sound Null b = refl
-alone-sound String b = refl
-alone-sound Number b = refl
-alone-sound False b = refl
-alone-sound True b = refl
-alone-sound Container b = refl
-alone-sound Extension b = refl
-
-module _ (k : ℕ) (s : Bytes) (h : Header) (z : k ≡ 0 → ⊥) (hh : h ≡ header s) (n : ℕ) where
-  pub sound-scalar : h ≡ Scalar n → true ≡ sound-at k s
-  sound-scalar q = every-scalar sound-ask k s h z hh n _ _ _ _ true q refl refl refl refl (alone-sound _ _)
-
-  module _ (r : Bool) (q : h ≡ Object n) (hr : r ≡ rises s n) where
-    named : r ≡ rising (texts (parts-at s 0 (start-of (n + n)) n))
-    named = hr ∙ texts-rise (parts-at s 0 (start-of (n + n)) n)
-
-    pub sound-object : (g : Bool) → r ≡ true → g ≡ every-parts sound-ask (sound-at (k - 1)) (parts-at s 0 (start-of (n + n)) (n + n)) →
-        g ≡ sound-at k s
-    sound-object g t hg = every-object sound-ask k s h z hh n r q named g t hg
-
-    pub sound-misnamed : r ≡ false → false ≡ sound-at k s
-    sound-misnamed t = every-misnamed sound-ask k s h z hh n r q named t
 
 -- The answer.
 pub answer-refused : (m : Answer Tree) (c : Check) (r : Refusal) → c ≡ checked m → c ≡ NotReadable r → NoRecord r ≡ soundness m

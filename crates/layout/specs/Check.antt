@@ -1,5 +1,5 @@
--- The answers of the check: readable, or the refusal by the first fault of document 01's rules; sound or not; and whether a record
--- can stand inside another. The answers of the text check.
+-- The answers of the check: readable, or the refusal by the first fault of document 01's rules; sound or not; and how deep a
+-- record nests. The answers of the text check.
 use Prim.Native.Nat.{ℕ}
 use mathlib.Core.Bool.{cond}
 use mathlib.Core.Option.{Option, none as nothing, some}
@@ -27,11 +27,15 @@ abbrev pub soundness : Answer Tree → Soundness
 soundness (gives t) = cond (is-sound t) Sound Unsound
 soundness (refused r) = NotReadable r
 
+-- Whether it nests at most so many levels deep.
+abbrev pub nesting-to : ℕ → Answer Tree → Nesting
+nesting-to levels (gives t) = cond (leb (depth t) levels) Fits Deep
+nesting-to levels (refused r) = NotNested r
+
 -- As an item of another record it is one level deeper, and the edit that puts it there meets "9 result over 65,536 bytes or deeper
 -- than 64".
 abbrev pub nesting : Answer Tree → Nesting
-nesting (gives t) = cond (leb (depth t) 63) Fits Deep
-nesting (refused r) = NotNested r
+nesting m = nesting-to 63 m
 
 -- Document 02 §2: "Let the text check, where it passes, also answer the number of code points"; rule 6: "text that is not UTF-8 by RFC
 -- 3629: 3".

@@ -6,10 +6,12 @@ use mathlib.Core.List.{List, [], _∷_}
 use Rattle.layout.specs.Bytes.{Bytes}
 use Rattle.layout.specs.Encode.{Part}
 use Rattle.layout.specs.Read.{header}
-use Rattle.layout.specs.Every.{Ask, sound-ask}
+use Rattle.layout.specs.Every.{Ask, sound-ask, kinds-ask, names-ask}
 use Rattle.layout.specs.Parts.{parts-of, names-of}
 use Rattle.layout.specs.declared.item.Kind.{Kind}
 use Rattle.layout.specs.declared.item.Kind.the-variants.{Null, String, Number, False, True, Container, Extension}
+use Rattle.layout.specs.declared.every.Question.{Question}
+use Rattle.layout.specs.declared.every.Question.the-variants.{Sound, Profile}
 use Rattle.layout.specs.declared.util.Header.{Header}
 use Rattle.layout.specs.declared.util.Header.the-variants.{Array, Object, Scalar, Refused}
 
@@ -38,6 +40,20 @@ every-by a f (Object n) s = a .names (names-of s n) && every-parts a f (parts-of
 unfoldable pub every-at : Ask → ℕ → Bytes → Bool
 every-at a zero s = true
 every-at a (suc k) s = every-by a (every-at a k) (header s) s
+
+-- Two questions at once: that both have the answer yes is `every-both` of proofs/Asks.antt.
+abbrev pub both-ask : Ask → Ask → Ask
+both-ask a b =
+    record {
+      number = λ p. a .number p && b .number p;
+      extension = λ p. a .extension p && b .extension p;
+      names = λ ns. a .names ns && b .names ns;
+    }
+
+-- What the code asks.
+abbrev pub ask-of : Question → Ask
+ask-of Sound = sound-ask
+ask-of (Profile longest) = both-ask sound-ask (both-ask (names-ask 1 longest) kinds-ask)
 
 -- Soundness, down to `k` levels.
 abbrev pub sound-at : ℕ → Bytes → Bool

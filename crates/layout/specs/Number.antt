@@ -27,6 +27,11 @@ listed (x ∷ b) =
     || ((eqb x 0x60 && eqb (length b) 8)
     || (eqb x 0x70 && one-of (9 ∷ 17 ∷ 33 ∷ []) (length b))))
 
+-- Whether a listed payload is an integer: 00, 40 or 50, and no float, decimal, NaN or infinity.
+unfoldable pub is-integer : Bytes → Bool
+is-integer [] = false
+is-integer (x ∷ b) = one-of (0x00 ∷ 0x40 ∷ 0x50 ∷ []) x
+
 -- The widths of an integer.
 abbrev pub is-width : ℕ → Bool
 is-width n = one-of (1 ∷ 2 ∷ 4 ∷ 8 ∷ []) n

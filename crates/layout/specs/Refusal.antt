@@ -1,10 +1,10 @@
--- The numbers: the ten of document 01, "Who can cause each number", and those that document 02 adds: §1 the eleventh.
+-- The numbers: the ten of document 01, "Who can cause each number", and those that document 02 adds: §1 the eleventh, §5 the twelfth.
 use Prim.Native.Nat.{ℕ}
 use mathlib.Core.Bool.{Bool, false, _||_}
 use mathlib.Core.List.{List, [], _∷_}
 use lib.Dec.{eqb}
 use Rattle.layout.specs.declared.refusal.Refusal.{Refusal}
-use Rattle.layout.specs.declared.refusal.Refusal.the-variants.{Short, Layout, Text, Number, Limit, Path, Kind, Repeated, Result, Buffer, Pointer}
+use Rattle.layout.specs.declared.refusal.Refusal.the-variants.{Short, Layout, Text, Number, Limit, Path, Kind, Repeated, Result, Buffer, Pointer, Profile}
 
 abbrev pub number : Refusal → ℕ
 number Short = 1
@@ -18,6 +18,7 @@ number Repeated = 8
 number Result = 9
 number Buffer = 10
 number Pointer = 11
+number Profile = 12
 
 -- Whether a refusal is by one of these numbers.
 abbrev pub is-one-of : List ℕ → Refusal → Bool

@@ -30,7 +30,7 @@ ghost use lib.ListN.{length, drop};
 ghost use Rattle.layout.specs.Read.{read, nested, «scalar-in» as scalarIn};
 ghost use Rattle.layout.specs.Entry.{lengths};
 ghost use Rattle.layout.specs.Place.{body, «table-ok» as tableOk};
-ghost use Rattle.layout.specs.Check.{checked, nesting};
+ghost use Rattle.layout.specs.Check.{checked, nesting, «nesting-to» as nestingTo};
 ghost use Rattle.layout.specs.Pass.{«item-checked» as itemChecked, «items-checked» as itemsChecked};
 ghost use Rattle.layout.specs.Pass.{«names-end» as namesEnd, «payload-refusal» as payloadRefusal};
 ghost use Rattle.layout.specs.declared.check.Check.the-variants.{Refused};
@@ -47,7 +47,7 @@ pub enum NamesEnd {
     Bad,
 }
 
-// Whether a record can stand inside another. A container of 64 levels is readable, but too deep for that.
+// Whether a record nests no deeper than it may, as one that is to stand inside another, or one for the board's loader.
 pub enum Nesting {
     Fits,
     Deep,
@@ -256,15 +256,16 @@ pub fn check_record(s: &[u8]) -> Check
     check_nested(s, DEPTH_LIMIT)
 }
 
-// Whether a record is readable, and whether it still is one level inside another. The check starts with a level less, so that a
-// usual container is gone through once; one that this refuses is checked again by itself.
-pub fn check_nesting(s: &[u8]) -> Nesting
-    ensures { λ r. ⌜ r ≡ nesting (read (now (s .entry))) ⌝ }
+// Whether a record is readable, and whether it nests at most so many levels deep. The check starts with these, so that a usual
+// container is gone through once; one that this refuses is checked again by itself.
+pub fn check_levels(s: &[u8], levels: u32) -> Nesting
+    requires { ⌜ levels ≤ 64 ⌝ }
+    ensures { λ r. ⌜ r ≡ nestingTo levels (read (now (s .entry))) ⌝ }
 {
     if RECORD_LIMIT < s.len() {
         return Nesting::Refused(Refusal::Limit);
     }
-    if let Check::Readable = check_nested(s, DEPTH_LIMIT - 1) {
+    if let Check::Readable = check_nested(s, levels) {
         return Nesting::Fits;
     }
     if let Check::Refused(refusal) = check_record(s) {
@@ -274,4 +275,11 @@ pub fn check_nesting(s: &[u8]) -> Nesting
         return Nesting::Fits;
     }
     Nesting::Deep
+}
+
+// Whether a record is readable, and whether it still is one level inside another: a container of 64 levels is too deep for that.
+pub fn check_nesting(s: &[u8]) -> Nesting
+    ensures { λ r. ⌜ r ≡ nesting (read (now (s .entry))) ⌝ }
+{
+    check_levels(s, DEPTH_LIMIT - 1)
 }

@@ -3,6 +3,7 @@ pub mod check;
 pub mod constants;
 pub mod decimal;
 pub mod ending;
+pub mod every;
 pub mod item;
 pub mod iterator;
 pub mod jentry;

@@ -19,7 +19,7 @@ ghost use lib.Dec.{T};
 ghost use lib.ListN.{length};
 ghost use Rattle.layout.specs.Ended.{Ended, into};
 ghost use Rattle.layout.specs.Bytes.{«be-value» as beValue, «be-bytes» as beBytes};
-ghost use Rattle.layout.specs.Number.{listed, signed, pattern, decoded};
+ghost use Rattle.layout.specs.Number.{listed, «is-integer» as isInteger, signed, pattern, decoded};
 ghost use Rattle.layout.specs.Number.{«is-width» as isWidth, «decimal-of» as decimalOf, «number-of» as numberOf};
 ghost use Rattle.layout.specs.Number.{«uint-width» as uintWidth, «int-width» as intWidth, «uint-payload» as uintPayload};
 ghost use Rattle.layout.specs.Number.{«int-payload» as intPayload, «float-payload» as floatPayload};
@@ -74,6 +74,17 @@ pub fn is_number(payload: &[u8]) -> bool
         | ((integer & ((n == 1) | ((n == 2) | ((n == 4) | (n == 8)))))
             | (((ty == NUMBER_FLOAT) & (n == 8))
                 | ((ty == NUMBER_DECIMAL) & ((n == 9) | ((n == 17) | (n == 33))))))
+}
+
+// Whether a listed payload is an integer: by its first byte.
+pub fn is_integer(payload: &[u8]) -> bool
+    ensures { λ r. ⌜ r ≡ isInteger (now (payload .entry)) ⌝ }
+{
+    if payload.len() == 0 {
+        return false;
+    }
+    let ty = byte(payload, 0);
+    (ty == NUMBER_ZERO) | ((ty == NUMBER_INT) | (ty == NUMBER_UINT))
 }
 
 // The number that up to eight bytes write, the high byte first.

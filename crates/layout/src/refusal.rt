@@ -20,6 +20,8 @@ pub enum Refusal {
     Buffer,
     // The writer of a pointer.
     Pointer,
+    // The sender of a record to the board's loader, and the author of an edit aboard.
+    Profile,
 }
 
 impl Refusal {
@@ -39,6 +41,7 @@ impl Refusal {
             Refusal::Result => 9,
             Refusal::Buffer => 10,
             Refusal::Pointer => 11,
+            Refusal::Profile => 12,
         }
     }
 }
