@@ -10,16 +10,18 @@ use lib.Dec.{T}
 use lib.ListN.{length, length-append}
 use Rattle.layout.specs.Bytes.{Bytes}
 use Rattle.layout.specs.Text.{utf8}
-use Rattle.layout.specs.Tree.{Tree, Members, empty, member, names}
+use Rattle.layout.specs.Tree.{Tree, object, Members, empty, member, names}
 use Rattle.layout.specs.Encode.{payloads, name-parts, member-parts}
 use Rattle.layout.specs.Limits.{Valid, ValidMembers, depth, depth-members, size, size-members}
 use Rattle.layout.specs.Order.{order, same-bytes}
 use Rattle.layout.specs.Sound.{_≺_, Rising, Sound, SoundMembers}
+use Rattle.layout.specs.Every.{Ask, every}
 use Rattle.layout.specs.Value.{Taken, SameMembers}
 use Rattle.layout.specs.declared.order.Ordering.{Ordering}
 use Rattle.layout.specs.declared.order.Ordering.the-variants.{Less, Equal, Greater}
 use Rattle.layout.proofs.Values.{≺-irrefl, ≺-trans, In, rising-tail, rising-all, same-refl}
 use Rattle.layout.proofs.Orders.{unlike-bytes, alike-bytes}
+use Rattle.layout.proofs.Questions.{Apiece, no-member, member-apart, member-joined}
 use Rattle.builders.specs.Order.{by, insert, insert-all, in-order, find, has, distinct, follow}
 use Rattle.builders.proofs.Orderings.{order-cases, by-order, order-less, order-greater, order-refl}
 
@@ -235,6 +237,27 @@ all-sound (member n t ms) done s w = all-sound ms (insert n t done) (s .1) (inse
 
 pub in-order-sound : (ms : Members) → SoundMembers ms → SoundMembers (in-order ms)
 in-order-sound ms s = all-sound ms empty s tt
+
+-- What is asked of each name and each value by itself.
+module _ (a : Ask) (p : Apiece a) where
+  insert-asked : (n : Bytes) (t : Tree) (ms : Members) → T (p .name n) → T (every a t) → T (every a (object ms))
+      → T (every a (object (insert n t ms)))
+  insert-asked n t empty x v h = member-joined a p n t empty x v h
+  insert-asked n t (member m u ms) x v h =
+      let rest = member-apart a p m u ms h in
+      by-order n m (λ (q : Members). T (every a (object q))) _ _ _
+      (λ _. member-joined a p n t (member m u ms) x v h)
+      (λ _. h)
+      (λ _. member-joined a p m u (insert n t ms) (rest .0) (rest .1) (insert-asked n t ms x v (rest .2)))
+
+  all-asked : (ms done : Members) → T (every a (object ms)) → T (every a (object done)) → T (every a (object (insert-all ms done)))
+  all-asked empty done h k = k
+  all-asked (member n t ms) done h k =
+      let rest = member-apart a p n t ms h in
+      all-asked ms (insert n t done) (rest .2) (insert-asked n t done (rest .0) (rest .1) k)
+
+  pub in-order-asked : (ms : Members) → T (every a (object ms)) → T (every a (object (in-order ms)))
+  in-order-asked ms h = all-asked ms empty h (no-member a p)
 
 insert-depth : (n : Bytes) (t : Tree) (ms : Members) → depth-members (insert n t ms) ≤ max (depth t) (depth-members ms)
 insert-depth n t empty = omega arith

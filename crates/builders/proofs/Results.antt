@@ -23,6 +23,7 @@ use Rattle.layout.proofs.Answers.{from-bind, from-require, gives-inj, refused-g
 use Rattle.layout.proofs.Decoding.{read-sound, names-pair}
 use Rattle.layout.proofs.Encoding.{read-encode}
 use Rattle.layout.proofs.Readables.{length-encode}
+use Rattle.layout.proofs.Questions.{and-apart}
 use Rattle.builders.specs.Order.{in-order, distinct}
 use Rattle.layout.specs.Pipeline.{within, written, found, on-record}
 use Rattle.layout.proofs.Pipelines.{written-result, found-written}
@@ -66,10 +67,6 @@ pub within-is : (v : Tree) → within v ≡ (require (leb (record-length v) 6553
 unfolding within
 within-is v = refl
 
-both-true : (a b : Bool) → T (a && b) → T a × T b
-both-true true b h = (tt, h)
-both-true false b h = absurd h
-
 pub is-true : (b : Bool) → T b → b ≡ true
 is-true true h = refl
 is-true false h = absurd h
@@ -81,7 +78,7 @@ result-made edit keeps l r b room ol or e =
     from-bind (w .1) λ t ht e₁. from-bind e₁ λ u hu e₂. from-bind e₂ λ v hv e₃.
     from-require _ _ _ (sym (within-is v) ∙ e₃) λ test e₄.
     let same : v ≡ w .0 = gives-inj e₄ in
-    let limits = both-true (leb (record-length v) 65536) (leb (depth v) 64) test in
+    let limits = and-apart (leb (record-length v) 65536) (leb (depth v) 64) test in
     let valid : Valid v = keeps t u v (read-sound l t ol ht .0 .valid) (read-sound r u or hu .0 .valid) hv in
     let size : length (encode v) ≤ 65536 = omega (arith, length-encode v, leb→le (record-length v) 65536 (limits .0)) in
     let b-is : b ≡ encode v = w .2 ∙ ap encode (sym same) in

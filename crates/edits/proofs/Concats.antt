@@ -6,19 +6,22 @@ use mathlib.Core.Path.{_≡_, refl, ap, sym, _∙_}
 use mathlib.Core.Logic.{_⊎_, inl, inr, ⊎-elim}
 use mathlib.Core.Bool.{true, false}
 use mathlib.Core.Option.{Option, none as nothing, some}
+use lib.Dec.{T}
 use Rattle.layout.specs.Bytes.{Bytes}
 use Rattle.layout.specs.Answer.{gives, refused, _>>=_, require}
 use Rattle.layout.specs.Order.{order}
 use Rattle.layout.specs.Tree.{Tree, null, boolean, number, string, extension, array, object, Items, none, item, Members, empty, member, names}
 use Rattle.layout.specs.Limits.{Valid, ValidItems, ValidMembers, depth, depth-members, size-members}
 use Rattle.layout.specs.Sound.{Rising, Sound, SoundItems, SoundMembers}
+use Rattle.layout.specs.Every.{Ask, every, every-items}
 use Rattle.layout.specs.declared.order.Ordering.{Ordering}
 use Rattle.layout.specs.declared.order.Ordering.the-variants.{Less, Equal, Greater}
 use Rattle.layout.specs.declared.refusal.Refusal.the-variants.{Repeated}
 use Rattle.layout.proofs.Answers.{from-require, to-require, gives-inj}
+use Rattle.layout.proofs.Questions.{Apiece, and-apart, and-joined, member-apart, member-joined}
 use Rattle.builders.specs.Order.{by, in-order, find, follow, distinct}
 use Rattle.builders.specs.Build.{count, join}
-use Rattle.builders.proofs.InOrders.{rising-distinct, in-order-rising, or-else, find-in-order, in-order-valid, in-order-sound, in-order-depth}
+use Rattle.builders.proofs.InOrders.{rising-distinct, in-order-rising, or-else, find-in-order, in-order-valid, in-order-sound, in-order-asked, in-order-depth}
 use Rattle.builders.proofs.Results.{is-true, Keeps, join-valid, join-sound}
 use Rattle.edits.specs.Find.{item-at}
 use Rattle.edits.specs.Concat.{as-items, members-in, overlay, overlay-or, concat}
@@ -182,6 +185,43 @@ concat-sound t u v st su e =
     rw (gives-inj (sym e ∙ concat-items t u h))
     (join-sound (as-items t) (as-items u) (items-sound t st) (items-sound u su)))
     (objects-or t u)
+
+-- What is asked of each number, extension and name.
+module _ (a : Ask) (p : Apiece a) where
+  items-asked : (t : Tree) → T (every a t) → T (every-items a (as-items t))
+  items-asked null h = h
+  items-asked (boolean x) h = h
+  items-asked (number b) h = and-joined (every a (number b)) true h tt
+  items-asked (string b) h = h
+  items-asked (extension b) h = and-joined (every a (extension b)) true h tt
+  items-asked (array ts) h = h
+  items-asked (object ms) h = and-joined (every a (object ms)) true h tt
+
+  join-asked : (ts us : Items) → T (every-items a ts) → T (every-items a us) → T (every-items a (join ts us))
+  join-asked none us h k = k
+  join-asked (item t ts) us h k =
+      let rest = and-apart (every a t) (every-items a ts) h in
+      and-joined (every a t) (every-items a (join ts us)) (rest .0) (join-asked ts us (rest .1) k)
+
+  follow-asked : (rs ls : Members) → T (every a (object rs)) → T (every a (object ls)) → T (every a (object (follow rs ls)))
+  follow-asked empty ls h k = k
+  follow-asked (member n t rs) ls h k =
+      let rest = member-apart a p n t rs h in
+      member-joined a p n t (follow rs ls) (rest .0) (rest .1) (follow-asked rs ls (rest .2) k)
+
+  pub concat-asked : (t u v : Tree) → T (every a t) → T (every a u) → concat t u ≡ gives v → T (every a v)
+  concat-asked t u v ht hu e =
+      ⊎-elim
+      (λ o.
+      let ms = follow (o .right) (o .left) in
+      let hl : T (every a (object (o .left))) = rw (o .left-is) at ht in
+      let hr : T (every a (object (o .right))) = rw (o .right-is) at hu in
+      rw (concat-gives (o .left) (o .right) v (rw (o .left-is, o .right-is) at e) .1)
+      (in-order-asked a p ms (follow-asked (o .right) (o .left) hr hl)))
+      (λ h.
+      rw (gives-inj (sym e ∙ concat-items t u h))
+      (join-asked (as-items t) (as-items u) (items-asked t ht) (items-asked u hu)))
+      (objects-or t u)
 
 -- Concat refuses nothing where the right record is sound.
 pub concat-some : (t u : Tree) → Sound u → (v : Tree) × (concat t u ≡ gives v)

@@ -1,18 +1,21 @@
--- Look-up and delete keep a record what it is: what they give is valid, sound and readable where the record was, and is no deeper
--- and no longer.
+-- Look-up and delete keep a record what it is: what they give is valid, sound and readable where the record was, is no deeper and no
+-- longer, and passes what is asked of each number, extension and name.
 use Prim.Native.Nat.{ℕ, zero, suc, _+_, _≤_}
 use native.Mathlib.Omega.{arith}
 use mathlib.Core.Path.{_≡_, refl}
 use mathlib.Core.List.{List, [], _∷_}
 use mathlib.Core.Option.{Option, none as nothing, some}
+use lib.Dec.{T}
 use Rattle.layout.specs.Bytes.{Bytes}
 use Rattle.layout.specs.Tree.{Tree, null, boolean, number, string, extension, array, object, Items, none, item, Members, empty, member}
 use Rattle.layout.specs.Limits.{Valid, ValidItems, ValidMembers, depth, depth-items, depth-members, size, size-items, size-members, record-length, Readable}
 use Rattle.layout.specs.Sound.{Sound, SoundItems, SoundMembers}
+use Rattle.layout.specs.Every.{Ask, every, every-items}
+use Rattle.layout.proofs.Questions.{Apiece, and-apart, and-joined, member-apart, member-joined}
 use Rattle.builders.specs.Order.{by, insert, insert-all, in-order, find}
 use Rattle.builders.specs.Build.{count}
 use Rattle.builders.proofs.Orderings.{order-cases, by-order}
-use Rattle.builders.proofs.InOrders.{in-order-rising, in-order-valid, in-order-sound, in-order-depth}
+use Rattle.builders.proofs.InOrders.{in-order-rising, in-order-valid, in-order-sound, in-order-asked, in-order-depth}
 use Rattle.edits.specs.Keypath.{Step}
 use Rattle.edits.specs.Find.{_then_, step-place, step-name, item-at, step-into, look-up}
 use Rattle.edits.specs.Delete.{kept-member, change-item, change-member, anew, remains, or-same, delete}
@@ -25,24 +28,28 @@ pub record NoMore (u t : Tree) : Type 0 where
   pub deep : depth u ≤ depth t
   pub payload : size u ≤ size t
   pub long : record-length u ≤ record-length t
+  pub asked : (a : Ask) → Apiece a → T (every a t) → T (every a u)
 
 pub record NoMoreItems (us ts : Items) : Type 0 where
   pub valid : ValidItems ts → ValidItems us
   pub sound : SoundItems ts → SoundItems us
   pub deep : depth-items us ≤ depth-items ts
   pub payload : size-items us ≤ size-items ts
+  pub asked : (a : Ask) → Apiece a → T (every a (array ts)) → T (every a (array us))
 
 pub record NoMoreMembers (ns ms : Members) : Type 0 where
   pub valid : ValidMembers ms → ValidMembers ns
   pub sound : SoundMembers ms → SoundMembers ns
   pub deep : depth-members ns ≤ depth-members ms
   pub payload : size-members ns ≤ size-members ms
+  pub asked : (a : Ask) → Apiece a → T (every a (object ms)) → T (every a (object ns))
 
 pub no-more-readable : (u t : Tree) → NoMore u t → Readable t → Readable u
 no-more-readable u t k r = (k .valid (r .0), omega (arith, r .1), omega (arith, r .2))
 
 pub no-more-same : (t : Tree) → NoMore t t
-no-more-same t = record { valid = λ v. v; sound = λ s. s; deep = omega arith; payload = omega arith; long = omega arith }
+no-more-same t =
+    record { valid = λ v. v; sound = λ s. s; deep = omega arith; payload = omega arith; long = omega arith; asked = λ a p h. h }
 
 -- ---- look-up
 
@@ -52,26 +59,42 @@ pub record Inside (c t : Tree) : Type 0 where
   pub sound : Sound t → Sound c
   pub deep : suc (depth c) ≤ depth t
   pub payload : 8 + size c ≤ size t
+  pub asked : (a : Ask) → Apiece a → T (every a t) → T (every a c)
 
 record InsideItems (c : Tree) (ts : Items) : Type 0 where
   valid : ValidItems ts → Valid c
   sound : SoundItems ts → Sound c
   deep : depth c ≤ depth-items ts
   payload : 4 + size c ≤ size-items ts
+  asked : (a : Ask) → Apiece a → T (every a (array ts)) → T (every a c)
 
 record InsideMembers (c : Tree) (ms : Members) : Type 0 where
   valid : ValidMembers ms → Valid c
   sound : SoundMembers ms → Sound c
   deep : depth c ≤ depth-members ms
   payload : 8 + size c ≤ size-members ms
+  asked : (a : Ask) → Apiece a → T (every a (object ms)) → T (every a c)
 
 item-inside : (ts : Items) (i : ℕ) (c : Tree) → item-at ts i ≡ some c → InsideItems c ts
 item-inside none i c e = nothing-some e
 item-inside (item t ts) zero c e =
-    rw (← some-inj {x = t} e) (record { valid = λ v. v .0; sound = λ s. s .0; deep = omega arith; payload = omega arith })
+    rw (← some-inj {x = t} e)
+    (record {
+      valid = λ v. v .0;
+      sound = λ s. s .0;
+      deep = omega arith;
+      payload = omega arith;
+      asked = λ a p h. and-apart (every a t) (every-items a ts) h .0;
+    })
 item-inside (item t ts) (suc i) c e =
     let k = item-inside ts i c e in
-    record { valid = λ v. k .valid (v .1); sound = λ s. k .sound (s .1); deep = omega arith; payload = omega arith }
+    record {
+      valid = λ v. k .valid (v .1);
+      sound = λ s. k .sound (s .1);
+      deep = omega arith;
+      payload = omega arith;
+      asked = λ a p h. k .asked a p (and-apart (every a t) (every-items a ts) h .1);
+    }
 
 member-inside : (n : Bytes) (ms : Members) (c : Tree) → find n ms ≡ some c → InsideMembers c ms
 member-inside n empty c e = nothing-some e
@@ -80,10 +103,24 @@ member-inside n (member m t ms) c e =
     (λ _ e. later (member-inside n ms c e)) (λ _ e. rw (← some-inj {x = t} e) here) (λ _ e. later (member-inside n ms c e)) e
   where
     here : InsideMembers t (member m t ms)
-    here = record { valid = λ v. v .1; sound = λ s. s .0; deep = omega arith; payload = omega arith }
+    here =
+        record {
+          valid = λ v. v .1;
+          sound = λ s. s .0;
+          deep = omega arith;
+          payload = omega arith;
+          asked = λ a p h. member-apart a p m t ms h .1;
+        }
 
     later : InsideMembers c ms → InsideMembers c (member m t ms)
-    later k = record { valid = λ v. k .valid (v .2); sound = λ s. k .sound (s .1); deep = omega arith; payload = omega arith }
+    later k =
+        record {
+          valid = λ v. k .valid (v .2);
+          sound = λ s. k .sound (s .1);
+          deep = omega arith;
+          payload = omega arith;
+          asked = λ a p h. k .asked a p (member-apart a p m t ms h .2);
+        }
 
 pub step-inside : (s : Step) (t c : Tree) → step-into s t ≡ some c → Inside c t
 step-inside s null c e = nothing-some e
@@ -94,10 +131,10 @@ step-inside s (extension b) c e = nothing-some e
 step-inside s (array ts) c e =
     let f = then-some (step-place s (count ts)) (item-at ts) c e in
     let k = item-inside ts (f .0) c (f .2) in
-    record { valid = k .valid; sound = k .sound; deep = omega arith; payload = omega arith }
+    record { valid = k .valid; sound = k .sound; deep = omega arith; payload = omega arith; asked = k .asked }
 step-inside s (object ms) c e =
     let k = member-inside (step-name s) ms c e in
-    record { valid = k .valid; sound = λ s. k .sound (s .1); deep = omega arith; payload = omega arith }
+    record { valid = k .valid; sound = λ s. k .sound (s .1); deep = omega arith; payload = omega arith; asked = k .asked }
 
 -- A record is its payload, and 8 bytes more of a scalar.
 record-size : (t : Tree) → (size t ≤ record-length t) × (record-length t ≤ 8 + size t)
@@ -119,6 +156,7 @@ step-kept s t c e =
       deep = omega arith;
       payload = omega arith;
       long = omega (arith, record-size t .0, record-size c .1);
+      asked = k .asked;
     }
 
 pub look-up-kept : (p : List Step) (t u : Tree) → look-up p t ≡ some u → NoMore u t
@@ -133,6 +171,7 @@ look-up-kept (s ∷ p) t u e =
       deep = omega arith;
       payload = omega arith;
       long = omega arith;
+      asked = λ a p h. l .asked a p (k .asked a p h);
     }
 
 pub look-up-readable : (p : List Step) (t u : Tree) → look-up p t ≡ some u → Readable t → Readable u
@@ -148,13 +187,35 @@ NoMoreOf (some u) c = NoMore u c
 item-kept : (o : Option Tree) (i : ℕ) (ts : Items) (c : Tree) → item-at ts i ≡ some c → NoMoreOf o c → NoMoreItems (change-item o i ts) ts
 item-kept o i none c e l = nothing-some e
 item-kept nothing zero (item t ts) c e l =
-    record { valid = λ v. v .1; sound = λ s. s .1; deep = omega arith; payload = omega arith }
+    record {
+      valid = λ v. v .1;
+      sound = λ s. s .1;
+      deep = omega arith;
+      payload = omega arith;
+      asked = λ a p h. and-apart (every a t) (every-items a ts) h .1;
+    }
 item-kept (some u) zero (item t ts) c e l =
     let k : NoMore u t = rw (some-inj {x = t} e) l in
-    record { valid = λ v. (k .valid (v .0), v .1); sound = λ s. (k .sound (s .0), s .1); deep = omega arith; payload = omega arith }
+    record {
+      valid = λ v. (k .valid (v .0), v .1);
+      sound = λ s. (k .sound (s .0), s .1);
+      deep = omega arith;
+      payload = omega arith;
+      asked = λ a p h.
+          let rest = and-apart (every a t) (every-items a ts) h in
+          and-joined (every a u) (every-items a ts) (k .asked a p (rest .0)) (rest .1);
+    }
 item-kept o (suc i) (item t ts) c e l =
     let k = item-kept o i ts c e l in
-    record { valid = λ v. (v .0, k .valid (v .1)); sound = λ s. (s .0, k .sound (s .1)); deep = omega arith; payload = omega arith }
+    record {
+      valid = λ v. (v .0, k .valid (v .1));
+      sound = λ s. (s .0, k .sound (s .1));
+      deep = omega arith;
+      payload = omega arith;
+      asked = λ a p h.
+          let rest = and-apart (every a t) (every-items a ts) h in
+          and-joined (every a t) (every-items a (change-item o i ts)) (rest .0) (k .asked a p (rest .1));
+    }
 
 member-kept : (o : Option Tree) (n : Bytes) (ms : Members) (c : Tree) → find n ms ≡ some c → NoMoreOf o c → NoMoreMembers (change-member o n ms) ms
 member-kept o n empty c e l = nothing-some e
@@ -169,12 +230,31 @@ member-kept o n (member m t ms) c e l =
   where
     later : (ns : Members) → NoMoreMembers ns ms → NoMoreMembers (member m t ns) (member m t ms)
     later ns k =
-        record { valid = λ v. (v .0, v .1, k .valid (v .2)); sound = λ s. (s .0, k .sound (s .1)); deep = omega arith; payload = omega arith }
+        record {
+          valid = λ v. (v .0, v .1, k .valid (v .2));
+          sound = λ s. (s .0, k .sound (s .1));
+          deep = omega arith;
+          payload = omega arith;
+          asked = λ a p h. let rest = member-apart a p m t ms h in member-joined a p m t ns (rest .0) (rest .1) (k .asked a p (rest .2));
+        }
 
     here : (o : Option Tree) → NoMoreOf o t → NoMoreMembers (kept-member m o ms) (member m t ms)
-    here nothing k = record { valid = λ v. v .2; sound = λ s. s .1; deep = omega arith; payload = omega arith }
+    here nothing k =
+        record {
+          valid = λ v. v .2;
+          sound = λ s. s .1;
+          deep = omega arith;
+          payload = omega arith;
+          asked = λ a p h. member-apart a p m t ms h .2;
+        }
     here (some u) k =
-        record { valid = λ v. (v .0, k .valid (v .1), v .2); sound = λ s. (k .sound (s .0), s .1); deep = omega arith; payload = omega arith }
+        record {
+          valid = λ v. (v .0, k .valid (v .1), v .2);
+          sound = λ s. (k .sound (s .0), s .1);
+          deep = omega arith;
+          payload = omega arith;
+          asked = λ a p h. let rest = member-apart a p m t ms h in member-joined a p m u ms (rest .0) (k .asked a p (rest .1)) (rest .2);
+        }
 
 -- Members in order have no more bytes.
 insert-size : (n : Bytes) (t : Tree) (ms : Members) → size-members (insert n t ms) ≤ size-members (member n t ms)
@@ -200,7 +280,15 @@ anew-kept o s (extension b) c e l = nothing-some e
 anew-kept o s (array ts) c e l =
     let f = then-some (step-place s (count ts)) (item-at ts) c e in
     let k = item-kept o (f .0) ts c (f .2) l in
-    rw (f .1) (record { valid = k .valid; sound = k .sound; deep = omega arith; payload = omega arith; long = omega arith })
+    rw (f .1)
+    (record {
+      valid = k .valid;
+      sound = k .sound;
+      deep = omega arith;
+      payload = omega arith;
+      long = omega arith;
+      asked = k .asked;
+    })
 anew-kept o s (object ms) c e l =
     let ns = change-member o (step-name s) ms in
     let k = member-kept o (step-name s) ms c e l in
@@ -212,6 +300,7 @@ anew-kept o s (object ms) c e l =
       deep = omega arith;
       payload = omega arith;
       long = omega arith;
+      asked = λ a p h. in-order-asked a p ns (k .asked a p h);
     }
 
 remains-kept : (p : List Step) (t v : Tree) → look-up p t ≡ some v → NoMoreOf (remains p t) t

@@ -13,15 +13,17 @@ use Rattle.layout.specs.Answer.{gives, refused, _>>=_, require}
 use Rattle.layout.specs.Order.{order}
 use Rattle.layout.specs.Tree.{Tree, null, boolean, number, string, extension, array, object, Items, none, item, Members, empty, member, kind, names}
 use Rattle.layout.specs.Sound.{Rising, Sound, SoundItems, SoundMembers}
+use Rattle.layout.specs.Every.{every, every-items}
 use Rattle.layout.specs.declared.order.Ordering.{Ordering}
 use Rattle.layout.specs.declared.order.Ordering.the-variants.{Less, Equal, Greater}
 use Rattle.layout.specs.declared.refusal.Refusal.the-variants.{Repeated}
 use Rattle.layout.proofs.Answers.{from-require, to-require, gives-inj}
 use Rattle.layout.proofs.Values.{In, rising-tail, rising-all}
+use Rattle.layout.proofs.Questions.{and-apart, and-joined, member-apart, member-joined}
 use Rattle.builders.specs.Order.{by, in-order, find, distinct}
 use Rattle.builders.specs.Build.{count}
 use Rattle.builders.proofs.InOrders.{unlike, has-not, distinct-cons, rising-distinct, rising-cons, in-order-rising, rising-in-order}
-use Rattle.builders.proofs.InOrders.{find-in-order, in-order-valid, in-order-sound, in-order-depth, gather, gather-in-order}
+use Rattle.builders.proofs.InOrders.{find-in-order, in-order-valid, in-order-sound, in-order-asked, in-order-depth, gather, gather-in-order}
 use Rattle.builders.proofs.Results.{is-true}
 use Rattle.builders.proofs.Twos.{and-false}
 use Rattle.edits.specs.Keypath.{Step, name, index}
@@ -147,7 +149,14 @@ mutual
   strip-shrinks (extension b) = no-more-same (extension b)
   strip-shrinks (array ts) =
       let k = strip-items-shrink ts in
-      record { valid = k .valid; sound = k .sound; deep = omega arith; payload = omega arith; long = omega arith }
+      record {
+        valid = k .valid;
+        sound = k .sound;
+        deep = omega arith;
+        payload = omega arith;
+        long = omega arith;
+        asked = k .asked;
+      }
   strip-shrinks (object ms) =
       let k = strip-members-shrink ms in
       let d = in-order-depth (stripped-members ms) in
@@ -158,10 +167,12 @@ mutual
         deep = omega arith;
         payload = omega arith;
         long = omega arith;
+        asked = λ a p h. in-order-asked a p (stripped-members ms) (k .asked a p h);
       }
 
   strip-items-shrink : (ts : Items) → NoMoreItems (stripped-items ts) ts
-  strip-items-shrink none = record { valid = λ v. v; sound = λ s. s; deep = omega arith; payload = omega arith }
+  strip-items-shrink none =
+      record { valid = λ v. v; sound = λ s. s; deep = omega arith; payload = omega arith; asked = λ a p h. h }
   strip-items-shrink (item t ts) =
       let a = strip-shrinks t in
       let k = strip-items-shrink ts in
@@ -170,22 +181,36 @@ mutual
         sound = λ s. (a .sound (s .0), k .sound (s .1));
         deep = omega arith;
         payload = omega arith;
+        asked = λ q p h.
+            let rest = and-apart (every q t) (every-items q ts) h in
+            and-joined (every q (stripped t)) (every-items q (stripped-items ts)) (a .asked q p (rest .0)) (k .asked q p (rest .1));
       }
 
   strip-members-shrink : (ms : Members) → NoMoreMembers (stripped-members ms) ms
-  strip-members-shrink empty = record { valid = λ v. v; sound = λ s. s; deep = omega arith; payload = omega arith }
+  strip-members-shrink empty =
+      record { valid = λ v. v; sound = λ s. s; deep = omega arith; payload = omega arith; asked = λ a p h. h }
   strip-members-shrink (member n t ms) =
       let a = strip-shrinks t in
       let k = strip-members-shrink ms in
       by-test (is-null t)
       (λ p. NoMoreMembers (cond p (stripped-members ms) (member n (stripped t) (stripped-members ms))) (member n t ms))
-      (λ _. record { valid = λ v. k .valid (v .2); sound = λ s. k .sound (s .1); deep = omega arith; payload = omega arith })
+      (λ _.
+      record {
+        valid = λ v. k .valid (v .2);
+        sound = λ s. k .sound (s .1);
+        deep = omega arith;
+        payload = omega arith;
+        asked = λ q p h. k .asked q p (member-apart q p n t ms h .2);
+      })
       (λ _.
       record {
         valid = λ v. (v .0, a .valid (v .1), k .valid (v .2));
         sound = λ s. (a .sound (s .0), k .sound (s .1));
         deep = omega arith;
         payload = omega arith;
+        asked = λ q p h.
+            let rest = member-apart q p n t ms h in
+            member-joined q p n (stripped t) (stripped-members ms) (rest .0) (a .asked q p (rest .1)) (k .asked q p (rest .2));
       })
 
 -- ---- what a name finds, and a place in an array

@@ -1,10 +1,11 @@
 -- The questions that the code asks of a record, `ask-of`: what each asks of a number and of the names of an object, in the terms of
--- the code; and two questions at once.
+-- the code; two questions at once; and those that ask each name by itself.
 use Prim.Native.Nat.{ℕ, _+_, _-_, _<_, _≤_}
 use native.Mathlib.Omega.{arith}
 use mathlib.Core.Path.{_≡_, refl, ap, ap₂, _∙_}
 use mathlib.Core.Bool.{Bool, true, false, _&&_, and-true}
-use mathlib.Core.List.{List}
+use mathlib.Core.List.{List, [], _∷_}
+use lib.Dec.{T}
 use lib.ListN.{take, drop}
 use Rattle.layout.specs.Bytes.{Bytes}
 use Rattle.layout.specs.Entry.{length-of, entry-at}
@@ -15,7 +16,7 @@ use Rattle.layout.specs.Check.{text-checked}
 use Rattle.layout.specs.Order.{rising}
 use Rattle.layout.specs.Place.{parts-at, rising-parts}
 use Rattle.layout.specs.Parts.{texts}
-use Rattle.layout.specs.Every.{Ask, every, every-items, every-members, has-characters, each}
+use Rattle.layout.specs.Every.{Ask, every, every-items, every-members, kinds-ask, has-characters, each, names-ask}
 use Rattle.layout.specs.EveryAt.{both-ask, ask-of}
 use Rattle.layout.specs.declared.refusal.Refusal.{Refusal}
 use Rattle.layout.specs.declared.utf8.TextCheck.{TextCheck}
@@ -56,6 +57,50 @@ mutual
   members-both a b empty = refl
   members-both a b (member n t ms) =
       ap₂ _&&_ (every-both a b t) (members-both a b ms) ∙ exchanged (every a t) (every b t) (every-members a ms) (every-members b ms)
+
+-- ---- questions that ask each name by itself
+
+pub and-apart : (p q : Bool) → T (p && q) → T p × T q
+and-apart true q h = (tt, h)
+and-apart false q h = absurd h
+
+pub and-joined : (p q : Bool) → T p → T q → T (p && q)
+and-joined true q h k = k
+and-joined false q h k = absurd h
+
+-- Whatever the names stand beside, so that fewer of them, in any order, pass where all did.
+pub record Apiece (a : Ask) : Type 0 where
+  pub name : Bytes → Bool
+  pub names : (ns : List Bytes) → a .names ns ≡ each name ns
+
+pub kinds-apiece : Apiece kinds-ask
+kinds-apiece = record { name = λ n. true; names = all }
+  where
+    all : (ns : List Bytes) → true ≡ each (λ n. true) ns
+    all [] = refl
+    all (n ∷ ns) = all ns
+
+pub names-apiece : (low high : ℕ) → Apiece (names-ask low high)
+names-apiece low high = record { name = has-characters low high; names = λ ns. refl }
+
+module _ (a : Ask) (p : Apiece a) where
+  pub no-member : T (every a (object empty))
+  no-member = rw (p .names []) tt
+
+  module _ (n : Bytes) (t : Tree) (ms : Members) where
+    pub member-apart : T (every a (object (member n t ms))) → T (p .name n) × T (every a t) × T (every a (object ms))
+    member-apart h =
+        let both = and-apart (a .names (n ∷ names ms)) (every a t && every-members a ms) h in
+        let values = and-apart (every a t) (every-members a ms) (both .1) in
+        let named = and-apart (p .name n) (each (p .name) (names ms)) (rw (p .names (n ∷ names ms)) at (both .0)) in
+        (named .0, values .0, and-joined (a .names (names ms)) (every-members a ms) (rw (p .names (names ms)) (named .1)) (values .1))
+
+    pub member-joined : T (p .name n) → T (every a t) → T (every a (object ms)) → T (every a (object (member n t ms)))
+    member-joined x v h =
+        let rest = and-apart (a .names (names ms)) (every-members a ms) h in
+        let named = and-joined (p .name n) (each (p .name) (names ms)) x (rw (p .names (names ms)) at (rest .0)) in
+        and-joined (a .names (n ∷ names ms)) (every a t && every-members a ms) (rw (p .names (n ∷ names ms)) named)
+        (and-joined (every a t) (every-members a ms) v (rest .1))
 
 -- ---- the characters of a name
 

@@ -1,0 +1,68 @@
+// Which records the board's loader takes: document 02 §5, "A flight record is sound, at most 8 deep, has names of 1 to 32 characters,
+// and holds no extension, float, decimal, NaN or infinity".
+use layout::check::Check;
+use layout::check::Nesting;
+use layout::check::check_levels;
+use layout::constants::DEPTH_LIMIT;
+use layout::every::Question;
+use layout::every::passes;
+use layout::refusal::Refusal;
+ghost use mathlib.Core.Path.{_≡_};
+ghost use Rattle.layout.specs.Read.{read};
+ghost use Rattle.layout.specs.Check.{checked};
+ghost use Rattle.flight.specs.Flight.{flight};
+ghost use Rattle.flight.specs.Profile.{«profile-in» as profileIn, «both-in» as bothIn};
+
+// How deep a flight record nests at the most, and how many characters its names have.
+pub const FLIGHT_DEPTH: u32 = 8;
+
+const LONGEST_NAME: usize = 32;
+
+// How a record stands to the profile.
+pub enum Profile {
+    Inside,
+    Outside,
+    Refused(Refusal),
+}
+
+// The check tells the depth at once; the rest of the profile is one question, asked of a record that has passed it.
+pub fn profile_of(s: &[u8]) -> Profile
+    ensures { λ r. ⌜ r ≡ profileIn (read (now (s .entry))) ⌝ }
+{
+    match check_levels(s, FLIGHT_DEPTH) {
+        Nesting::Refused(refusal) => Profile::Refused(refusal),
+        Nesting::Deep => Profile::Outside,
+        Nesting::Fits => {
+            if passes(Question::Profile(LONGEST_NAME), s, DEPTH_LIMIT) {
+                return Profile::Inside;
+            }
+            Profile::Outside
+        }
+    }
+}
+
+// How two records stand to it together: a number comes before 12, the left one's first.
+pub fn profile_of_both(left: &[u8], right: &[u8]) -> Profile
+    ensures { λ r. ⌜ r ≡ bothIn (profileIn (read (now (left .entry)))) (profileIn (read (now (right .entry)))) ⌝ }
+{
+    match profile_of(left) {
+        Profile::Refused(refusal) => Profile::Refused(refusal),
+        Profile::Inside => profile_of(right),
+        Profile::Outside => match profile_of(right) {
+            Profile::Refused(refusal) => Profile::Refused(refusal),
+            Profile::Inside => Profile::Outside,
+            Profile::Outside => Profile::Outside,
+        },
+    }
+}
+
+// Whether the loader takes a record, or why it does not.
+pub fn check_flight(s: &[u8]) -> Check
+    ensures { λ r. ⌜ r ≡ checked (flight (now (s .entry))) ⌝ }
+{
+    match profile_of(s) {
+        Profile::Inside => Check::Readable,
+        Profile::Outside => Check::Refused(Refusal::Profile),
+        Profile::Refused(refusal) => Check::Refused(refusal),
+    }
+}
