@@ -3,16 +3,15 @@ use Prim.Native.Nat.{ℕ}
 use mathlib.Core.Path.{_≡_, refl, ap, sym, subst, _∙_}
 use mathlib.Core.Logic.{_↔_}
 use mathlib.Core.List.{List}
-use mathlib.Core.Option.{Option, some}
+use mathlib.Core.Option.{some}
 use Rattle.layout.specs.Bytes.{Bytes, Octets}
 use Rattle.layout.specs.Answer.{Answer, gives, refused, _>>=_}
 use Rattle.layout.specs.Tree.{Tree, null, boolean, number, string, extension, array, object}
 use Rattle.layout.specs.Read.{read}
 use Rattle.layout.specs.Ended.{result}
-use Rattle.layout.specs.Pipeline.{within, found, written}
-use Rattle.layout.specs.declared.refusal.Refusal.the-variants.{Profile}
+use Rattle.layout.specs.Pipeline.{within, found, written, on-record}
 use Rattle.layout.proofs.Answers.{from-bind, from-require, to-bind, gives-inj}
-use Rattle.layout.proofs.Pipelines.{found-written, found-result, written-result, on-record-is}
+use Rattle.layout.proofs.Pipelines.{found-written, found-result, written-result}
 use Rattle.builders.specs.Build.{on-two}
 use Rattle.builders.proofs.Results.{on-two-is, within-is}
 use Rattle.edits.specs.Keypath.{Step, path-of}
@@ -45,7 +44,6 @@ delete-same p t f = delete-lines p t ∙ rw (profiled-gives t f) (by-kind t f)
   where
     by-kind : (t : Tree) → Flight t
         → (deletable t >>= λ u. profiled (delete p u) >>= λ v. gives (some v)) ≡ (deletable t >>= λ u. gives (some (delete p u)))
-    unfolding _>>=_
     by-kind null f = refl
     by-kind (boolean x) f = refl
     by-kind (number b) f = refl
@@ -55,19 +53,14 @@ delete-same p t f = delete-lines p t ∙ rw (profiled-gives t f) (by-kind t f)
     by-kind (object ms) f = rw (profiled-gives (delete p (object ms)) (delete-flight p (object ms) f))
 
 pub delete-stays : (s p : Bytes) (room : ℕ) → FlightRecord s → on-path flight-delete-by s p room ≡ on-path delete-by s p room
+unfolding _>>=_
 delete-stays s p room f =
-    on-path-is flight-delete-by s p room
-    ∙ ap (found room) (rw (f .reads) (by-path (path-of p)))
-    ∙ sym (on-path-is delete-by s p room)
+    rw (on-path-is flight-delete-by s p room, on-path-is delete-by s p room, f .reads)
+    (ap (found room) (by-path (f .tree) (f .flight) (path-of p)))
   where
-    t : Tree
-    t = f .tree
-
-    by-path : (m : Answer (List Step))
-        → (gives t >>= λ u. m >>= λ q. flight-delete-by q u) ≡ (gives t >>= λ u. m >>= λ q. delete-by q u)
-    unfolding _>>=_
-    by-path (gives q) = delete-same q t (f .flight)
-    by-path (refused x) = refl
+    by-path : (t : Tree) → Flight t → (m : Answer (List Step)) → (m >>= λ q. flight-delete-by q t) ≡ (m >>= λ q. delete-by q t)
+    by-path t h (gives q) = delete-same q t h
+    by-path t h (refused x) = refl
 
 of-delete : (s p b : Bytes) (room : ℕ) → Octets s
     → (on-path flight-delete-by s p room ≡ result b) ↔ (FlightRecord s × (on-path delete-by s p room ≡ result b) × FlightRecord b)
@@ -99,10 +92,9 @@ strip-same t f =
     strip-lines t ∙ to-bind _ (profiled-gives t f) (to-bind _ plain (profiled-gives (stripped t) (strip-flight t f))) ∙ sym plain
 
 pub strip-stays : (s : Bytes) (room : ℕ) → FlightRecord s → on-one flight-strip s room ≡ on-one strip s room
+unfolding _>>=_
 strip-stays s room f =
-    on-one-is flight-strip s room
-    ∙ ap (written room) (rw (f .reads) (unfold _>>=_ in strip-same (f .tree) (f .flight)))
-    ∙ sym (on-one-is strip s room)
+    rw (on-one-is flight-strip s room, on-one-is strip s room, f .reads) (ap (written room) (strip-same (f .tree) (f .flight)))
 
 of-strip : (s b : Bytes) (room : ℕ) → Octets s
     → (on-one flight-strip s room ≡ result b) ↔ (FlightRecord s × (on-one strip s room ≡ result b) × FlightRecord b)
@@ -128,11 +120,11 @@ pub concat-lines : (t u : Tree)
 concat-lines t u = unfold flight-concat in refl
 
 pub on-flights-is : (l r : Bytes) (room : ℕ) → on-flights l r room ≡ written room (read l >>= λ t. read r >>= λ u. flight-concat t u)
-on-flights-is l r room = unfold on-flights in on-record-is read _ l r room ∙ by-reads (read l) (read r)
+unfolding on-flights on-record _>>=_
+on-flights-is l r room = by-reads (read l) (read r)
   where
     by-reads : (a b : Answer Tree)
         → found room (a >>= λ t. b >>= λ u. flight-concat t u >>= λ v. gives (some v)) ≡ written room (a >>= λ t. b >>= λ u. flight-concat t u)
-    unfolding _>>=_
     by-reads (refused x) b = refl
     by-reads (gives t) (refused x) = refl
     by-reads (gives t) (gives u) = found-written room (flight-concat t u)

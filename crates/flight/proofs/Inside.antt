@@ -1,12 +1,11 @@
 -- The profile: its test says what `Flight` says; delete and strip stay inside it, and of concat only a level too many leaves it.
-use Prim.Native.Nat.{ℕ, suc, _≤_, max}
+use Prim.Native.Nat.{_≤_}
 use native.Mathlib.Omega.{arith}
-use native.Mathlib.Decide.{decLe}
-use mathlib.Core.Path.{_≡_, refl, ap, sym, _∙_}
+use mathlib.Core.Path.{_≡_, refl, sym, _∙_}
 use mathlib.Core.Logic.{_↔_, _⊎_, inl, inr, ⊎-elim}
 use mathlib.Core.Bool.{Bool, true, false, _&&_}
 use mathlib.Core.List.{List}
-use mathlib.Core.Option.{Option, none as nothing, some}
+use mathlib.Core.Option.{none as nothing, some}
 use lib.Dec.{T, leb, leb→le, le→leb}
 use Rattle.layout.specs.Answer.{gives, refused, _>>=_, require}
 use Rattle.layout.specs.Tree.{Tree, null, boolean, number, string, extension, array, object}
@@ -20,7 +19,6 @@ use Rattle.layout.proofs.Sounds.{sound-test}
 use Rattle.layout.proofs.Questions.{every-both, and-apart, and-joined, names-apiece, kinds-apiece}
 use Rattle.builders.specs.Build.{join}
 use Rattle.builders.proofs.Appends.{depth-join}
-use Rattle.builders.proofs.Results.{is-true}
 use Rattle.edits.specs.Keypath.{Step}
 use Rattle.edits.specs.Delete.{delete}
 use Rattle.edits.specs.Concat.{as-items, members-in, concat}

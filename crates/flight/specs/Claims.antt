@@ -2,14 +2,13 @@
 use Prim.Native.Nat.{ℕ, suc, _≤_}
 use mathlib.Core.Path.{_≡_}
 use mathlib.Core.Logic.{_↔_}
-use mathlib.Core.List.{List}
 use mathlib.Core.Option.{Option, none as nothing, some}
 use Rattle.layout.specs.Bytes.{Bytes, Octets}
 use Rattle.layout.specs.Answer.{gives}
 use Rattle.layout.specs.Tree.{Tree, Members}
 use Rattle.layout.specs.Read.{read}
 use Rattle.layout.specs.Limits.{depth}
-use Rattle.layout.specs.Ended.{Outcome, result}
+use Rattle.layout.specs.Ended.{result}
 use Rattle.builders.specs.Build.{on-two}
 use Rattle.edits.specs.Path.{delete-by, on-path}
 use Rattle.edits.specs.Concat.{members-in, concat}

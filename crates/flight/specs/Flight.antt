@@ -10,7 +10,8 @@ use Rattle.layout.specs.Tree.{Tree}
 use Rattle.layout.specs.Read.{read}
 use Rattle.layout.specs.Limits.{depth}
 use Rattle.layout.specs.Sound.{Sound}
-use Rattle.layout.specs.Every.{every, is-sound, names-ask, kinds-ask}
+use Rattle.layout.specs.Number.{is-integer}
+use Rattle.layout.specs.Every.{every, is-sound, has-characters, names-ask, kinds-ask}
 use Rattle.layout.specs.Ended.{Outcome}
 use Rattle.layout.specs.Pipeline.{within, on-record}
 use Rattle.layout.specs.declared.refusal.Refusal.the-variants.{Profile}
@@ -29,6 +30,7 @@ pub record Flight (t : Tree) : Type 0 where
 
 -- The same as a test: `flight-test` of proofs/Flights.antt.
 unfoldable pub is-flight : Tree → Bool
+unfolding has-characters is-integer
 is-flight t = is-sound t && (leb (depth t) 8 && (every (names-ask 1 32) t && every kinds-ask t))
 
 -- "A readable record outside the profile, or a result outside it, gives 12".

@@ -1,3 +1,3 @@
 // The flight profile: document 02 §5. The board's small loader takes less than the layout allows.
-pub mod edits;
+pub mod edit;
 pub mod profile;
