@@ -7,7 +7,7 @@ use borrow.Author.Tests.{le-leb, lt-leb, le-ltb}
 use mathlib.Core.Path.{_≡_, refl, ap, ap₂, sym, subst, _∙_}
 use mathlib.Core.Logic.{_↔_}
 use mathlib.Core.Bool.{Bool, true, false, not, cond, _&&_, _||_}
-use mathlib.Core.List.{List}
+use mathlib.Core.List.{List, [], _++_}
 use lib.Dec.{leb, leb→le}
 use lib.ListN.{length}
 use Rattle.layout.specs.Bytes.{Bytes, Octets}
@@ -19,7 +19,8 @@ use Rattle.layout.specs.Limits.{depth, record-length}
 use Rattle.layout.specs.Every.{every}
 use Rattle.layout.specs.EveryAt.{ask-of, every-at}
 use Rattle.layout.specs.Check.{checked, nesting-to}
-use Rattle.layout.specs.Ended.{Outcome, refusal, into, ending, Ended}
+use Rattle.layout.specs.Ended.{Outcome, result, absence, refusal, into, ending, Ended}
+use Rattle.layout.specs.Room.{placed, EndedIn}
 use Rattle.layout.specs.Pipeline.{within, found, written}
 use Rattle.layout.specs.declared.refusal.Refusal.{Refusal}
 use Rattle.layout.specs.declared.refusal.Refusal.the-variants.{Path, Profile}
@@ -34,6 +35,7 @@ use Rattle.layout.proofs.Answers.{from-require, gives-inj}
 use Rattle.layout.proofs.Asks.{every-read}
 use Rattle.layout.proofs.Questions.{and-apart}
 use Rattle.layout.proofs.Nestings.{head-of, header-read}
+use Rattle.layout.proofs.Patches.{patch-empty}
 use Rattle.layout.proofs.Readables.{length-encode}
 use Rattle.builders.specs.Build.{on-two}
 use Rattle.builders.proofs.Results.{on-two-is, within-is}
@@ -49,7 +51,6 @@ use Rattle.edits.proofs.Concats.{concat-some}
 use Rattle.edits.proofs.Paths.{steps-refused}
 use Rattle.edits.proofs.PathResults.{on-path-is}
 use Rattle.edits.proofs.StripWrites.{on-one-is}
-use Rattle.previews.specs.Preview.{previewed}
 use Rattle.flight.specs.Flight.{Flight, is-flight, profiled, flight, flight-delete-by, flight-strip, on-flights}
 use Rattle.flight.specs.Claims.{FlightRecord, stands}
 use Rattle.flight.specs.Profile.{profile-in, both-in, beside-outside, is-object, is-deep, too-deep, or-profile}
@@ -146,6 +147,16 @@ module _ (s : Bytes) (p : Standing) (e : p ≡ profile-in (read s)) where
 -- A number is the end of a call, and leaves the buffer as it was.
 pub ended-refused : (before : Bytes) (o : Outcome) (x : Refusal) → o ≡ refusal x → Ended (Refused x) before before o
 ended-refused before o x e = rw e (record { answer = refl; bytes = refl })
+
+-- So is one behind a call that was lent no bytes: it has left none.
+pub ended-unwritten : (before : Bytes) (o p : Outcome) (x : Refusal) {r : Ending} {none : Bytes} → EndedIn r [] none o → p ≡ refusal x
+    → Ended (Refused x) before (none ++ before) p
+ended-unwritten before o p x d e = rw (d .bytes ∙ unplaced o) (ended-refused before p x e)
+  where
+    unplaced : (o : Outcome) → placed o [] ≡ []
+    unplaced (result b) = patch-empty 0 b
+    unplaced absence = refl
+    unplaced (refusal y) = refl
 
 pub ended-same : {r : Ending} {before after : Bytes} (o p : Outcome) → p ≡ o → Ended r before after o → Ended r before after p
 ended-same o p e h = rw e h
@@ -292,7 +303,7 @@ module _ (l r : Bytes) (fl : FlightRecord l) (fr : FlightRecord r) where
       (same, rw (← same) (omega (arith, length-encode v, leb→le (record-length v) 65536 (limits .0))))
 
   -- An overlay outside the profile: what the plain edit is refused for, and then 12.
-  overlay-refused : (Flight (concat-so .0) → ⊥) → (room : ℕ) → on-flights l r room ≡ refusal (or-profile (previewed (on-two concat l r)))
+  overlay-refused : (Flight (concat-so .0) → ⊥) → (room : ℕ) → on-flights l r room ≡ refusal (or-profile (ending (on-two concat l r 65536)))
   unfolding _>>=_ into
   overlay-refused out room = rw (flight-so room, plain-so 65536) (by (within (concat-so .0)) refl)
     where
@@ -318,10 +329,10 @@ module _ (l r : Bytes) (fl : FlightRecord l) (fr : FlightRecord r) where
     deep-sides : Deep-by g (stands (fl .tree) (fr .tree)) × Deep-by h (stands (fr .tree) (fl .tree))
     deep-sides = (side-deep l r fl fr ol or g hg, side-deep r l fr fl or ol h hh)
 
-    pub too-deep-ends : (g || h) ≡ true → (x : Refusal) → x ≡ or-profile (previewed (on-two concat l r)) → (room : ℕ)
-        → on-flights l r room ≡ refusal x
-    too-deep-ends q x e room =
-        overlay-refused (λ f. deeper g h q deep-sides (leaves .0 f)) room ∙ ap refusal (sym e)
+    pub too-deep-ends : (g || h) ≡ true → (a : Ending) → a ≡ ending (on-two concat l r 65536) → (x : Refusal) → x ≡ or-profile a
+        → (room : ℕ) → on-flights l r room ≡ refusal x
+    too-deep-ends q a k x e room =
+        overlay-refused (λ f. deeper g h q deep-sides (leaves .0 f)) room ∙ ap refusal (sym (e ∙ ap or-profile k))
       where
         deeper : (g h : Bool) → (g || h) ≡ true → Deep-by g (stands (fl .tree) (fr .tree)) × Deep-by h (stands (fr .tree) (fl .tree))
             → (stands (fl .tree) (fr .tree) ≤ 8) × (stands (fr .tree) (fl .tree) ≤ 8) → ⊥

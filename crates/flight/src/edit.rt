@@ -7,26 +7,24 @@ use crate::profile::profile_of_both;
 use edits::keypath::Steps;
 use edits::keypath::check_path;
 use edits::operator::concat;
+use edits::operator::concat_in;
 use edits::operator::strip_nulls;
 use edits::path::delete_by_keypath;
 use layout::check::Nesting;
 use layout::check::check_levels;
+use layout::constants::RECORD_LIMIT;
 use layout::ending::Ending;
 use layout::refusal::Refusal;
 use layout::util::Header;
 use layout::util::read_header;
-use previews::preview::preview_concat;
 ghost use mathlib.Core.Path.{_≡_};
 ghost use lib.ListN.{length};
 ghost use Rattle.layout.specs.Read.{header, read};
 ghost use Rattle.layout.specs.Check.{«nesting-to» as nestingTo};
 ghost use Rattle.layout.specs.Ended.{Ended};
-ghost use Rattle.builders.specs.Build.{«on-two» as onTwo};
 ghost use Rattle.edits.specs.Keypath.{«path-of» as pathOf};
 ghost use Rattle.edits.specs.Path.{«on-path» as onPath};
-ghost use Rattle.edits.specs.Concat.{concat as concatOf};
 ghost use Rattle.edits.specs.Strip.{«on-one» as onOne};
-ghost use Rattle.previews.specs.Preview.{previewed};
 ghost use Rattle.flight.specs.Flight.{«flight-delete-by» as flightDeleteBy, «flight-strip» as flightStrip, «on-flights» as onFlights};
 ghost use Rattle.flight.specs.Claims.{FlightRecord};
 ghost use Rattle.flight.specs.Profile.{«beside-outside» as besideOutside, «is-object» as isObject, «too-deep» as tooDeep, «or-profile» as orProfile};
@@ -94,25 +92,27 @@ fn is_too_deep(s: &[u8], other: &[u8]) -> bool
     }
 }
 
-// The number of an overlay that stands too deep: what the plain edit would be refused for comes before a result's 12.
-fn refuse_deep(left: &[u8], right: &[u8]) -> Refusal
-    ensures { λ r. ⌜ r ≡ orProfile (previewed (onTwo concatOf (now (left .entry)) (now (right .entry)))) ⌝ }
+// The number of an overlay that stands too deep, by how the plain edit ends: what that is refused for comes before a result's 12.
+fn refuse_deep(plain: Ending) -> Refusal
+    ensures { λ r. ⌜ r ≡ orProfile plain ⌝ }
 {
-    match preview_concat(left, right) {
+    match plain {
         Ending::Refused(refusal) => refusal,
         Ending::Done(_) => Refusal::Profile,
         Ending::Absent => Refusal::Profile,
     }
 }
 
-// Overlays two flight records, where the result is one too: that is known before a byte is written.
+// Overlays two flight records, where the result is one too: that is known before a byte is written. Of an overlay that stands too
+// deep the plain edit is asked, lent no bytes.
 fn overlay_flights(left: &[u8], right: &[u8], out: &mut [u8]) -> Ending
     requires { ⌜ FlightRecord (now left) × FlightRecord (now right) ⌝ }
     ensures { λ e. ⌜ Ended e (now (out .entry)) (now (out .exit))
         (onFlights (now (left .entry)) (now (right .entry)) (length (now (out .entry)))) ⌝ }
 {
     if is_too_deep(left, right) | is_too_deep(right, left) {
-        return Ending::Refused(refuse_deep(left, right));
+        let plain = concat_in(left, right, &mut out[0..0], RECORD_LIMIT);
+        return Ending::Refused(refuse_deep(plain));
     }
     concat(left, right, out)
 }

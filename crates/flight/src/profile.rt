@@ -14,7 +14,7 @@ ghost use Rattle.flight.specs.Flight.{flight};
 ghost use Rattle.flight.specs.Profile.{«profile-in» as profileIn, «both-in» as bothIn};
 
 // How deep a flight record nests at the most, and how many characters its names have.
-pub const FLIGHT_DEPTH: u32 = 8;
+pub(crate) const FLIGHT_DEPTH: u32 = 8;
 
 const LONGEST_NAME: usize = 32;
 
@@ -26,7 +26,7 @@ pub enum Profile {
 }
 
 // The check tells the depth at once; the rest of the profile is one question, asked of a record that has passed it.
-pub fn profile_of(s: &[u8]) -> Profile
+pub(crate) fn profile_of(s: &[u8]) -> Profile
     ensures { λ r. ⌜ r ≡ profileIn (read (now (s .entry))) ⌝ }
 {
     match check_levels(s, FLIGHT_DEPTH) {
@@ -42,7 +42,7 @@ pub fn profile_of(s: &[u8]) -> Profile
 }
 
 // How two records stand to it together: a number comes before 12, the left one's first.
-pub fn profile_of_both(left: &[u8], right: &[u8]) -> Profile
+pub(crate) fn profile_of_both(left: &[u8], right: &[u8]) -> Profile
     ensures { λ r. ⌜ r ≡ bothIn (profileIn (read (now (left .entry)))) (profileIn (read (now (right .entry)))) ⌝ }
 {
     match profile_of(left) {

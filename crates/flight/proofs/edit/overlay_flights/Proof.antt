@@ -2,7 +2,7 @@
 use native.Mathlib.Omega.{arith}
 use Rattle.layout.specs.Bytes.{Octets}
 use Rattle.layout.proofs.Words.{octets-of}
-use Rattle.flight.proofs.Ends.{ended-refused, ended-same, too-deep-ends, plain-ends}
+use Rattle.flight.proofs.Ends.{ended-unwritten, ended-same, too-deep-ends, plain-ends}
 use borrow.Author.Needs.{needs}
 use Rattle.flight.proofs.edit.overlay_flights.Statement.{statement}
 use Rattle.flight.proofs.edit.overlay_flights.Tie as tie
@@ -19,14 +19,18 @@ right-octets c = octets-of (entry c .args .right .now) (λ i. omega (arith, c .b
 
 returns : tie.Need-returns
 returns c =
-    let right-deep = c .before .before in
+    let asked = c .before .before .before in
+    let deep = asked .before .before in
+    let right-deep = deep .before in
     let left-deep = right-deep .before in
     let e = entry left-deep in
-    ended-refused _ _ _
+    ended-unwritten _ _ _ _ (asked .concat-in .ensures)
     (too-deep-ends _ _ (e .pre .0) (e .pre .1) (left-octets left-deep) (right-octets left-deep) _ _
     (left-deep .is-too-deep .ensures)
     (right-deep .is-too-deep2 .ensures)
-    (c .before .if1 .taken)
+    (deep .if1 .taken)
+    _
+    (asked .concat-in .ensures .answer)
     _
     (c .refuse-deep .ensures)
     _)
@@ -52,7 +56,12 @@ overlay-flights-spec =
     (tie.spec
     (λ c κs. search needs)
     (λ c κs. search needs)
+    (λ c. search needs)
+    (λ c. search needs)
+    (λ c. search needs)
     (λ c κs. search needs)
+    (λ c κs. search needs)
+    (λ c. search needs)
     returns
     (λ c κs. search needs)
     (λ c. search needs)
