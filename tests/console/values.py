@@ -91,6 +91,16 @@ def value(v):
     return v
 
 
+def depth(v):
+    """How many containers stand one in another; a root container is at depth 1, and a scalar has none."""
+    kind, x = v
+    if kind == "array":
+        return 1 + max(map(depth, x), default=0)
+    if kind == "object":
+        return 1 + max((depth(w) for _, w in x), default=0)
+    return 0
+
+
 # ---- from records to values: "Readable and sound", rule by rule
 
 

@@ -1,4 +1,5 @@
 // The calls of the console.
+use crate::aboard::answer_aboard;
 use crate::chars::chars_record;
 use crate::hex::RECORD_ROOM;
 use crate::hex::decode;
@@ -20,6 +21,7 @@ use crate::text::count_arguments;
 use crate::text::trim;
 use crate::text::word_end;
 use crate::writing::answer_edit;
+use flight::profile::check_flight;
 use layout::check::Check;
 use layout::check::check_record;
 use layout::order::is_same_bytes;
@@ -30,8 +32,8 @@ use layout::util::slice;
 use previews::preview::preview_strip;
 use runs::call::Edit;
 
-fn say_check(record: &[u8]) {
-    match check_record(record) {
+fn say_check(check: Check) {
+    match check {
         Check::Readable => say(b"ok\n"),
         Check::Refused(refusal) => say_refused(refusal),
     }
@@ -52,15 +54,17 @@ pub(crate) enum Call {
     Show,
     Chars,
     PreviewStrip,
+    Flight,
 }
 
 fn answer_record(call: Call, record: &[u8]) {
     match call {
-        Call::Check => say_check(record),
+        Call::Check => say_check(check_record(record)),
         Call::Sound => say_sound(record),
         Call::Show => show_record(record),
         Call::Chars => chars_record(record),
         Call::PreviewStrip => say_preview(preview_strip(record)),
+        Call::Flight => say_check(check_flight(record)),
     }
 }
 
@@ -132,6 +136,9 @@ fn answer_other(word: &[u8], rest: &[u8]) {
     if is_same_bytes(word, b"preview") {
         return answer_preview(rest);
     }
+    if is_same_bytes(word, b"flight") {
+        return answer_aboard(rest);
+    }
     if is_same_bytes(word, b"grade") {
         return answer_pair(Pair::Grade, rest);
     }
@@ -153,7 +160,7 @@ fn answer_other(word: &[u8], rest: &[u8]) {
     say(
         b"? there is no such call; there are check, sound, show, chars, get, pointer, delete, concat, strip, ",
     );
-    say(b"append, build, preview, grade, same, make, number, step and run\n");
+    say(b"append, build, preview, flight, grade, same, make, number, step and run\n");
 }
 
 // The answer to a line, which comes without its end.

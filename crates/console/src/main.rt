@@ -15,6 +15,9 @@
 //   build N ; V        result HEX, or refused N WORDS: an object of the names in the array N with the values in the array V
 //   preview EDIT ..    length N, or refused N WORDS: what delete, concat, strip, append or build would give, written as above but
 //                      without the buffer's length
+//   flight R           ok, or refused N WORDS: whether the record R is one that the board's loader takes
+//   flight EDIT ..     result HEX, or refused N WORDS: delete, concat or strip of flight records, written as above; the result is
+//                      one too
 //   grade CANDIDATE ; EXPECTED
 //                      right, other bytes, same value, other value, or damaged N WORDS: whether two records are the same, or have
 //                      one value
@@ -39,6 +42,7 @@
 // in `append A ; R ; 100`: the length of the result's buffer in decimal; where it is left out, one that serves, of 65,536 bytes at
 // most. An empty line and a line that starts with # are copied. A line that is none of these gets `? WHY`, and the next one is
 // answered as ever.
+mod aboard;
 mod calls;
 mod chars;
 mod decimal;

@@ -34,10 +34,11 @@ use crate::writing::Given;
 use crate::writing::ONE_RECORD;
 use crate::writing::TWO_RECORDS;
 use crate::writing::given_of;
-use crate::writing::lend;
+use crate::writing::lent;
 use layout::ending::Ending;
 use layout::util::slice;
 use runs::call::Edit;
+use runs::call::make_edit;
 ghost use Prim.Native.Nat.{_≤_};
 
 // Room for how many calls.
@@ -74,7 +75,7 @@ fn run_lent(
     room: &mut [u8],
 ) -> Ran {
     match take_length(text, count) {
-        Taken::Length(n) => Ran::Ended(lend(edit, left, right, path, room, n)),
+        Taken::Length(n) => Ran::Ended(make_edit(edit, left, right, path, lent(room, n))),
         Taken::Wrong(fault) => Ran::Wrong(fault),
     }
 }

@@ -31,7 +31,8 @@ pub(crate) fn say_words(number: u64) {
         8 => say(b"8 repeated name"),
         9 => say(b"9 result too long or deep"),
         10 => say(b"10 buffer too short"),
-        _ => say(b"11 pointer"),
+        11 => say(b"11 pointer"),
+        _ => say(b"12 outside the flight profile"),
     }
 }
 

@@ -9,11 +9,22 @@ use crate::say::say_fault;
 use crate::text::Taken;
 use crate::text::argument;
 use crate::text::count_arguments;
+use flight::edit::flight_concat;
+use flight::edit::flight_delete;
+use flight::edit::flight_strip;
 use layout::ending::Ending;
 use layout::util::slice;
 use layout::writer::least;
 use runs::call::Edit;
 use runs::call::make_edit;
+
+// What a call makes: an edit, or one that takes flight records and gives flight records.
+pub(crate) enum Writing {
+    Plain(Edit),
+    FlightDelete,
+    FlightConcat,
+    FlightStrip,
+}
 
 // What a call is given.
 pub(crate) enum Given {
@@ -45,72 +56,70 @@ pub(crate) fn lent(room: &mut [u8], length: usize) -> &mut [u8] {
     &mut room[..n]
 }
 
-// Makes an edit with a buffer of a length, out of the room for one.
-pub(crate) fn lend(
-    edit: Edit,
-    left: &[u8],
-    right: &[u8],
-    path: &[u8],
-    room: &mut [u8],
-    length: usize,
-) -> Ending {
-    make_edit(edit, left, right, path, lent(room, length))
+// Of the two records the second is the path where the call has one.
+fn write(writing: Writing, first: &[u8], second: &[u8], out: &mut [u8]) -> Ending {
+    match writing {
+        Writing::Plain(edit) => make_edit(edit, first, second, second, out),
+        Writing::FlightDelete => flight_delete(first, second, out),
+        Writing::FlightConcat => flight_concat(first, second, out),
+        Writing::FlightStrip => flight_strip(first, out),
+    }
 }
 
-// Of the two records the second is the path where the call has one.
-fn answer_lent(edit: Edit, first: &[u8], second: &[u8], length: usize) {
+// Makes it with a buffer of a length.
+fn answer_lent(writing: Writing, first: &[u8], second: &[u8], length: usize) {
     let mut room = [0u8; RESULT_ROOM];
-    let ending = lend(edit, first, second, second, &mut room, length);
+    let ending = write(writing, first, second, lent(&mut room, length));
     say_ending(ending, &room);
 }
 
 // Takes the buffer's length behind so many records.
-fn answer_length(edit: Edit, first: &[u8], second: &[u8], text: &[u8], records: usize) {
+fn answer_length(writing: Writing, first: &[u8], second: &[u8], text: &[u8], records: usize) {
     match take_length(text, records) {
-        Taken::Length(n) => answer_lent(edit, first, second, n),
+        Taken::Length(n) => answer_lent(writing, first, second, n),
         Taken::Wrong(fault) => say_fault(fault),
     }
 }
 
 // Takes the second record.
-fn answer_second(edit: Edit, first: &[u8], text: &[u8]) {
+fn answer_second(writing: Writing, first: &[u8], text: &[u8]) {
     let mut record = [0u8; RECORD_ROOM];
     match decode(argument(text, 1), &mut record) {
-        Taken::Length(n) => answer_length(edit, first, slice(&record, 0, n), text, TWO_RECORDS),
+        Taken::Length(n) => answer_length(writing, first, slice(&record, 0, n), text, TWO_RECORDS),
         Taken::Wrong(fault) => say_fault(fault),
     }
 }
 
 // Takes the arguments of a call with two records, from the left, or says why one is none.
-fn answer_two(edit: Edit, text: &[u8]) {
+pub(crate) fn answer_two(writing: Writing, text: &[u8]) {
     let count = count_arguments(text);
     if (count != TWO_RECORDS) & (count != TWO_RECORDS + 1) {
         return say(b"? this call takes two records, and the buffer's length if you like\n");
     }
     let mut record = [0u8; RECORD_ROOM];
     match decode(argument(text, 0), &mut record) {
-        Taken::Length(n) => answer_second(edit, slice(&record, 0, n), text),
+        Taken::Length(n) => answer_second(writing, slice(&record, 0, n), text),
         Taken::Wrong(fault) => say_fault(fault),
     }
 }
 
 // The same for strip, which takes one.
-fn answer_strip(text: &[u8]) {
+pub(crate) fn answer_strip(writing: Writing, text: &[u8]) {
     let count = count_arguments(text);
     if (count != ONE_RECORD) & (count != ONE_RECORD + 1) {
         return say(b"? this call takes one record, and the buffer's length if you like\n");
     }
     let mut record = [0u8; RECORD_ROOM];
     match decode(argument(text, 0), &mut record) {
-        Taken::Length(n) => answer_length(Edit::Strip, slice(&record, 0, n), b"", text, ONE_RECORD),
+        Taken::Length(n) => answer_length(writing, slice(&record, 0, n), b"", text, ONE_RECORD),
         Taken::Wrong(fault) => say_fault(fault),
     }
 }
 
 pub(crate) fn answer_edit(edit: Edit, text: &[u8]) {
     match given_of(edit) {
-        Given::Record => answer_strip(text),
-        Given::RecordAndPath => answer_two(edit, text),
-        Given::TwoRecords => answer_two(edit, text),
+        Given::Record => answer_strip(Writing::Plain(edit), text),
+        Given::RecordAndPath => answer_two(Writing::Plain(edit), text),
+        Given::TwoRecords => answer_two(Writing::Plain(edit), text),
     }
 }
