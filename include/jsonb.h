@@ -1,13 +1,15 @@
 /*
- * JSONB records for the flight computer: the check, the text check, the edits, and what an edit would give.
+ * JSONB records for the flight computer: the check, the text check, the edits, what an edit would give, and the check and the edits of
+ * flight records, which the board's loader takes.
  *
  * The functions are those of the static library that tools/library makes, target/staticlib/libjsonb.a, for x86-64 Linux.
  * Each is proved to end, and to answer what Path.antt, Concat.antt and Strip.antt of crates/edits/specs,
  * crates/builders/specs/Build.antt and crates/pointers/specs/Pointer.antt define (the check: crates/layout/specs/Read.antt; the text
- * check: crates/layout/specs/Text.antt; previews: crates/previews/specs/Preview.antt) as a number by crates/jsonb/specs/C.antt, on
- * every record, path, JSON Pointer, text and buffer. They keep nothing between calls, take no memory but the stack, and may be
- * called from several threads at once. 64 KiB of stack serve every call: measured at 64 levels, the deepest that a record can be,
- * delete takes 61,900 bytes at the most, strip 33,100 and each of the others 20,000, with the same figures for their previews
+ * check: crates/layout/specs/Text.antt; previews: crates/previews/specs/Preview.antt; flight records: crates/flight/specs/Flight.antt)
+ * as a number by crates/jsonb/specs/C.antt, on every record, path, JSON Pointer, text and buffer. They keep nothing between calls,
+ * take no memory but the stack, and may be called from several threads at once. 64 KiB of stack serve every call: measured at 64
+ * levels, the deepest that a record can be, delete takes 61,900 bytes at the most, strip 33,100 and each of the others 20,000, with
+ * the same figures for their previews; a flight edit takes 20,000 too, since it edits no record of more than 8 levels
  * (tests/c/stack.c).
  *
  * A record, a path, a text, that of a JSON Pointer too, and a buffer are each a C pointer and a length in bytes. What the caller owes:
@@ -21,14 +23,14 @@
  * An answer is one number:
  *
  *   below JSONB_ABSENT      done. It is the length of the result, which fills that many first bytes of the buffer; the bytes
- *                           behind them are unchanged. No result is longer than JSONB_ROOM. The check and the text check have
- *                           no result and no buffer: they answer JSONB_READABLE, and the number of code points. A preview has
- *                           no buffer either: it answers the length that the result would have.
+ *                           behind them are unchanged. No result is longer than JSONB_ROOM. The checks have no result and no
+ *                           buffer: they answer JSONB_READABLE, that of a text the number of code points. A preview has no
+ *                           buffer either: it answers the length that the result would have.
  *   JSONB_ABSENT            the path or the JSON Pointer finds nothing. No byte is changed.
  *   above JSONB_ABSENT      refused, with one of the numbers below. No byte is changed.
  *
  * Of several faults the first in this order is told: that of the first record, that of the second, that of the path or of the
- * JSON Pointer (6, 11), 7, an absence, 8, 9, 10.
+ * JSON Pointer (6, 11), 12 of a record, 7, an absence, 8, 9, 12 of a result, 10.
  */
 #ifndef JSONB_H
 #define JSONB_H
@@ -49,7 +51,7 @@ extern "C" {
 #define JSONB_READABLE UINT64_C(0)
 #define JSONB_ABSENT UINT64_C(0x100000000)
 
-/* The answer that has a number; and the number of an answer that is no length, 1 to 11 of a refusal and 0 of an absence. */
+/* The answer that has a number; and the number of an answer that is no length, a refusal's own and 0 of an absence. */
 #define JSONB_REFUSED(number) (JSONB_ABSENT + (number))
 #define JSONB_NUMBER_OF(answer) ((int)((answer) - JSONB_ABSENT))
 
@@ -73,6 +75,8 @@ extern "C" {
  *   10  the lender of the buffer       it is shorter than the result
  *   11  the writer of a JSON Pointer   the text is not UTF-8, is not empty and does not start with a slash, or has a ~ that is not
  *                                      followed by 0 or 1
+ *   12  the sender of a record         the flight check, a flight edit: the record is readable and is no flight record
+ *       the author of an edit          a flight concat: the result would be no flight record
  */
 #define JSONB_SHORT JSONB_REFUSED(1)
 #define JSONB_LAYOUT JSONB_REFUSED(2)
@@ -85,6 +89,7 @@ extern "C" {
 #define JSONB_RESULT JSONB_REFUSED(9)
 #define JSONB_BUFFER JSONB_REFUSED(10)
 #define JSONB_POINTER JSONB_REFUSED(11)
+#define JSONB_PROFILE JSONB_REFUSED(12)
 
 /* Checks a record: JSONB_READABLE, or refused with 1 to 5. The edits check their records too. */
 uint64_t jsonb_check(const uint8_t *record, size_t record_length);
@@ -169,6 +174,31 @@ uint64_t jsonb_preview_append(const uint8_t *array, size_t array_length, const u
 
 /* Of jsonb_build_object: 1 to 5, and 7 to 9. */
 uint64_t jsonb_preview_build(const uint8_t *names, size_t names_length, const uint8_t *values, size_t values_length);
+
+/*
+ * Flight records: the board's loader takes less than the layout allows. In a flight record the names of every object rise strictly in
+ * byte order and have 1 to 32 characters each, that is code points; it is at most 8 levels deep, of which a scalar has none; and it
+ * holds no extension, float, decimal, NaN or infinity. The edits below take flight records and give flight records: a result has the
+ * bytes that the plain edit gives. The numbers that there are stand beside each, in their order; there is no absence.
+ */
+
+/* Checks a record for the loader: JSONB_READABLE where it is a flight record, or refused with 1 to 5, and then 12. */
+uint64_t jsonb_flight_check(const uint8_t *record, size_t record_length);
+
+/* As jsonb_delete_by_keypath: 1 to 5, 6, 12 where the record is no flight record, 7, 10. What is left of a flight record is one. */
+uint64_t jsonb_flight_delete(const uint8_t *target, size_t target_length, const uint8_t *path, size_t path_length,
+                             uint8_t *out, size_t out_length);
+
+/*
+ * As jsonb_concat: 1 to 5 of the left record, 1 to 5 of the right one, 12 where either is no flight record, 9, 12 where the result
+ * would be none, 10. A result can only be too deep: an object of 8 levels beside a record that is no object becomes an item, which is
+ * one level deeper.
+ */
+uint64_t jsonb_flight_concat(const uint8_t *left, size_t left_length, const uint8_t *right, size_t right_length,
+                             uint8_t *out, size_t out_length);
+
+/* As jsonb_strip_nulls: 1 to 5, 12 where the record is no flight record, 10. What is left of a flight record is one. */
+uint64_t jsonb_flight_strip(const uint8_t *target, size_t target_length, uint8_t *out, size_t out_length);
 
 /*
  * For example, the heater's limit of a table {"heater":40} (examples/c/overlay.c has more). Buffers of this length stand beside the

@@ -8,7 +8,7 @@
 /// A buffer of this length serves every call: no result is longer.
 pub const ROOM: usize = 65_536;
 
-/// Why a call was refused: the eleven numbers, and who can cause each.
+/// Why a call was refused: a number, and who can cause it.
 #[derive(Clone, Copy, PartialEq, Eq, Debug)]
 pub enum Refusal {
     /// The sender of a record: it is cut short.
@@ -33,9 +33,12 @@ pub enum Refusal {
     Buffer = 10,
     /// The writer of a pointer: it is not empty and does not start with a slash, or has a `~` not followed by 0 or 1.
     Pointer = 11,
+    /// The sender of a record: it is readable and no flight record. The author of an edit: the result would be none. See [`flight`].
+    Profile = 12,
 }
 
-const REFUSALS: [Refusal; 11] = [
+/// By their numbers, from 1 on.
+const REFUSALS: &[Refusal] = &[
     Refusal::Short,
     Refusal::Layout,
     Refusal::Text,
@@ -47,6 +50,7 @@ const REFUSALS: [Refusal; 11] = [
     Refusal::Result,
     Refusal::Buffer,
     Refusal::Pointer,
+    Refusal::Profile,
 ];
 
 impl Refusal {
@@ -69,6 +73,7 @@ impl std::fmt::Display for Refusal {
             Refusal::Result => "result too long or deep",
             Refusal::Buffer => "buffer too short",
             Refusal::Pointer => "pointer",
+            Refusal::Profile => "outside the flight profile",
         };
         write!(f, "{} {}", self.number(), words)
     }
@@ -81,8 +86,16 @@ mod c {
     extern "C" {
         pub fn jsonb_check(record: *const u8, record_length: usize) -> u64;
         pub fn jsonb_check_text(text: *const u8, text_length: usize) -> u64;
+        pub fn jsonb_flight_check(record: *const u8, record_length: usize) -> u64;
         pub fn jsonb_strip_nulls(target: *const u8, target_length: usize, out: *mut u8, out_length: usize) -> u64;
+        pub fn jsonb_flight_strip(target: *const u8, target_length: usize, out: *mut u8, out_length: usize) -> u64;
     }
+
+    /// A check takes a record.
+    pub type Check = unsafe extern "C" fn(*const u8, usize) -> u64;
+
+    /// Strip takes a record and a buffer.
+    pub type Strip = unsafe extern "C" fn(*const u8, usize, *mut u8, usize) -> u64;
 
     /// The other edits take two records, or a record and a path or a pointer, and a buffer.
     pub type Edit = unsafe extern "C" fn(*const u8, usize, *const u8, usize, *mut u8, usize) -> u64;
@@ -96,7 +109,10 @@ mod c {
         };
     }
 
-    edits! { jsonb_get_by_keypath jsonb_get_by_pointer jsonb_delete_by_keypath jsonb_concat jsonb_append jsonb_build_object }
+    edits! {
+        jsonb_get_by_keypath jsonb_get_by_pointer jsonb_delete_by_keypath jsonb_concat jsonb_append jsonb_build_object
+        jsonb_flight_delete jsonb_flight_concat
+    }
 
     extern "C" {
         pub fn jsonb_preview_delete(target: *const u8, target_length: usize, path: *const u8, path_length: usize) -> u64;
@@ -141,9 +157,20 @@ fn edit_always<'a>(call: c::Edit, first: &[u8], second: &[u8], out: &'a mut [u8]
     Ok(edit(call, first, second, out)?.expect("only a look-up has an absence"))
 }
 
+/// An edit of one record, which has no absence.
+fn edit_one<'a>(call: c::Strip, target: &[u8], out: &'a mut [u8]) -> Result<&'a [u8], Refusal> {
+    let answer = unsafe { call(target.as_ptr(), target.len(), out.as_mut_ptr(), out.len()) };
+    Ok(&out[..told(answer)?])
+}
+
+/// A check of one record.
+fn pass(call: c::Check, record: &[u8]) -> Result<(), Refusal> {
+    ending(unsafe { call(record.as_ptr(), record.len()) }).map(|_| ())
+}
+
 /// Whether a record is readable, or why it is not.
 pub fn check(record: &[u8]) -> Result<(), Refusal> {
-    ending(unsafe { c::jsonb_check(record.as_ptr(), record.len()) }).map(|_| ())
+    pass(c::jsonb_check, record)
 }
 
 /// The number of code points of a text by RFC 3629, or [`Refusal::Text`] where the bytes are not UTF-8. A text of 2^32 − 1 code
@@ -178,8 +205,7 @@ pub fn concat<'a>(left: &[u8], right: &[u8], out: &'a mut [u8]) -> Result<&'a [u
 
 /// The record without the members whose value is null, at every level.
 pub fn strip_nulls<'a>(target: &[u8], out: &'a mut [u8]) -> Result<&'a [u8], Refusal> {
-    let answer = unsafe { c::jsonb_strip_nulls(target.as_ptr(), target.len(), out.as_mut_ptr(), out.len()) };
-    Ok(&out[..told(answer)?])
+    edit_one(c::jsonb_strip_nulls, target, out)
 }
 
 /// The array with the record as one more item.
@@ -220,4 +246,32 @@ pub fn preview_append(array: &[u8], item: &[u8]) -> Result<usize, Refusal> {
 /// The same of [`build_object`].
 pub fn preview_build(names: &[u8], values: &[u8]) -> Result<usize, Refusal> {
     preview(c::jsonb_preview_build, names, values)
+}
+
+/// Flight records, which are what the board's loader takes: at most 8 levels deep, with names that rise and have 1 to 32 characters,
+/// and without extensions, floats, decimals, NaN and infinities. The edits take flight records and give flight records, with the bytes
+/// of the plain edits; what is readable and no flight record is [`Refusal::Profile`].
+pub mod flight {
+    use super::{c, edit_always, edit_one, pass, Refusal};
+
+    /// Whether a record is a flight record, or why it is not.
+    pub fn check(record: &[u8]) -> Result<(), Refusal> {
+        pass(c::jsonb_flight_check, record)
+    }
+
+    /// [`delete_by_keypath`](super::delete_by_keypath) of a flight record.
+    pub fn delete<'a>(target: &[u8], path: &[u8], out: &'a mut [u8]) -> Result<&'a [u8], Refusal> {
+        edit_always(c::jsonb_flight_delete, target, path, out)
+    }
+
+    /// [`concat`](super::concat) of two flight records. The result is no flight record, so that this is refused, where an object of 8
+    /// levels stands beside a record that is no object.
+    pub fn concat<'a>(left: &[u8], right: &[u8], out: &'a mut [u8]) -> Result<&'a [u8], Refusal> {
+        edit_always(c::jsonb_flight_concat, left, right, out)
+    }
+
+    /// [`strip_nulls`](super::strip_nulls) of a flight record.
+    pub fn strip<'a>(target: &[u8], out: &'a mut [u8]) -> Result<&'a [u8], Refusal> {
+        edit_one(c::jsonb_flight_strip, target, out)
+    }
 }

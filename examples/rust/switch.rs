@@ -42,7 +42,8 @@ fn names(texts: &[&str]) -> Vec<u8> {
     record
 }
 
-/// The table with the member of a name overlaid; where the table has no such member, the overlay becomes it.
+/// The table with the member of a name overlaid; where the table has no such member, the overlay becomes it. A table that the board's
+/// loader would not take is refused here, before it goes up.
 fn overlay_member(table: &[u8], name: &str, overlay: &[u8]) -> Result<Vec<u8>, Refusal> {
     let mut room = [0; jsonb::ROOM];
     let member = match jsonb::get_by_keypath(table, &names(&[name]), &mut room)? {
@@ -54,7 +55,9 @@ fn overlay_member(table: &[u8], name: &str, overlay: &[u8]) -> Result<Vec<u8>, R
     };
     let values = jsonb::append(&from_hex(EMPTY_ARRAY), &member, &mut room)?.to_vec();
     let whole = jsonb::build_object(&names(&[name]), &values, &mut room)?.to_vec();
-    Ok(jsonb::concat(table, &whole, &mut room)?.to_vec())
+    let table = jsonb::concat(table, &whole, &mut room)?.to_vec();
+    jsonb::flight::check(&table)?;
+    Ok(table)
 }
 
 fn show(table: &[u8], pointer: &str) {

@@ -1,7 +1,7 @@
 /*
  * The functions of include/jsonb.h as a C program calls them, on the worked bytes of document 01 and on the limits that it names,
- * and on the pointers, the texts and the previews of document 02 §1 to §3. The expectations are taken from these documents by hand.
- * A line is printed for each that does not hold, and at the end how many did.
+ * and on the pointers, the texts, the previews and the flight records of document 02 §1, §2, §3 and §5. The expectations are taken
+ * from these documents by hand. A line is printed for each that does not hold, and at the end how many did.
  */
 #include <stdint.h>
 #include <stdio.h>
@@ -39,6 +39,10 @@
 #define INDEX_LAST "80000001 20000002 40FF"
 #define INDEX_BEFORE "80000001 20000002 40FE"
 #define NO_STEPS "80000000"
+
+/* So many times the same bytes. */
+#define TIMES_8(bytes) bytes bytes bytes bytes bytes bytes bytes bytes
+#define TIMES_32(bytes) TIMES_8(bytes) TIMES_8(bytes) TIMES_8(bytes) TIMES_8(bytes)
 
 /* A text as bytes: those before its last 0, so that a 0 may stand among them. */
 #define TEXT(text) (text), sizeof(text) - 1
@@ -102,19 +106,21 @@ static void wrap_in_arrays(uint32_t arrays, Record *record) {
     }
 }
 
-/* Puts a container into so many objects, one in another, as the value of an empty name. */
-static void wrap_in_objects(uint32_t objects, Record *record) {
+/* Puts a container into so many objects, one in another, as the value of a name. */
+static void wrap_in_objects(uint32_t objects, const char *name, Record *record) {
+    size_t length = strlen(name);
     uint32_t i;
     for (i = 0; i < objects; i++) {
-        memmove(record->bytes + 12, record->bytes, record->length);
+        memmove(record->bytes + 12 + length, record->bytes, record->length);
         store(record->bytes, 0x40000001);
-        store(record->bytes + 4, 0x10000000);
+        store(record->bytes + 4, 0x10000000 + (uint32_t)length);
         store(record->bytes + 8, 0x50000000 + (uint32_t)record->length);
-        record->length += 12;
+        memcpy(record->bytes + 12, name, length);
+        record->length += 12 + length;
     }
 }
 
-/* So many arrays, one in another, the innermost of them empty; and so many objects. */
+/* So many arrays, one in another, the innermost of them empty; so many objects; and so many whose names a flight record may have. */
 static void nest(uint32_t arrays, Record *record) {
     spell(EMPTY_ARRAY, record);
     wrap_in_arrays(arrays - 1, record);
@@ -122,7 +128,12 @@ static void nest(uint32_t arrays, Record *record) {
 
 static void nest_objects(uint32_t objects, Record *record) {
     spell(EMPTY_OBJECT, record);
-    wrap_in_objects(objects - 1, record);
+    wrap_in_objects(objects - 1, "", record);
+}
+
+static void nest_flights(uint32_t objects, Record *record) {
+    spell(EMPTY_OBJECT, record);
+    wrap_in_objects(objects - 1, "a", record);
 }
 
 /* A path of so many steps, each the index 0. */
@@ -291,6 +302,7 @@ static void test_numbers(void) {
     expect(JSONB_NUMBER_OF(JSONB_RESULT) == 9, "result too long or deep", "its number");
     expect(JSONB_NUMBER_OF(JSONB_BUFFER) == 10, "buffer too short", "its number");
     expect(JSONB_NUMBER_OF(JSONB_POINTER) == 11, "pointer", "its number");
+    expect(JSONB_NUMBER_OF(JSONB_PROFILE) == 12, "outside the flight profile", "its number");
 }
 
 static void test_check(void) {
@@ -774,8 +786,8 @@ static void test_strip(void) {
     gives("strip [D]", strip, "80000001 50000016 " D, "", "80000001 5000000D " TRUE_A);
     spell(NULL_A, &left_record);
     spell(EMPTY_OBJECT, &wanted);
-    wrap_in_objects(63, &left_record);
-    wrap_in_objects(63, &wanted);
+    wrap_in_objects(63, "", &left_record);
+    wrap_in_objects(63, "", &wanted);
     gives_made("strip a null at depth 64", strip);
     spell(NULL_A, &left_record);
     spell(EMPTY_OBJECT, &wanted);
@@ -783,7 +795,7 @@ static void test_strip(void) {
     wrap_in_arrays(63, &wanted);
     gives_made("strip a null in 63 arrays", strip);
     spell("40000002 10000001 10000001 40000000 40000000 61 61", &left_record);
-    wrap_in_objects(63, &left_record);
+    wrap_in_objects(63, "", &left_record);
     ends_made("strip: 8 at depth 64", strip, JSONB_REPEATED);
     extend(65536, &left_record);
     extend(65536, &wanted);
@@ -835,6 +847,215 @@ static void test_build(void) {
     ends("build of damaged values", jsonb_build_object, A, "400000", JSONB_SHORT);
 }
 
+/* ---- flight records */
+
+/* "At most 8 deep". */
+#define LEVELS 8
+
+/* So many bytes stand before the value of an object's one member, whose name has one byte. */
+#define OBJECT_FRONT 13
+
+static const char *const flights[] = {
+    A,
+    A_AND_TRUE_B,
+    EMPTY_OBJECT,
+    TWO_NULLS,
+    EMPTY_ARRAY,
+    ROOT_NULL,
+    ROOT_STRING,
+    /* A string, which unlike a name may be empty. */
+    "20000000 10000000",
+    /* Integers: 0, and of each width without a sign and with one. */
+    "80000009 20000001 20000002 20000003 20000005 20000009 20000002 20000003 20000005 20000009"
+    " 00 5001 500100 5000010000 500000000100000000 40FF 40FF00 40FFFF0000 40FFFFFFFF00000000",
+    /* Names of 32 characters, of one byte, of two and of four. */
+    "40000001 10000020 00000000" TIMES_32(" 61"),
+    "40000001 10000040 00000000" TIMES_32(" C3A9"),
+    "40000001 10000080 00000000" TIMES_32(" F09F9A80"),
+};
+
+/* Readable records that are none, for each cause. */
+static const char *const no_flights[] = {
+    /* Not sound: a repeated name, names that fall, and one of these inside another record. */
+    D,
+    "40000002 10000001 10000001 00000000 00000000 62 61",
+    "80000001 50000016 " D,
+    "40000001 10000001 50000016 61 " D,
+    /* Names of no character and of 33, of one byte and of two; and a name below an array. */
+    "40000001 10000000 00000000",
+    "40000001 10000021 00000000 61" TIMES_32(" 61"),
+    "40000001 10000042 00000000 C3A9" TIMES_32(" C3A9"),
+    "80000001 5000000C 40000001 10000000 00000000",
+    /* NaN, the infinities, a float, and a decimal of each width. */
+    "20000000 20000001 10",
+    "20000000 20000001 20",
+    "20000000 20000001 30",
+    "20000000 20000009 603FF8000000000000",
+    "20000000 2000000A 70" TIMES_8(" 01") " 02",
+    "20000000 20000012 70" TIMES_8(" 01") TIMES_8(" 01") " 02",
+    "20000000 20000022 70" TIMES_32(" 01") " 02",
+    "80000002 00000000 20000001 10",
+    "40000001 10000001 50000009 61 80000001 20000001 10",
+    /* Extensions. */
+    ROOT_EXTENSION,
+    "80000001 60000000",
+    "40000001 10000001 60000001 61 AB",
+};
+
+#define FLIGHTS (sizeof flights / sizeof flights[0])
+#define NO_FLIGHTS (sizeof no_flights / sizeof no_flights[0])
+
+static void flies_made(const char *what, uint64_t answer) {
+    expect(jsonb_flight_check(left_record.bytes, left_record.length) == answer, what, "the flight check");
+}
+
+static void flies(const char *record, uint64_t answer) {
+    spell(record, &left_record);
+    flies_made(record, answer);
+}
+
+static void test_flight_check(void) {
+    size_t i;
+    for (i = 0; i < FLIGHTS; i++) {
+        flies(flights[i], JSONB_READABLE);
+    }
+    for (i = 0; i < NO_FLIGHTS; i++) {
+        checks(no_flights[i], JSONB_READABLE);
+        flies(no_flights[i], JSONB_PROFILE);
+    }
+    for (i = 0; i < sizeof damaged / sizeof damaged[0]; i++) {
+        flies(damaged[i].record, damaged[i].answer);
+    }
+    flies("80000002 20000001 20000001 10 01", JSONB_NUMBER);
+    flies("80000002 20000001 10000001 10 FF", JSONB_TEXT);
+    nest(LEVELS, &left_record);
+    flies_made("8 arrays", JSONB_READABLE);
+    nest_flights(LEVELS, &left_record);
+    flies_made("8 objects", JSONB_READABLE);
+    nest(LEVELS + 1, &left_record);
+    flies_made("9 arrays", JSONB_PROFILE);
+    nest_flights(LEVELS + 1, &left_record);
+    flies_made("9 objects", JSONB_PROFILE);
+    nest(64, &left_record);
+    flies_made("64 arrays", JSONB_PROFILE);
+    nest(65, &left_record);
+    flies_made("65 arrays", JSONB_LIMIT);
+    long_name(65536, &left_record);
+    flies_made("a string to 65,536 bytes", JSONB_READABLE);
+    extend(65537, &left_record);
+    flies_made("65,537 bytes", JSONB_LIMIT);
+}
+
+/* Flight strip as a call of two records. */
+static uint64_t flight_strip(const uint8_t *left, size_t left_length, const uint8_t *right, size_t right_length, uint8_t *out,
+                             size_t out_length) {
+    (void)right;
+    (void)right_length;
+    return jsonb_flight_strip(left, left_length, out, out_length);
+}
+
+/* "An input's stands after 6 and before 7": behind a damaged record on either side, before 10. */
+static void test_no_flights(void) {
+    size_t i;
+    for (i = 0; i < NO_FLIGHTS; i++) {
+        const char *record = no_flights[i];
+        ends("flight delete in no flight record", jsonb_flight_delete, record, NAME_A, JSONB_PROFILE);
+        ends("flight delete in none, with an empty path", jsonb_flight_delete, record, NO_STEPS, JSONB_PROFILE);
+        ends("flight delete in none, by a path that is no array", jsonb_flight_delete, record, A, JSONB_PATH);
+        ends("flight delete in none, by a damaged path", jsonb_flight_delete, record, "400000", JSONB_PATH);
+        ends("flight concat, none on the left", jsonb_flight_concat, record, A, JSONB_PROFILE);
+        ends("flight concat, none on the right", jsonb_flight_concat, A, record, JSONB_PROFILE);
+        ends("flight concat, none on both sides", jsonb_flight_concat, record, record, JSONB_PROFILE);
+        ends("flight concat, none and a damaged one", jsonb_flight_concat, record, "400000", JSONB_SHORT);
+        ends("flight concat, a damaged one and none", jsonb_flight_concat, "400000", record, JSONB_SHORT);
+        ends("flight strip of none", flight_strip, record, "", JSONB_PROFILE);
+    }
+}
+
+static void test_flight_delete(void) {
+    Edit *delete = jsonb_flight_delete;
+    refuses("flight delete in a damaged record or by a damaged path", delete, 1);
+    gives("flight delete index 0", delete, NULLS, INDEX_0, EMPTY_ARRAY);
+    gives("flight delete \"a\" of A", delete, A, NAME_A, EMPTY_OBJECT);
+    gives("flight delete \"b\" of A, which it has not", delete, A, NAME_B, A);
+    gives("flight delete with an empty path", delete, A, NO_STEPS, A);
+    gives("flight delete in a nested array", delete, "80000001 50000008 80000001 00000000", "80000002 20000001 20000001 00 00",
+          "80000001 50000004 80000000");
+    ends("flight delete in a root null", delete, ROOT_NULL, INDEX_0, JSONB_KIND);
+    ends("flight delete in a root null, by a path that is no array", delete, ROOT_NULL, A, JSONB_PATH);
+    nest(LEVELS, &left_record);
+    descend(LEVELS - 1, &right_record);
+    nest(LEVELS - 1, &wanted);
+    gives_made("flight delete at depth 8", delete);
+    fill("40000001 10000001 10000000 61", 8, 65536, &left_record);
+    spell(NAME_A, &right_record);
+    spell(EMPTY_OBJECT, &wanted);
+    gives_made("flight delete in a record of 65,536 bytes", delete);
+}
+
+/* A flight object of 8 levels and of a length: a long string in an array in seven objects. */
+static void nest_long(size_t length, Record *record) {
+    long_name(length - (LEVELS - 1) * OBJECT_FRONT, record);
+    wrap_in_objects(LEVELS - 1, "a", record);
+}
+
+static void test_flight_concat(void) {
+    Edit *concat = jsonb_flight_concat;
+    refuses("flight concat of a damaged record", concat, 0);
+    gives("flight concat A, {\"b\":true}", concat, A, TRUE_B, A_AND_TRUE_B);
+    gives("flight concat A, {\"a\":true}: a name on both sides", concat, A, TRUE_A, TRUE_A);
+    gives("flight concat A, {\"a\":null}: a null overlays too", concat, A, NULL_A, NULL_A);
+    gives("flight concat root null, root null", concat, ROOT_NULL, ROOT_NULL, TWO_NULLS);
+    gives("flight concat [null], [null]", concat, NULLS, NULLS, TWO_NULLS);
+    gives("flight concat A, []", concat, A, EMPTY_ARRAY, "80000001 5000000F " A);
+    gives("flight concat null, A", concat, ROOT_NULL, A, "80000002 00000000 5000000F " A);
+    /* Arrays, and two objects, keep their depth; an object beside what is none is one deeper. */
+    nest(LEVELS, &left_record);
+    spell(EMPTY_ARRAY, &right_record);
+    nest(LEVELS, &wanted);
+    gives_made("flight concat 8 arrays, []", concat);
+    nest_flights(LEVELS, &left_record);
+    nest_flights(LEVELS, &right_record);
+    nest_flights(LEVELS, &wanted);
+    gives_made("flight concat 8 objects, 8 objects", concat);
+    nest_flights(LEVELS - 1, &left_record);
+    spell(EMPTY_ARRAY, &right_record);
+    nest_flights(LEVELS - 1, &wanted);
+    wrap_in_arrays(1, &wanted);
+    gives_made("flight concat 7 objects, []", concat);
+    nest_flights(LEVELS, &left_record);
+    ends_made("flight concat 8 objects, []", concat, JSONB_PROFILE);
+    spell(ROOT_NULL, &right_record);
+    ends_made("flight concat 8 objects, null", concat, JSONB_PROFILE);
+    nest_flights(LEVELS, &right_record);
+    spell(ROOT_NULL, &left_record);
+    ends_made("flight concat null, 8 objects", concat, JSONB_PROFILE);
+    nest(LEVELS, &left_record);
+    ends_made("flight concat 8 arrays, 8 objects", concat, JSONB_PROFILE);
+    /* "A result's after 9": null behind the object takes 12 bytes more. */
+    spell(ROOT_NULL, &right_record);
+    nest_long(65524, &left_record);
+    ends_made("flight concat to 65,536 bytes, too deep", concat, JSONB_PROFILE);
+    nest_long(65525, &left_record);
+    ends_made("flight concat to 65,537 bytes, too deep", concat, JSONB_RESULT);
+}
+
+static void test_flight_strip(void) {
+    Edit *strip = flight_strip;
+    refuses_one("flight strip of a damaged record", strip);
+    gives("flight strip A", strip, A, "", A);
+    gives("flight strip {\"a\":null}", strip, NULL_A, "", EMPTY_OBJECT);
+    gives("flight strip [null]", strip, NULLS, "", NULLS);
+    gives("flight strip a root null", strip, ROOT_NULL, "", ROOT_NULL);
+    gives("flight strip {\"a\":{\"a\":1,\"b\":null}}", strip,
+          "40000001 10000001 50000018 61 40000002 10000001 10000001 20000002 00000000 61 62 5001", "",
+          "40000001 10000001 5000000F 61 " A);
+    spell(NULL_A, &left_record);
+    wrap_in_objects(LEVELS - 1, "a", &left_record);
+    nest_flights(LEVELS, &wanted);
+    gives_made("flight strip a null at depth 8", strip);
+}
+
 /*
  * Records and paths may be the same bytes: [0] looked up by itself, whose one step is the index 0, appended to itself and put
  * behind itself. A pointer may stand in its record: the name "/a" of {"/a":true,"a":1}.
@@ -877,6 +1098,11 @@ int main(void) {
     test_strip();
     test_append();
     test_build();
+    test_flight_check();
+    test_no_flights();
+    test_flight_delete();
+    test_flight_concat();
+    test_flight_strip();
     test_same_bytes();
     test_previews();
     printf("%d right, %d wrong\n", right, wrong);

@@ -1,7 +1,8 @@
 /*
  * The stack that the functions of include/jsonb.h take: no more than the header says, on records of 64 levels, the deepest there
- * are. A call runs on a thread whose stack is painted beforehand; what is painted over, less what a thread that calls nothing
- * paints over, is the call's. The most of each function is printed, and the program fails where it is above the header's figure.
+ * are, and of 8, the deepest that a flight edit takes. A call runs on a thread whose stack is painted beforehand; what is painted
+ * over, less what a thread that calls nothing paints over, is the call's. The most of each function is printed, and the program
+ * fails where it is above the header's figure.
  */
 #define _XOPEN_SOURCE 700
 
@@ -14,6 +15,7 @@
 #include "jsonb.h"
 
 #define LEVELS 64
+#define FLIGHT_LEVELS 8
 #define PAINT 0xA5
 #define STACK (256 * 1024)
 
@@ -35,6 +37,9 @@ static size_t record_length, path_length, pointer_length, out_length;
  * one of whose names is not ASCII. The item at index 0 or 1, or the member "k", holds the level below.
  */
 static const char kinds[] = "asrue";
+
+/* Those of them that a flight record has: in the others names do not rise. */
+static const char flight_kinds[] = "asr";
 
 static void put_word(uint8_t *to, uint32_t word) {
     to[0] = (uint8_t)(word >> 24);
@@ -88,17 +93,17 @@ static void put_level(char kind, uint32_t code) {
     }
 }
 
-/* All levels of one kind but the innermost, of another, around a text; and the path and the pointer that lead to it. */
-static void make(char outer, char inner, const char *text) {
+/* So many levels, all of one kind but the innermost, of another, around a text; and the path and the pointer that lead to it. */
+static void make(int levels, char outer, char inner, const char *text) {
     int level;
     record_length = strlen(text);
     memcpy(record, text, record_length);
     put_level(inner, 1);
-    put_word(path, 0x80000000u | LEVELS);
-    path_length = 4 + 4 * LEVELS;
-    pointer_length = 2 * LEVELS;
-    for (level = 0; level < LEVELS; level++) {
-        char kind = level + 1 == LEVELS ? inner : outer;
+    put_word(path, 0x80000000u | (uint32_t)levels);
+    path_length = 4 + 4 * (size_t)levels;
+    pointer_length = 2 * (size_t)levels;
+    for (level = 0; level < levels; level++) {
+        char kind = level + 1 == levels ? inner : outer;
         int is_name = kind != 'a' && kind != 's';
         const char *step = is_name ? "k" : kind == 'a' ? "\0" : "\x50\1";
         size_t length = kind == 's' ? 2 : 1;
@@ -108,7 +113,7 @@ static void make(char outer, char inner, const char *text) {
         pointer[2 * level] = '/';
         pointer[2 * level + 1] = is_name ? 'k' : kind == 'a' ? '0' : '1';
     }
-    for (level = 1; level < LEVELS; level++) {
+    for (level = 1; level < levels; level++) {
         put_level(outer, 5);
     }
 }
@@ -130,6 +135,11 @@ static void preview_concat(void) { jsonb_preview_concat(record, record_length, r
 static void preview_strip(void) { jsonb_preview_strip(record, record_length); }
 static void preview_append(void) { jsonb_preview_append(path, path_length, record, record_length); }
 static void preview_build(void) { jsonb_preview_build(record, record_length, record, record_length); }
+static void flight_check(void) { jsonb_flight_check(record, record_length); }
+static void flight_delete(void) { jsonb_flight_delete(record, record_length, path, path_length, out, out_length); }
+static void flight_concat(void) { jsonb_flight_concat(record, record_length, record, record_length, out, out_length); }
+static void flight_join(void) { jsonb_flight_concat(record, record_length, path, path_length, out, out_length); }
+static void flight_strip(void) { jsonb_flight_strip(record, record_length, out, out_length); }
 
 typedef struct {
     const char *name;
@@ -153,6 +163,11 @@ static Function functions[] = {
     {"preview of strip", preview_strip, STRIP_MOST, 0},
     {"preview of append", preview_append, OTHERS_MOST, 0},
     {"preview of build", preview_build, OTHERS_MOST, 0},
+    {"flight check", flight_check, OTHERS_MOST, 0},
+    {"flight delete", flight_delete, OTHERS_MOST, 0},
+    {"flight concat", flight_concat, OTHERS_MOST, 0},
+    {"flight concat with an array", flight_join, OTHERS_MOST, 0},
+    {"flight strip", flight_strip, OTHERS_MOST, 0},
 };
 
 #define FUNCTIONS (sizeof functions / sizeof functions[0])
@@ -198,6 +213,34 @@ static void measure(size_t start) {
     }
 }
 
+/* The calls on records of so many levels, and on the same with a text that is none. Gives how many are not what they should be. */
+static int run_all(int levels, char outer, char inner, size_t start) {
+    int is_flight = levels <= FLIGHT_LEVELS && strchr(flight_kinds, outer) && strchr(flight_kinds, inner);
+    int wrong = 0;
+    make(levels, outer, inner, "\xc3\xa9");
+    if (jsonb_check(record, record_length) != JSONB_READABLE) {
+        printf("wrong: a record of %d levels that is made here is not readable\n", levels);
+        wrong++;
+    }
+    if (jsonb_flight_check(record, record_length) != (is_flight ? JSONB_READABLE : JSONB_PROFILE)) {
+        printf("wrong: a record of %d levels that is made here is %s flight record\n", levels, is_flight ? "no" : "a");
+        wrong++;
+    }
+    out_length = JSONB_ROOM;
+    if (jsonb_get_by_keypath(record, record_length, path, path_length, out, out_length) != 10) {
+        printf("wrong: a path that is made here does not lead to the innermost text\n");
+        wrong++;
+    }
+    if (jsonb_get_by_pointer(record, record_length, pointer, pointer_length, out, out_length) != 10) {
+        printf("wrong: a pointer that is made here does not lead to the innermost text\n");
+        wrong++;
+    }
+    measure(start);
+    make(levels, outer, inner, "\xff");
+    measure(start);
+    return wrong;
+}
+
 int main(void) {
     size_t start = painted(nothing);
     int wrong = 0;
@@ -205,23 +248,8 @@ int main(void) {
     const char *outer, *inner;
     for (outer = kinds; *outer; outer++) {
         for (inner = kinds; *inner; inner++) {
-            make(*outer, *inner, "\xc3\xa9");
-            if (jsonb_check(record, record_length) != JSONB_READABLE) {
-                printf("wrong: a record of %d levels that is made here is not readable\n", LEVELS);
-                wrong++;
-            }
-            out_length = JSONB_ROOM;
-            if (jsonb_get_by_keypath(record, record_length, path, path_length, out, out_length) != 10) {
-                printf("wrong: a path that is made here does not lead to the innermost text\n");
-                wrong++;
-            }
-            if (jsonb_get_by_pointer(record, record_length, pointer, pointer_length, out, out_length) != 10) {
-                printf("wrong: a pointer that is made here does not lead to the innermost text\n");
-                wrong++;
-            }
-            measure(start);
-            make(*outer, *inner, "\xff");
-            measure(start);
+            wrong += run_all(LEVELS, *outer, *inner, start);
+            wrong += run_all(FLIGHT_LEVELS, *outer, *inner, start);
         }
     }
     for (i = 0; i < FUNCTIONS; i++) {

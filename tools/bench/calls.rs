@@ -1,6 +1,7 @@
 // One call, to the port and to the client's Rust.
 use jsonb::{Answer, Edit, Error, KeyPath};
 
+use crate::flights::flight_of;
 use crate::pointers::pointer_of;
 use crate::port;
 use crate::port::Refusal;
@@ -34,6 +35,11 @@ impl Call {
     /// What the preview of an edit tells, where it has one.
     pub fn ask_preview(&self) -> Option<Result<usize, Refusal>> {
         preview_of(self.edit, &self.first, &self.second)
+    }
+
+    /// What the flight edit gives; an absence where the edit has none.
+    pub fn ask_flight<'a>(&self, out: &'a mut [u8]) -> Result<Option<&'a [u8]>, Refusal> {
+        flight_of(self.edit, &self.first, &self.second, out)
     }
 
     /// The steps of a path are read beforehand: the Rust has no path records.
@@ -73,6 +79,15 @@ impl Call {
         port::check(&self.second)
     }
 
+    /// A check of each record that a flight edit takes; a path is none of them.
+    pub fn check_records(&self, check: fn(&[u8]) -> Result<(), Refusal>) -> Result<(), Refusal> {
+        check(&self.first)?;
+        if self.edit != Edit::Concat {
+            return Ok(());
+        }
+        check(&self.second)
+    }
+
     /// Whether both sides give the same bytes, by a pointer too, and a preview tells how many. A refusal is nothing that is measured,
     /// and none of them.
     pub fn is_same(&self, out: &mut [u8]) -> bool {
@@ -80,6 +95,11 @@ impl Call {
         let by_pointer = self.pointer().map_or(true, |pointer| is_rusts(port::get_by_pointer(&self.first, &pointer, out), &theirs));
         let foretold = self.ask_preview().map_or(true, |told| is_length(told, &theirs));
         by_pointer && foretold && is_rusts(self.ask_port(out), &theirs)
+    }
+
+    /// Whether the flight edit, which must take the records, gives the same bytes too.
+    pub fn is_same_aboard(&self, out: &mut [u8]) -> bool {
+        self.is_same(out) && is_rusts(self.ask_flight(out), &self.ask_rust(&self.steps()))
     }
 }
 

@@ -3,15 +3,20 @@
 //   bench times      the tables of docs/PERFORMANCE.md
 //   bench answers    no times: whether both sides give the same bytes to every call that is measured
 mod calls;
+#[path = "../compare/flights.rs"]
+mod flights;
 #[path = "../compare/pointers.rs"]
 mod pointers;
 #[path = "../../examples/rust/jsonb.rs"]
 mod port;
 #[path = "../compare/previews.rs"]
 mod previews;
+// Shared with the comparison, which uses more of these.
+#[allow(dead_code)]
+#[path = "../compare/reading.rs"]
+mod reading;
 mod tables;
 mod timing;
-// Shared with the comparison, which uses more of it.
 #[allow(dead_code)]
 #[path = "../compare/tree.rs"]
 mod tree;
@@ -22,9 +27,10 @@ use std::process::exit;
 use jsonb::Edit;
 
 use calls::Call;
+use flights::is_flight;
 use tables::{
-    calls_on, calls_on_items, calls_on_members, calls_on_search, count_searched, counted_texts, fallen_tables, look_up_on,
-    sound_tables, texts, Table,
+    calls_on, calls_on_items, calls_on_members, calls_on_search, count_searched, counted_texts, fallen_tables, flight_tables,
+    flights_on, look_up_on, sound_tables, texts, Table,
 };
 use timing::{median, rounds, time};
 use tree::record;
@@ -191,6 +197,67 @@ fn say_previews(tables: &[Table], out: &mut [u8]) {
     }
 }
 
+/// The times of the check and of the flight check.
+fn say_flight_check(name: &str, bytes: &[u8]) {
+    let times = rounds([
+        &mut || port::check(black_box(bytes)).unwrap(),
+        &mut || port::flight::check(black_box(bytes)).unwrap(),
+    ]);
+    let of = |i: usize| median(times.iter().map(|round| round[i] / MICRO));
+    let factor = median(times.iter().map(|round| round[1] / round[0]));
+    println!("| {name} | {} | {:.2} | {:.2} | {factor:.2} |", bytes.len(), of(0), of(1));
+}
+
+/// The times of an edit and of its flight edit, and of both checks of the records that it takes, in which is told how much longer the
+/// flight edit takes.
+fn say_flight(name: &str, word: &str, call: &Call, out: &mut [u8]) {
+    let mut room = vec![0; port::ROOM];
+    let times = rounds([
+        &mut || {
+            let _ = black_box(call.ask_port(black_box(out)));
+        },
+        &mut || {
+            let _ = black_box(call.ask_flight(black_box(&mut room)));
+        },
+        &mut || {
+            let _ = black_box(call.check_records(port::check));
+        },
+        &mut || {
+            let _ = black_box(call.check_records(port::flight::check));
+        },
+    ]);
+    let of = |i: usize| median(times.iter().map(|round| round[i] / MICRO));
+    let longer_by = |i: usize| median(times.iter().map(|round| (round[1] - round[0]) / round[i]));
+    println!(
+        "| {name} | {word} | {:.2} | {:.2} | {:.2} | {:.2} | {:.2} | {:.2} | {:.2} |",
+        of(0),
+        of(1),
+        of(2),
+        of(3),
+        median(times.iter().map(|round| round[1] / round[0])),
+        longer_by(2),
+        longer_by(3),
+    );
+}
+
+fn say_flights(tables: &[Table], out: &mut [u8]) {
+    println!("| record | bytes | check, us | flight check, us | flight check to check |");
+    println!("|---|---:|---:|---:|---:|");
+    for table in tables {
+        say_flight_check(table.name, &record(&table.tree));
+    }
+    println!(
+        "\n| record | call | the edit, us | the flight edit, us | the check of its records | their flight check | flight edit to edit \
+         | longer by, in checks | in flight checks |"
+    );
+    println!("|---|---|---:|---:|---:|---:|---:|---:|---:|");
+    for table in tables {
+        for (word, call) in flights_on(table) {
+            say_flight(table.name, word, &call, out);
+        }
+    }
+}
+
 fn say_factor(what: &str, word: &str, few: &mut dyn FnMut(), many: &mut dyn FnMut()) {
     let times = rounds([few, many]);
     let of = |i: usize| median(times.iter().map(|round| round[i] / MICRO));
@@ -246,6 +313,8 @@ fn say_times(out: &mut [u8]) {
     say_previews(&sound, out);
     println!("\n### Previews where names fall\n");
     say_previews(&fallen_tables(), out);
+    println!("\n### Flight records\n");
+    say_flights(&flight_tables(), out);
     println!("\n### Growth\n");
     println!("| record | call | few, us | many, us | factor |");
     println!("|---|---|---:|---:|---:|");
@@ -270,15 +339,22 @@ fn all_calls() -> Vec<Call> {
     calls
 }
 
-/// Whether the two sides agree on every call: a side that answers something else is not measured.
+/// Whether the two sides agree on every call, and the flight edits with them: a side that answers something else is not measured.
 fn agree(out: &mut [u8]) -> bool {
     let calls = all_calls();
     let mut wrong = 0;
-    for call in &calls {
-        if !call.is_same(out) {
+    let mut hold = |call: &Call, is_same: bool| {
+        if !is_same {
             eprintln!("bench: the answers to {} of {} and {} bytes differ", call.edit.word(), call.first.len(), call.second.len());
             wrong += 1;
         }
+    };
+    for call in &calls {
+        hold(call, call.is_same(out));
+    }
+    let flights: Vec<Call> = flight_tables().iter().flat_map(flights_on).map(|(_, call)| call).collect();
+    for call in &flights {
+        hold(call, is_flight(&call.first) && call.is_same_aboard(out));
     }
     let texts = counted_texts();
     for (name, text) in &texts {
@@ -287,7 +363,7 @@ fn agree(out: &mut [u8]) -> bool {
             wrong += 1;
         }
     }
-    eprintln!("bench: {} calls, {wrong} with answers that differ", calls.len() + texts.len());
+    eprintln!("bench: {} calls, {wrong} with answers that differ", calls.len() + flights.len() + texts.len());
     wrong == 0
 }
 

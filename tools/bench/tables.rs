@@ -15,6 +15,12 @@ pub struct Table {
     pub overlay: Tree,
 }
 
+impl Table {
+    fn changed(self, change: fn(Tree) -> Tree) -> Table {
+        Table { tree: changed(&self.tree, change), overlay: changed(&self.overlay, change), ..self }
+    }
+}
+
 // ---- values
 
 pub fn text(text: &str) -> Tree {
@@ -49,8 +55,13 @@ pub fn int(v: i64) -> Tree {
     Tree::Number(payload)
 }
 
+/// The first bytes of a float and of an unsigned integer.
+const FLOAT: u8 = 0x60;
+
+const UNSIGNED: u8 = 0x50;
+
 fn float(v: f64) -> Tree {
-    let mut payload = vec![0x60];
+    let mut payload = vec![FLOAT];
     payload.extend(v.to_bits().to_be_bytes());
     Tree::Number(payload)
 }
@@ -154,12 +165,31 @@ fn full(make: impl Fn(usize) -> Tree) -> Tree {
     with_text(count, RECORD_LIMIT - record(&with_text(count, 0)).len())
 }
 
-/// The same with the names of every object in falling order.
-fn fallen(tree: &Tree) -> Tree {
-    match tree {
-        Tree::Object(members) => Tree::Object(members.iter().rev().map(|(name, value)| (name.clone(), fallen(value))).collect()),
-        Tree::Array(items) => Tree::Array(items.iter().map(fallen).collect()),
+/// A tree with a change made in it everywhere.
+fn changed(tree: &Tree, change: fn(Tree) -> Tree) -> Tree {
+    change(match tree {
+        Tree::Object(members) => Tree::Object(members.iter().map(|(name, value)| (name.clone(), changed(value, change))).collect()),
+        Tree::Array(items) => Tree::Array(items.iter().map(|item| changed(item, change)).collect()),
         scalar => scalar.clone(),
+    })
+}
+
+/// An object with its names in falling order.
+fn fallen(tree: Tree) -> Tree {
+    match tree {
+        Tree::Object(members) => Tree::Object(members.into_iter().rev().collect()),
+        other => other,
+    }
+}
+
+/// A float's bits as an integer, which has as many bytes: no flight record holds a float.
+fn whole(tree: Tree) -> Tree {
+    match tree {
+        Tree::Number(mut payload) if payload[0] == FLOAT => {
+            payload[0] = UNSIGNED;
+            Tree::Number(payload)
+        }
+        other => other,
     }
 }
 
@@ -188,7 +218,12 @@ pub fn sound_tables() -> Vec<Table> {
 /// The small and the usual tables with names that fall.
 pub fn fallen_tables() -> Vec<Table> {
     let short = sound_tables().into_iter().filter(|table| !table.name.starts_with("full"));
-    short.map(|table| Table { tree: fallen(&table.tree), overlay: fallen(&table.overlay), ..table }).collect()
+    short.map(|table| table.changed(fallen)).collect()
+}
+
+/// The sound tables as flight records.
+pub fn flight_tables() -> Vec<Table> {
+    sound_tables().into_iter().map(|table| table.changed(whole)).collect()
 }
 
 /// The calls that are measured: on a record with a path, and on two records as one. An object is built of its own names and values,
@@ -213,6 +248,18 @@ fn calls(tree: &Tree, path: &Tree, left: &Tree, right: &Tree) -> Vec<Call> {
 
 pub fn calls_on(table: &Table) -> Vec<Call> {
     calls(&table.tree, &table.path, &table.tree, &table.overlay)
+}
+
+/// The calls that have flight edits, and a concat of an object with an array, in which the object is one level deeper. It is half the
+/// table, so that there is room for what stands around it.
+pub fn flights_on(table: &Table) -> Vec<(&'static str, Call)> {
+    let edits = [Edit::Delete, Edit::Concat, Edit::Strip];
+    let plain = calls_on(table).into_iter().filter(|call| edits.contains(&call.edit));
+    let mut calls: Vec<_> = plain.map(|call| (call.edit.word(), call)).collect();
+    if let Tree::Object(_) = table.tree {
+        calls.push(("concat with an array", Call::new(Edit::Concat, &table.overlay, &stations())));
+    }
+    calls
 }
 
 pub fn look_up_on(table: &Table) -> Call {

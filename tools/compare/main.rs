@@ -12,6 +12,7 @@
 //
 // It ends with 1 where an answer is other than it should be, and prints the call, which the console takes as it stands.
 mod codec;
+mod flights;
 mod list;
 mod numbers;
 mod pointers;
@@ -79,7 +80,7 @@ fn read_list(path: &str, buffer: &mut Vec<u8>) -> List {
 // ---- random calls
 
 fn random_calls(list: &List, count: usize, seed: u64, buffer: &mut Vec<u8>) -> bool {
-    let mut r = Random::with_escapes(seed);
+    let mut r = Random::with_all(seed);
     let mut tally = Tally::new(list, count);
     for _ in 0..count {
         let with_damage = r.percent(40);

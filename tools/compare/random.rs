@@ -1,24 +1,28 @@
 // Random requests, the same for the same seed: records that are sound, unsorted or with repeated names, of every kind of item and
 // number; paths that lead to something, to nothing, or are none; and damage.
+use std::collections::BTreeMap;
+
 use jsonb::{Edit, Request, EDITS};
 
+use crate::flights::{DEEPEST, LONGEST};
 use crate::reading::{largest_count, DEPTH_LIMIT, RECORD_LIMIT};
 use crate::tree::{record, scalar_record, Tree};
 
-/// A stream of numbers (splitmix64), and the names that members mostly have.
+/// A stream of numbers (splitmix64), the names that members mostly have, and how many of a hundred values are tamed.
 pub struct Random {
     state: u64,
     names: &'static [&'static str],
+    tamed: usize,
 }
 
 impl Random {
-    /// Without the names that a pointer escapes: tests/rust-answers was recorded so.
+    /// Without the names that a pointer escapes, and with no value tamed: tests/rust-answers was recorded so.
     pub fn new(seed: u64) -> Random {
-        Random { state: seed, names: &NAMES[..PLAIN] }
+        Random { state: seed, names: &NAMES[..PLAIN], tamed: 0 }
     }
 
-    pub fn with_escapes(seed: u64) -> Random {
-        Random { state: seed, names: &NAMES }
+    pub fn with_all(seed: u64) -> Random {
+        Random { state: seed, names: &NAMES, tamed: TAMED }
     }
 
     pub fn next(&mut self) -> u64 {
@@ -49,6 +53,9 @@ impl Random {
 }
 
 // ---- values
+
+/// How many of a hundred values have nothing in them that no flight record holds.
+const TAMED: usize = 30;
 
 /// How the names of objects stand.
 #[derive(Clone, Copy)]
@@ -186,7 +193,41 @@ fn some_large(r: &mut Random) -> Tree {
     }
 }
 
+/// A tree without what no flight record holds, which may be too deep for one. Only names of one byte a character are too long here.
+fn tamed(tree: Tree) -> Tree {
+    match tree {
+        Tree::Number(payload) if !matches!(payload[0], 0x00 | 0x40 | 0x50) => Tree::Number(vec![0x00]),
+        Tree::Extension(_) => Tree::Null,
+        Tree::Array(items) => Tree::Array(items.into_iter().map(tamed).collect()),
+        Tree::Object(members) => {
+            let members: BTreeMap<_, _> = members.into_iter().map(|(name, value)| (tamed_name(name), tamed(value))).collect();
+            Tree::Object(members.into_iter().collect())
+        }
+        other => other,
+    }
+}
+
+fn tamed_name(mut name: Vec<u8>) -> Vec<u8> {
+    name.truncate(LONGEST);
+    if name.is_empty() {
+        name.push(b'a');
+    }
+    name
+}
+
+/// Few values are flight records by chance: some are made so, and nest about as deep as these may.
 fn some_value(r: &mut Random, spoiled: bool) -> Tree {
+    if r.tamed == 0 || !r.percent(r.tamed) {
+        return any_value(r, spoiled);
+    }
+    if r.percent(20) {
+        let levels = DEEPEST - 2 + r.below(4);
+        return tamed(some_nest(r, levels));
+    }
+    tamed(any_value(r, spoiled))
+}
+
+fn any_value(r: &mut Random, spoiled: bool) -> Tree {
     let order = *r.of(&[Order::Rising, Order::Rising, Order::Distinct, Order::Any]);
     match r.below(1000) {
         0 => some_large(r),

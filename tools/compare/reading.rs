@@ -20,8 +20,9 @@ struct Entry {
 }
 
 const STRING: u32 = 1;
-const NUMBER: u32 = 2;
-const CONTAINER: u32 = 5;
+pub const NUMBER: u32 = 2;
+pub const CONTAINER: u32 = 5;
+pub const EXTENSION: u32 = 6;
 
 fn word(s: &[u8], at: usize) -> u32 {
     u32::from_be_bytes(s[at..at + 4].try_into().unwrap())
@@ -33,7 +34,7 @@ fn entry(s: &[u8], at: usize) -> Entry {
 }
 
 /// The bytes from one place to another, as far as there are any.
-fn part(s: &[u8], from: usize, to: usize) -> &[u8] {
+fn span(s: &[u8], from: usize, to: usize) -> &[u8] {
     &s[from.min(s.len())..to.min(s.len())]
 }
 
@@ -136,7 +137,7 @@ impl Reader {
         }
         let mut at = start;
         for e in entries {
-            self.read_payload(e, part(s, at, at + e.length), depth);
+            self.read_payload(e, span(s, at, at + e.length), depth);
             at += e.length;
         }
     }
@@ -165,22 +166,30 @@ pub fn is_listed(payload: &[u8]) -> bool {
     }
 }
 
-/// How deep the containers of a result are nested; 0 of a scalar. The result is one of the Rust's, made of readable records.
-pub fn depth(s: &[u8]) -> usize {
+/// The names of a readable record, or of a result that the Rust made of such records, and its items by their codes and payloads.
+pub fn parts(s: &[u8]) -> (Vec<&[u8]>, Vec<(u32, &[u8])>) {
     let count = (word(s, 0) & 0x1fff_ffff) as usize;
-    let count = match word(s, 0) >> 29 {
-        1 => return 0,
-        4 => count,
-        _ => 2 * count,
+    let (names, items) = match word(s, 0) >> 29 {
+        1 => (0, 1),
+        4 => (0, count),
+        _ => (count, count),
     };
-    let mut at = 4 + 4 * count;
-    let mut deepest = 0;
-    for i in 0..count {
+    let mut at = 4 + 4 * (names + items);
+    let mut parts = Vec::with_capacity(names + items);
+    for i in 0..names + items {
         let e = entry(s, 4 + 4 * i);
-        if e.code == CONTAINER {
-            deepest = deepest.max(depth(&s[at..at + e.length]));
-        }
+        parts.push((e.code, &s[at..at + e.length]));
         at += e.length;
     }
-    1 + deepest
+    let items = parts.split_off(names);
+    (parts.into_iter().map(|part| part.1).collect(), items)
+}
+
+/// How deep the containers of a record or a result are nested; 0 of a scalar.
+pub fn depth(s: &[u8]) -> usize {
+    if word(s, 0) >> 29 == 1 {
+        return 0;
+    }
+    let nested = parts(s).1.into_iter().filter(|item| item.0 == CONTAINER);
+    1 + nested.map(|item| depth(item.1)).max().unwrap_or(0)
 }

@@ -3,6 +3,7 @@ use std::fmt;
 
 use jsonb::{answer, Answer, Edit, Error, Request};
 
+use crate::flights::{flight_of, is_flight};
 use crate::pointers::pointer_of;
 use crate::port;
 use crate::port::Refusal;
@@ -180,17 +181,23 @@ fn judge_pointer(request: &Request, ours: &Ours, verdict: Verdict, buffer: &mut 
     }
 }
 
-/// The verdict on an edit, whose preview must tell the length of its result, that of the Rust's where the port's buffer was too
-/// short, or the edit's number.
+/// The result of an edit, the Rust's where the port's buffer was too short.
+fn result_of<'a>(ours: &'a Ours, theirs: &'a Answer) -> Option<&'a [u8]> {
+    match (ours, theirs) {
+        (Ours::Result(result), _) | (Ours::Refused(Refusal::Buffer), Answer::Result(result)) => Some(result),
+        _ => None,
+    }
+}
+
+/// The verdict on an edit, whose preview must tell the length of its result, or its number.
 fn judge_preview(request: &Request, ours: &Ours, theirs: &Answer, verdict: Verdict) -> Verdict {
     let Some(told) = preview_of(request.edit, &request.first, &request.second) else {
         return verdict;
     };
-    let wanted = match (ours, theirs) {
-        (Ours::Refused(Refusal::Buffer), Answer::Result(theirs)) => Some(Ok(theirs.len())),
-        (Ours::Refused(refusal), _) => Some(Err(*refusal)),
-        (Ours::Result(ours), _) => Some(Ok(ours.len())),
-        (Ours::Absent, _) => None,
+    let wanted = match (result_of(ours, theirs), ours) {
+        (Some(result), _) => Some(Ok(result.len())),
+        (None, Ours::Refused(refusal)) => Some(Err(*refusal)),
+        (None, _) => None,
     };
     if Some(told) != wanted {
         return Verdict::Wrong("the preview tells something else");
@@ -198,8 +205,34 @@ fn judge_preview(request: &Request, ours: &Ours, theirs: &Answer, verdict: Verdi
     verdict
 }
 
+/// What the flight edit must end with. 1 to 6 stand before 12 of a record, and that before what else refuses the plain edit; 12 of a
+/// result stands before 10.
+fn end_aboard(request: &Request, ours: &Ours, theirs: &Answer) -> Ours {
+    let takes_flights = || is_flight(&request.first) && (request.edit != Edit::Concat || is_flight(&request.second));
+    let gives_flight = || result_of(ours, theirs).map_or(true, |result| is_flight(result));
+    match ours {
+        Ours::Refused(refusal) if refusal.number() <= Refusal::Path.number() => ours.clone(),
+        _ if takes_flights() && gives_flight() => ours.clone(),
+        _ => Ours::Refused(Refusal::Profile),
+    }
+}
+
+/// The verdict on an edit that may have a flight edit.
+fn judge_flight(request: &Request, ours: &Ours, theirs: &Answer, verdict: Verdict, buffer: &mut Vec<u8>) -> Verdict {
+    match watched(request, buffer, |out| flight_of(request.edit, &request.first, &request.second, out)) {
+        Err(why) => Verdict::Wrong(why),
+        Ok(Ours::Absent) => verdict,
+        Ok(ended) if ended != end_aboard(request, ours, theirs) => Verdict::Wrong("the flight edit ends otherwise"),
+        Ok(Ours::Result(_)) if verdict == Verdict::Alike("the same result") => {
+            Verdict::Alike("the same result, by a flight edit too")
+        }
+        Ok(_) => verdict,
+    }
+}
+
 /// Asks both and judges. `QuotedName` must act as `Name`, a pointer as the path that means the same, the check must say what the
-/// reading of document 01 says, and a preview what the edit gives.
+/// reading of document 01 says, the flight check what is said of flight records, a preview what the edit gives, and a flight edit must
+/// end as the plain one where it takes and gives flight records.
 pub fn compare(request: &Request, buffer: &mut Vec<u8>) -> (Ours, Answer, Verdict) {
     let theirs = answer(request, false);
     let ours = match ask_port(request, buffer) {
@@ -210,14 +243,19 @@ pub fn compare(request: &Request, buffer: &mut Vec<u8>) -> (Ours, Answer, Verdic
     if request.edit.has_path() && answer(request, true) != theirs {
         return (ours, theirs, Verdict::Wrong("QuotedName does not act as Name"));
     }
-    let checked = port::check(&request.first).err().map(Refusal::number);
-    if checked != faults(&request.first).first().map(|fault| fault.number) {
+    let fault = faults(&request.first).first().map(|fault| fault.number);
+    if port::check(&request.first).err().map(Refusal::number) != fault {
         return (ours, theirs, Verdict::Wrong("the check is not document 01's"));
     }
-    if request.edit == Edit::Get && faults(&request.first).is_empty() && faults(&request.second).is_empty() {
+    let outside = || (!is_flight(&request.first)).then_some(Refusal::Profile.number());
+    if port::flight::check(&request.first).err().map(Refusal::number) != fault.or_else(outside) {
+        return (ours, theirs, Verdict::Wrong("the flight check is not document 02's"));
+    }
+    if request.edit == Edit::Get && fault.is_none() && faults(&request.second).is_empty() {
         let verdict = judge_pointer(request, &ours, verdict, buffer);
         return (ours, theirs, verdict);
     }
     let verdict = judge_preview(request, &ours, &theirs, verdict);
+    let verdict = judge_flight(request, &ours, &theirs, verdict, buffer);
     (ours, theirs, verdict)
 }

@@ -11,7 +11,7 @@ use Rattle.layout.specs.Text.{code-points}
 use Rattle.layout.specs.Check.{text-checked}
 use Rattle.layout.specs.Ended.{Outcome, result, absence, refusal, ending, Ended}
 use Rattle.layout.specs.declared.refusal.Refusal.{Refusal}
-use Rattle.layout.specs.declared.refusal.Refusal.the-variants.{Short, Layout, Text, Number, Limit, Path, Kind, Repeated, Result, Buffer, Pointer}
+use Rattle.layout.specs.declared.refusal.Refusal.the-variants.{Short, Layout, Text, Number, Limit, Path, Kind, Repeated, Result, Buffer, Pointer, Profile}
 use Rattle.layout.specs.declared.check.Check.{Check}
 use Rattle.layout.specs.declared.check.Check.the-variants.{Readable, Refused as NotReadable}
 use Rattle.layout.specs.declared.ending.Ending.{Ending}
@@ -24,7 +24,8 @@ use Rattle.edits.proofs.Limited.{Limited}
 
 -- ---- the functions
 
-pub number-range : (r : Refusal) → (1 ≤ number r) × (number r ≤ 11)
+-- No number is that of an absence, and none is so large that a sum with it wraps.
+pub number-range : (r : Refusal) → (1 ≤ number r) × (number r < 2 ^ 32)
 number-range Short = (omega arith, omega arith)
 number-range Layout = (omega arith, omega arith)
 number-range Text = (omega arith, omega arith)
@@ -36,11 +37,15 @@ number-range Repeated = (omega arith, omega arith)
 number-range Result = (omega arith, omega arith)
 number-range Buffer = (omega arith, omega arith)
 number-range Pointer = (omega arith, omega arith)
+number-range Profile = (omega arith, omega arith)
 
 pub ended-c : (e : Ending) (o o′ : Bytes) (x : Outcome) → Ended e o o′ x → (r : ℕ) → r ≡ c-ending e → EndedC r o o′ x
 ended-c e o o′ x h r q = record { answer = q ∙ ap c-ending (h .answer); bytes = h .bytes }
 
--- The same of a call that writes nothing.
+-- The same of calls that write nothing: of a check, and of a preview.
+pub checked-c : {e x : Check} {r : ℕ} → e ≡ x → r ≡ c-check e → r ≡ c-check x
+checked-c h q = q ∙ ap c-check h
+
 pub told-c : {e x : Ending} {r : ℕ} → e ≡ x → r ≡ c-ending e → r ≡ c-ending x
 told-c h q = q ∙ ap c-ending h
 
@@ -52,7 +57,7 @@ c-below o h b e = rw e (omega (arith, h b e))
 
 -- A refusal by its number.
 of-number : ℕ → Refusal
-of-number n = getD (Short ∷ Layout ∷ Text ∷ Number ∷ Limit ∷ Path ∷ Kind ∷ Repeated ∷ Result ∷ Buffer ∷ Pointer ∷ []) (n - 1) Short
+of-number n = getD (Short ∷ Layout ∷ Text ∷ Number ∷ Limit ∷ Path ∷ Kind ∷ Repeated ∷ Result ∷ Buffer ∷ Pointer ∷ Profile ∷ []) (n - 1) Short
 
 of-number-is : (r : Refusal) → of-number (number r) ≡ r
 unfolding of-number
@@ -67,6 +72,7 @@ of-number-is Repeated = refl
 of-number-is Result = refl
 of-number-is Buffer = refl
 of-number-is Pointer = refl
+of-number-is Profile = refl
 
 pub number-apart : (r q : Refusal) → number r ≡ number q → r ≡ q
 number-apart r q e = sym (of-number-is r) ∙ (ap of-number e ∙ of-number-is q)

@@ -1,7 +1,7 @@
 -- The answers to the flight computer's C code: document 01, "The flight computer's C code calls the check and the four edits". An
 -- answer is one number of 64 bits. Below 2 ^ 32 it is the length of the result, and 2 ^ 32 is an absence; 2 ^ 32 and k more is the
--- number k of "Who can cause each number". A check has no result, and answers 0 where the record is readable; the text check answers
--- the number of code points, and a preview the length that the result would have.
+-- number k of "Who can cause each number". A check, of a record or of a flight record, has no result, and answers 0 where it
+-- passes; the text check answers the number of code points, and a preview the length that the result would have.
 use Prim.Native.Nat.{ℕ, _+_, _-_, _^_, min}
 use mathlib.Core.Path.{_≡_}
 use Rattle.layout.specs.Bytes.{Bytes}

@@ -5,6 +5,10 @@ use edits::operator::concat;
 use edits::operator::strip_nulls;
 use edits::path::delete_by_keypath;
 use edits::path::get_by_keypath;
+use flight::edit::flight_concat;
+use flight::edit::flight_delete;
+use flight::edit::flight_strip;
+use flight::profile::check_flight;
 use layout::check::Check;
 use layout::check::check_record;
 use layout::ending::Ending;
@@ -30,9 +34,10 @@ ghost use Rattle.edits.specs.Concat.{concat as concatOf};
 ghost use Rattle.edits.specs.Strip.{strip, «on-one» as onOne};
 ghost use Rattle.pointers.specs.Pointer.{«on-pointer» as onPointer};
 ghost use Rattle.previews.specs.Preview.{previewed};
+ghost use Rattle.flight.specs.Flight.{flight, «flight-delete-by» as flightDeleteBy, «flight-strip» as flightStrip, «on-flights» as onFlights};
 ghost use Rattle.jsonb.specs.C.{«c-check» as cCheck, «c-text» as cText, «c-ending» as cEnding, EndedC};
 
-// The answer where the record is readable, and that of an absence, which is above every length. A refusal's number is added to
+// The answer where a record passes its check, and that of an absence, which is above every length. A refusal's number is added to
 // it.
 const READABLE: u64 = 0;
 
@@ -45,6 +50,15 @@ fn c_refused(refusal: Refusal) -> u64
     ensures { λ r. ⌜ r ≡ 2 ^ 32 + number refusal ⌝ }
 {
     ABSENT + refusal.number()
+}
+
+fn c_check(check: Check) -> u64
+    ensures { λ r. ⌜ r ≡ cCheck check ⌝ }
+{
+    match check {
+        Check::Readable => READABLE,
+        Check::Refused(refusal) => c_refused(refusal),
+    }
 }
 
 fn c_ending(ending: Ending) -> u64
@@ -62,10 +76,7 @@ fn c_ending(ending: Ending) -> u64
 pub extern "C" fn jsonb_check(s: &[u8]) -> u64
     ensures { λ r. ⌜ r ≡ cCheck (checked (read (now (s .entry)))) ⌝ }
 {
-    match check_record(s) {
-        Check::Readable => READABLE,
-        Check::Refused(refusal) => c_refused(refusal),
-    }
+    c_check(check_record(s))
 }
 
 fn c_count(count: usize) -> u64
@@ -190,4 +201,39 @@ pub extern "C" fn jsonb_preview_build(names: &[u8], values: &[u8]) -> u64
     ensures { λ r. ⌜ r ≡ cEnding (previewed (onTwo build (now (names .entry)) (now (values .entry)))) ⌝ }
 {
     c_ending(preview_build(names, values))
+}
+
+// Checks a record for the board's loader, which takes flight records.
+#[no_mangle]
+pub extern "C" fn jsonb_flight_check(s: &[u8]) -> u64
+    ensures { λ r. ⌜ r ≡ cCheck (checked (flight (now (s .entry)))) ⌝ }
+{
+    c_check(check_flight(s))
+}
+
+// Deletes what a path finds in a flight record.
+#[no_mangle]
+pub extern "C" fn jsonb_flight_delete(target: &[u8], path: &[u8], out: &mut [u8]) -> u64
+    ensures { λ r. ⌜ EndedC r (now (out .entry)) (now (out .exit))
+        (onPath flightDeleteBy (now (target .entry)) (now (path .entry)) (length (now (out .entry)))) ⌝ }
+{
+    c_ending(flight_delete(target, path, out))
+}
+
+// Overlays a flight record with another: two objects become one, anything else an array.
+#[no_mangle]
+pub extern "C" fn jsonb_flight_concat(left: &[u8], right: &[u8], out: &mut [u8]) -> u64
+    ensures { λ r. ⌜ EndedC r (now (out .entry)) (now (out .exit))
+        (onFlights (now (left .entry)) (now (right .entry)) (length (now (out .entry)))) ⌝ }
+{
+    c_ending(flight_concat(left, right, out))
+}
+
+// Takes the members whose value is null out of a flight record, at every level.
+#[no_mangle]
+pub extern "C" fn jsonb_flight_strip(target: &[u8], out: &mut [u8]) -> u64
+    ensures { λ r. ⌜ EndedC r (now (out .entry)) (now (out .exit))
+        (onOne flightStrip (now (target .entry)) (length (now (out .entry)))) ⌝ }
+{
+    c_ending(flight_strip(target, out))
 }

@@ -1,7 +1,7 @@
 -- `layout::every::part_passes`, `layout::every::parts_pass` and `layout::every::passes` meet their contracts.
 -- They call each other; the number that falls is three times the allowance, and a place in the turn. The loop over the
 -- parts keeps that all pass where the rest do, and that its place is the table's.
-use Prim.Native.Nat.{ℕ, _+_, _*_, _-_, _<_, _≤_}
+use Prim.Native.Nat.{ℕ, _+_, _*_, _-_, _^_, _<_, _≤_}
 use mathlib.Core.Path.{_≡_}
 use native.Mathlib.Nat.{sub-zero}
 use native.Mathlib.Omega.{arith}
@@ -189,62 +189,42 @@ parts-pass-returns-2 t c =
     let head = c .before in
     every-end _ _ _ _ (head .loop .i) (head .loop .place) _ (head .loop .inv .1) (c .loop-test .left)
 
+-- How many items an array has, and members an object, where the header has told it.
+array-few : (t : ℕ) (c : passes-lts.After-n (passes-claims t) (passes-at t) passes.Post) → c .n .given .0 .0 < 2 ^ 29
+array-few t c = told-array _ _ (c .before .before .read-header .ensures) _ (c .n .given .1) .1
+
+object-few : (t : ℕ) (c : passes-lts.After-n2 (passes-claims t) (passes-at t) passes.Post) → c .n2 .given .0 .0 < 2 ^ 29
+object-few t c = told-object _ _ (c .before .before .read-header .ensures) _ (c .n2 .given .1) .1
+
 passes-returns : (t : ℕ) → passes-lts.Need-returns (passes-claims t) (passes-at t) passes.Post
 passes-returns t c = every-none _ _ _ (c .if1 .taken)
 
 passes-mul-parts-pass : (t : ℕ) → passes-lts.Need-mul-parts-pass (passes-claims t) (passes-at t) passes.Post
-passes-mul-parts-pass t c =
-    let arm = c .before in
-    let h = told-array _ _ (arm .before .before .read-header .ensures) _ (arm .n .given .1) in
-    omega arith
+passes-mul-parts-pass t c = omega (arith, array-few t (c .before))
 
 passes-add-parts-pass : (t : ℕ) → passes-lts.Need-add-parts-pass (passes-claims t) (passes-at t) passes.Post
-passes-add-parts-pass t c =
-    let arm = c .before in
-    let h = told-array _ _ (arm .before .before .read-header .ensures) _ (arm .n .given .1) in
-    omega arith
+passes-add-parts-pass t c = omega (arith, array-few t (c .before))
 
 passes-parts-pass-requires : (t : ℕ) → passes-lts.Need-parts-pass-requires (passes-claims t) (passes-at t) passes.Post
-passes-parts-pass-requires t c κs =
-    let arm = c .before in
-    let h = told-array _ _ (arm .before .before .read-header .ensures) _ (arm .n .given .1) in
-    omega arith
+passes-parts-pass-requires t c κs = omega (arith, array-few t (c .before))
 
 passes-add-start : (t : ℕ) → passes-lts.Need-add-start (passes-claims t) (passes-at t) passes.Post
-passes-add-start t c =
-    let arm = c .before in
-    let h = told-object _ _ (arm .before .before .read-header .ensures) _ (arm .n2 .given .1) in
-    omega arith
+passes-add-start t c = omega (arith, object-few t (c .before))
 
 passes-mul-start : (t : ℕ) → passes-lts.Need-mul-start (passes-claims t) (passes-at t) passes.Post
-passes-mul-start t c =
-    let arm = c .before in
-    let h = told-object _ _ (arm .before .before .read-header .ensures) _ (arm .n2 .given .1) in
-    omega arith
+passes-mul-start t c = omega (arith, object-few t (c .before))
 
 passes-add-start-2 : (t : ℕ) → passes-lts.Need-add-start-2 (passes-claims t) (passes-at t) passes.Post
-passes-add-start-2 t c =
-    let arm = c .before in
-    let h = told-object _ _ (arm .before .before .read-header .ensures) _ (arm .n2 .given .1) in
-    omega arith
+passes-add-start-2 t c = omega (arith, object-few t (c .before))
 
 passes-names-pass-requires : (t : ℕ) → passes-lts.Need-names-pass-requires (passes-claims t) (passes-at t) passes.Post
-passes-names-pass-requires t c κs =
-    let arm = c .before in
-    let h = told-object _ _ (arm .before .before .read-header .ensures) _ (arm .n2 .given .1) in
-    omega arith
+passes-names-pass-requires t c κs = omega (arith, object-few t (c .before))
 
 passes-add-parts-pass-2 : (t : ℕ) → passes-lts.Need-add-parts-pass-2 (passes-claims t) (passes-at t) passes.Post
-passes-add-parts-pass-2 t c =
-    let arm = c .before .before .before in
-    let h = told-object _ _ (arm .before .before .read-header .ensures) _ (arm .n2 .given .1) in
-    omega arith
+passes-add-parts-pass-2 t c = omega (arith, object-few t (c .before .before .before))
 
 passes-parts-pass-requires-2 : (t : ℕ) → passes-lts.Need-parts-pass-requires-2 (passes-claims t) (passes-at t) passes.Post
-passes-parts-pass-requires-2 t c κs =
-    let arm = c .before .before .before in
-    let h = told-object _ _ (arm .before .before .read-header .ensures) _ (arm .n2 .given .1) in
-    omega arith
+passes-parts-pass-requires-2 t c κs = omega (arith, object-few t (c .before .before .before))
 
 passes-returns-2 : (t : ℕ) → passes-lts.Need-returns-2 (passes-claims t) (passes-at t) passes.Post
 passes-returns-2 t c =
