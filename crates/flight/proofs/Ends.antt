@@ -1,14 +1,13 @@
--- How the check and the flight edits end, in the terms of the code: by how the records stand to the profile, and by which overlay is
--- too deep.
-use Prim.Native.Nat.{ℕ, suc, _≤_, _<_}
+-- How the check and the flight edits end, in the terms of the code: by how the records stand to the profile, and by how deep each may
+-- be beside the other.
+use Prim.Native.Nat.{ℕ, _≤_}
 use native.Mathlib.Omega.{arith}
-use native.Mathlib.Decide.{decLe}
-use borrow.Author.Tests.{le-leb, lt-leb, le-ltb}
+use borrow.Author.Tests.{le-ltb}
 use mathlib.Core.Path.{_≡_, refl, ap, ap₂, sym, subst, _∙_}
 use mathlib.Core.Logic.{_↔_}
-use mathlib.Core.Bool.{Bool, true, false, not, cond, _&&_, _||_}
+use mathlib.Core.Bool.{Bool, true, false, not, cond, _&&_}
 use mathlib.Core.List.{List, [], _++_}
-use lib.Dec.{leb, leb→le}
+use lib.Dec.{T, leb, leb→le, le→leb}
 use lib.ListN.{length}
 use Rattle.layout.specs.Bytes.{Bytes, Octets}
 use Rattle.layout.specs.Answer.{Answer, gives, refused, _>>=_}
@@ -33,12 +32,12 @@ use Rattle.layout.specs.declared.ending.Ending.{Ending}
 use Rattle.layout.specs.declared.ending.Ending.the-variants.{Refused}
 use Rattle.layout.proofs.Answers.{from-require, gives-inj}
 use Rattle.layout.proofs.Asks.{every-read}
-use Rattle.layout.proofs.Questions.{and-apart}
+use Rattle.layout.proofs.Questions.{and-apart, and-joined}
 use Rattle.layout.proofs.Nestings.{head-of, header-read}
 use Rattle.layout.proofs.Patches.{patch-empty}
 use Rattle.layout.proofs.Readables.{length-encode}
 use Rattle.builders.specs.Build.{on-two}
-use Rattle.builders.proofs.Results.{on-two-is, within-is}
+use Rattle.builders.proofs.Results.{is-true, on-two-is, within-is}
 use Rattle.edits.specs.Keypath.{Step, path-of}
 use Rattle.edits.specs.Path.{delete-by, on-path}
 use Rattle.edits.specs.Concat.{concat}
@@ -46,14 +45,13 @@ use Rattle.edits.specs.Strip.{strip, on-one}
 use Rattle.edits.specs.Steps.{steps-told}
 use Rattle.edits.specs.declared.keypath.Steps.{Steps}
 use Rattle.edits.specs.declared.keypath.Steps.the-variants.{Count, Refused as NoSteps}
-use Rattle.edits.proofs.Deletes.{false-true}
 use Rattle.edits.proofs.Concats.{concat-some}
 use Rattle.edits.proofs.Paths.{steps-refused}
 use Rattle.edits.proofs.PathResults.{on-path-is}
 use Rattle.edits.proofs.StripWrites.{on-one-is}
-use Rattle.flight.specs.Flight.{Flight, is-flight, profiled, flight, flight-delete-by, flight-strip, on-flights}
+use Rattle.flight.specs.Flight.{Flight, profiled, flight, flight-delete-by, flight-strip, on-flights}
 use Rattle.flight.specs.Claims.{FlightRecord, stands}
-use Rattle.flight.specs.Profile.{profile-in, both-in, beside-outside, is-object, is-deep, too-deep, or-profile}
+use Rattle.flight.specs.Profile.{fits-profile, profile-in, both-in, beside-outside, is-object, levels-beside, beside, OutsideBeside, or-profile}
 use Rattle.flight.specs.declared.profile.Profile.{Profile as Standing}
 use Rattle.flight.specs.declared.profile.Profile.the-variants.{Inside, Outside, Refused as NotReadable}
 use Rattle.flight.proofs.Inside.{flight-test, flight-asked, profiled-gives, profiled-refused, outside, concat-leaves}
@@ -61,75 +59,74 @@ use Rattle.flight.proofs.Flights.{delete-lines, delete-stays, strip-lin
 
 -- ---- how a record stands to the profile
 
--- What the check with the profile's levels has found.
-module _ (m : Answer Tree) (n : Nesting) (hn : n ≡ nesting-to 8 m) where
-  pub standing-refused : (x : Refusal) → n ≡ NotNested x → NotReadable x ≡ profile-in m
+-- What the check with so many levels has found.
+module _ (levels : ℕ) (m : Answer Tree) (n : Nesting) (hn : n ≡ nesting-to levels m) where
+  pub standing-refused : (x : Refusal) → n ≡ NotNested x → NotReadable x ≡ profile-in levels m
   standing-refused x q = go m (sym q ∙ hn)
     where
-      go : (m : Answer Tree) → NotNested x ≡ nesting-to 8 m → NotReadable x ≡ profile-in m
+      go : (m : Answer Tree) → NotNested x ≡ nesting-to levels m → NotReadable x ≡ profile-in levels m
       go (refused y) e = cc
-      go (gives t) e = by (leb (depth t) 8) e
+      go (gives t) e = by (leb (depth t) levels) e
         where
-          by : (b : Bool) → NotNested x ≡ cond b Fits Deep → NotReadable x ≡ cond (is-flight t) Inside Outside
+          by : (b : Bool) → NotNested x ≡ cond b Fits Deep → NotReadable x ≡ cond (fits-profile levels t) Inside Outside
           by true e = cc
           by false e = cc
 
-  pub standing-deep : n ≡ Deep → Outside ≡ profile-in m
+  pub standing-deep : n ≡ Deep → Outside ≡ profile-in levels m
   standing-deep q = go m (sym q ∙ hn)
     where
-      go : (m : Answer Tree) → Deep ≡ nesting-to 8 m → Outside ≡ profile-in m
+      go : (m : Answer Tree) → Deep ≡ nesting-to levels m → Outside ≡ profile-in levels m
       go (refused y) e = cc
-      go (gives t) e = rw (flight-asked t) (by (leb (depth t) 8) (every (ask-of (InProfile 32)) t) e)
+      go (gives t) e = by (leb (depth t) levels) (every (ask-of (InProfile 32)) t) e
         where
           by : (b c : Bool) → Deep ≡ cond b Fits Deep → Outside ≡ cond (b && c) Inside Outside
           by true c e = cc
           by false c e = refl
 
 -- Where it fits, the rest of the profile decides.
-module _ (s : Bytes) (o : Octets s) (n : Nesting) (hn : n ≡ nesting-to 8 (read s)) (q : n ≡ Fits) (g : Bool)
+module _ (levels : ℕ) (s : Bytes) (o : Octets s) (n : Nesting) (hn : n ≡ nesting-to levels (read s)) (q : n ≡ Fits) (g : Bool)
     (hg : g ≡ every-at (ask-of (InProfile 32)) 64 s) where
-  standing-fits : cond g Inside Outside ≡ profile-in (read s)
+  standing-fits : cond g Inside Outside ≡ profile-in levels (read s)
   standing-fits = go (read s) refl (sym q ∙ hn)
     where
-      go : (m : Answer Tree) → read s ≡ m → Fits ≡ nesting-to 8 m → cond g Inside Outside ≡ profile-in m
+      go : (m : Answer Tree) → read s ≡ m → Fits ≡ nesting-to levels m → cond g Inside Outside ≡ profile-in levels m
       go (refused y) e f = cc
       go (gives t) e f =
-          rw (flight-asked t, hg, every-read (ask-of (InProfile 32)) s t o e)
-          (by (leb (depth t) 8) (every (ask-of (InProfile 32)) t) f)
+          rw (hg, every-read (ask-of (InProfile 32)) s t o e) (by (leb (depth t) levels) (every (ask-of (InProfile 32)) t) f)
         where
           by : (b c : Bool) → Fits ≡ cond b Fits Deep → cond c Inside Outside ≡ cond (b && c) Inside Outside
           by true c e = refl
           by false c e = cc
 
-  pub standing-inside : g ≡ true → Inside ≡ profile-in (read s)
+  pub standing-inside : g ≡ true → Inside ≡ profile-in levels (read s)
   standing-inside k = sym (ap (λ b. cond b Inside Outside) k) ∙ standing-fits
 
-  pub standing-outside : g ≡ false → Outside ≡ profile-in (read s)
+  pub standing-outside : g ≡ false → Outside ≡ profile-in levels (read s)
   standing-outside k = sym (ap (λ b. cond b Inside Outside) k) ∙ standing-fits
 
--- What each way to stand says of the record.
+-- What each way to stand, with all the profile's levels, says of the record.
 abbrev Stands : Standing → Bytes → Type 0
 Stands Inside s = FlightRecord s
 Stands Outside s = (t : Tree) × (read s ≡ gives t) × (profiled t ≡ refused Profile)
 Stands (NotReadable x) s = read s ≡ refused x
 
-stands-so : (s : Bytes) → Stands (profile-in (read s)) s
+stands-so : (s : Bytes) → Stands (profile-in 8 (read s)) s
 stands-so s = go (read s) refl
   where
-    by : (t : Tree) (b : Bool) → read s ≡ gives t → is-flight t ≡ b → Stands (cond b Inside Outside) s
-    by t true e q = record { tree = t; reads = e; flight = flight-test t .0 (rw q tt) }
-    by t false e q = (t, e, profiled-refused t q)
+    by : (t : Tree) (b : Bool) → read s ≡ gives t → fits-profile 8 t ≡ b → Stands (cond b Inside Outside) s
+    by t true e q = record { tree = t; reads = e; flight = flight-test t .0 (rw (flight-asked t ∙ q) tt) }
+    by t false e q = (t, e, profiled-refused t (flight-asked t ∙ q))
 
-    go : (m : Answer Tree) → read s ≡ m → Stands (profile-in m) s
-    go (gives t) e = by t (is-flight t) e refl
+    go : (m : Answer Tree) → read s ≡ m → Stands (profile-in 8 m) s
+    go (gives t) e = by t (fits-profile 8 t) e refl
     go (refused x) e = e
 
-pub standing : (s : Bytes) (p q : Standing) → p ≡ profile-in (read s) → p ≡ q → Stands q s
+pub standing : (s : Bytes) (p q : Standing) → p ≡ profile-in 8 (read s) → p ≡ q → Stands q s
 standing s p q e h = subst (λ x. Stands x s) (sym e ∙ h) (stands-so s)
 
 -- ---- the check
 
-module _ (s : Bytes) (p : Standing) (e : p ≡ profile-in (read s)) where
+module _ (s : Bytes) (p : Standing) (e : p ≡ profile-in 8 (read s)) where
   pub taken : p ≡ Inside → Readable ≡ checked (flight s)
   unfolding flight _>>=_
   taken h = let f = standing s p Inside e h in rw (f .reads, profiled-gives (f .tree) (f .flight))
@@ -161,7 +158,7 @@ ended-unwritten before o p x d e = rw (d .bytes ∙ unplaced o) (ended-refused b
 pub ended-same : {r : Ending} {before after : Bytes} (o p : Outcome) → p ≡ o → Ended r before after o → Ended r before after p
 ended-same o p e h = rw e h
 
-module _ (s : Bytes) (p : Standing) (e : p ≡ profile-in (read s)) (room : ℕ) where
+module _ (s : Bytes) (p : Standing) (e : p ≡ profile-in 8 (read s)) (room : ℕ) where
   module _ (path : Bytes) where
     pub delete-unread : (x : Refusal) → p ≡ NotReadable x → on-path flight-delete-by s path room ≡ refusal x
     unfolding _>>=_
@@ -235,45 +232,10 @@ module _ (l r : Bytes) where
   both-so Outside Outside h k = first-outside (h .0) (k .0) (h .1) (k .1) (h .2)
   both-so Outside (NotReadable x) h k = second-unread (h .0) x (h .1) k
 
-  pub both-standing : (p q : Standing) → p ≡ both-in (profile-in (read l)) (profile-in (read r)) → p ≡ q → Both q l r
-  both-standing p q e h = subst (λ x. Both x l r) (sym e ∙ h) (both-so (profile-in (read l)) (profile-in (read r)) (stands-so l) (stands-so r))
+  pub both-standing : (p q : Standing) → p ≡ both-in (profile-in 8 (read l)) (profile-in 8 (read r)) → p ≡ q → Both q l r
+  both-standing p q e h = subst (λ x. Both x l r) (sym e ∙ h) (both-so (profile-in 8 (read l)) (profile-in 8 (read r)) (stands-so l) (stands-so r))
 
 -- ---- the overlay of two flight records
-
--- What the test says of a side: how deep it stands.
-abbrev Deep-by : Bool → ℕ → Type 0
-Deep-by true n = 8 < n
-Deep-by false n = n ≤ 8
-
-deepened : (d : ℕ) → Deep-by (is-deep (cond (leb d 7) Fits Deep)) (suc d)
-deepened d = go (decLe d 7)
-  where
-    go : Dec (d ≤ 7) → Deep-by (is-deep (cond (leb d 7) Fits Deep)) (suc d)
-    go (yes k) = rw (le-leb d 7 k) (omega arith)
-    go (no k) = rw (lt-leb d 7 (omega arith)) (omega arith)
-
-deep-so : (t u : Tree) → depth t ≤ 8 → Deep-by (too-deep (head-of t) (head-of u) (nesting-to 7 (gives t))) (stands t u)
-unfolding too-deep
-deep-so null u d = omega arith
-deep-so (boolean x) u d = omega arith
-deep-so (number b) u d = omega arith
-deep-so (string b) u d = omega arith
-deep-so (extension b) u d = omega arith
-deep-so (array ts) u d = d
-deep-so (object ms) (object ns) d = d
-deep-so (object ms) null d = deepened (depth (object ms))
-deep-so (object ms) (boolean x) d = deepened (depth (object ms))
-deep-so (object ms) (number b) d = deepened (depth (object ms))
-deep-so (object ms) (string b) d = deepened (depth (object ms))
-deep-so (object ms) (extension b) d = deepened (depth (object ms))
-deep-so (object ms) (array ts) d = deepened (depth (object ms))
-
-side-deep : (l r : Bytes) (fl : FlightRecord l) (fr : FlightRecord r) → Octets l → Octets r → (g : Bool)
-    → g ≡ too-deep (header l) (header r) (nesting-to 7 (read l)) → Deep-by g (stands (fl .tree) (fr .tree))
-side-deep l r fl fr ol or g e =
-    let is : too-deep (header l) (header r) (nesting-to 7 (read l)) ≡ too-deep (head-of (fl .tree)) (head-of (fr .tree)) (nesting-to 7 (gives (fl .tree))) =
-    rw (header-read l (fl .tree) ol (fl .reads), header-read r (fr .tree) or (fr .reads), fl .reads) in
-    subst (λ b. Deep-by b (stands (fl .tree) (fr .tree))) (sym (e ∙ is)) (deep-so (fl .tree) (fr .tree) (fl .flight .deep))
 
 module _ (l r : Bytes) (fl : FlightRecord l) (fr : FlightRecord r) where
   -- Both edits up to what concat gives, and then 9, and 12 of the flight edit.
@@ -324,30 +286,132 @@ module _ (l r : Bytes) (fl : FlightRecord l) (fr : FlightRecord r) where
       by (refused x) e = refl
       by (gives w) e = rw (← limited w e .0) (profiled-gives (concat-so .0) inside)
 
-  module _ (ol : Octets l) (or : Octets r) (g h : Bool) (hg : g ≡ too-deep (header l) (header r) (nesting-to 7 (read l)))
-      (hh : h ≡ too-deep (header r) (header l) (nesting-to 7 (read r))) where
-    deep-sides : Deep-by g (stands (fl .tree) (fr .tree)) × Deep-by h (stands (fr .tree) (fl .tree))
-    deep-sides = (side-deep l r fl fr ol or g hg, side-deep r l fr fl or ol h hh)
+-- ---- beside each other
 
-    pub too-deep-ends : (g || h) ≡ true → (a : Ending) → a ≡ ending (on-two concat l r 65536) → (x : Refusal) → x ≡ or-profile a
-        → (room : ℕ) → on-flights l r room ≡ refusal x
-    too-deep-ends q a k x e room =
-        overlay-refused (λ f. deeper g h q deep-sides (leaves .0 f)) room ∙ ap refusal (sym (e ∙ ap or-profile k))
-      where
-        deeper : (g h : Bool) → (g || h) ≡ true → Deep-by g (stands (fl .tree) (fr .tree)) × Deep-by h (stands (fr .tree) (fl .tree))
-            → (stands (fl .tree) (fr .tree) ≤ 8) × (stands (fr .tree) (fl .tree) ≤ 8) → ⊥
-        deeper true h q d k = omega (arith, d .0, k .0)
-        deeper false true q d k = omega (arith, d .1, k .1)
-        deeper false false q d k = false-true q
+-- A side that may have so many levels: it stands no deeper than 8 levels in the overlay.
+beside-levels : (t u : Tree) → depth t ≤ 8 → (depth t ≤ levels-beside (head-of t) (head-of u)) ↔ (stands t u ≤ 8)
+unfolding levels-beside
+beside-levels null u d = (λ h. h, λ h. h)
+beside-levels (boolean x) u d = (λ h. h, λ h. h)
+beside-levels (number b) u d = (λ h. h, λ h. h)
+beside-levels (string b) u d = (λ h. h, λ h. h)
+beside-levels (extension b) u d = (λ h. h, λ h. h)
+beside-levels (array ts) u d = (λ h. h, λ h. h)
+beside-levels (object ms) (object ns) d = (λ h. h, λ h. h)
+beside-levels (object ms) null d = (λ h. omega arith, λ h. omega arith)
+beside-levels (object ms) (boolean x) d = (λ h. omega arith, λ h. omega arith)
+beside-levels (object ms) (number b) d = (λ h. omega arith, λ h. omega arith)
+beside-levels (object ms) (string b) d = (λ h. omega arith, λ h. omega arith)
+beside-levels (object ms) (extension b) d = (λ h. omega arith, λ h. omega arith)
+beside-levels (object ms) (array ts) d = (λ h. omega arith, λ h. omega arith)
 
-    pub plain-ends : (g || h) ≡ false → (room : ℕ) → on-flights l r room ≡ on-two concat l r room
-    plain-ends q room = overlay-plain (leaves .1 (flat g h q deep-sides)) room
-      where
-        flat : (g h : Bool) → (g || h) ≡ false → Deep-by g (stands (fl .tree) (fr .tree)) × Deep-by h (stands (fr .tree) (fl .tree))
-            → (stands (fl .tree) (fr .tree) ≤ 8) × (stands (fr .tree) (fl .tree) ≤ 8)
-        flat true h q d = false-true (sym q)
-        flat false true q d = false-true (sym q)
-        flat false false q d = d
+-- No side may have more levels than the profile has.
+pub few-levels : (h other : Header) → levels-beside h other ≤ 8
+unfolding levels-beside
+few-levels h other = go (is-object h && not (is-object other))
+  where
+    go : (b : Bool) → cond b 7 8 ≤ 8
+    go true = omega arith
+    go false = omega arith
+
+-- Two ways to stand that are not the same.
+abbrev tag : Standing → ℕ
+tag Inside = 0
+tag Outside = 1
+tag (NotReadable x) = 2
+
+clash : {C : Type 0} {p q : Standing} → p ≡ q → (tag p ≡ tag q → ⊥) → C
+clash e n = absurd (n (ap tag e))
+
+-- What it is to stand inside with so many levels.
+fits-flight : (k : ℕ) (t : Tree) → k ≤ 8 → T (fits-profile k t) → Flight t × (depth t ≤ k)
+fits-flight k t few h =
+    let q = and-apart (leb (depth t) k) (every (ask-of (InProfile 32)) t) h in
+    let d = leb→le (depth t) k (q .0) in
+    let f : T (fits-profile 8 t) = and-joined (leb (depth t) 8) (every (ask-of (InProfile 32)) t) (le→leb (depth t) 8 (omega arith)) (q .1) in
+    (flight-test t .0 (rw (flight-asked t) f), d)
+
+flight-fits : (k : ℕ) (t : Tree) → Flight t → depth t ≤ k → T (fits-profile k t)
+flight-fits k t f d =
+    let q = and-apart (leb (depth t) 8) (every (ask-of (InProfile 32)) t) (rw (flight-asked t) at (flight-test t .1 f)) in
+    and-joined (leb (depth t) k) (every (ask-of (InProfile 32)) t) (le→leb (depth t) k d) (q .1)
+
+inside-told : (k : ℕ) (s : Bytes) → k ≤ 8 → profile-in k (read s) ≡ Inside → (f : FlightRecord s) × (depth (f .tree) ≤ k)
+inside-told k s few = go (read s) refl
+  where
+    by : (t : Tree) (b : Bool) → read s ≡ gives t → fits-profile k t ≡ b → cond b Inside Outside ≡ Inside → (f : FlightRecord s) × (depth (f .tree) ≤ k)
+    by t true e q h = let f = fits-flight k t few (rw q tt) in (record { tree = t; reads = e; flight = f .0 }, f .1)
+    by t false e q h = clash h (λ z. omega arith)
+
+    go : (m : Answer Tree) → read s ≡ m → profile-in k m ≡ Inside → (f : FlightRecord s) × (depth (f .tree) ≤ k)
+    go (gives t) e h = by t (fits-profile k t) e refl h
+    go (refused x) e h = clash h (λ z. omega arith)
+
+inside-so : (k : ℕ) (s : Bytes) (f : FlightRecord s) → depth (f .tree) ≤ k → profile-in k (read s) ≡ Inside
+inside-so k s f d = rw (f .reads, is-true (fits-profile k (f .tree)) (flight-fits k (f .tree) (f .flight) d))
+
+both-inside : (p q : Standing) → both-in p q ≡ Inside → (p ≡ Inside) × (q ≡ Inside)
+both-inside Inside q e = (refl, e)
+both-inside Outside Inside e = clash e (λ z. omega arith)
+both-inside Outside Outside e = clash e (λ z. omega arith)
+both-inside Outside (NotReadable x) e = clash e (λ z. omega arith)
+both-inside (NotReadable x) q e = clash e (λ z. omega arith)
+
+module _ (l r : Bytes) where
+  -- A number of either, whatever levels they may have.
+  pub beside-unread : (j k : ℕ) (x : Refusal) → both-in (profile-in j (read l)) (profile-in k (read r)) ≡ NotReadable x → (room : ℕ)
+      → on-flights l r room ≡ refusal x
+  beside-unread j k x = go (read l) (read r) refl refl
+    where
+      second : (b : Bool) (y : Refusal) → both-in (cond b Inside Outside) (NotReadable y) ≡ NotReadable x → y ≡ x
+      second true y q = cc
+      second false y q = cc
+
+      never : {C : Type 0} (b c : Bool) → both-in (cond b Inside Outside) (cond c Inside Outside) ≡ NotReadable x → C
+      never true true q = clash q (λ z. omega arith)
+      never true false q = clash q (λ z. omega arith)
+      never false true q = clash q (λ z. omega arith)
+      never false false q = clash q (λ z. omega arith)
+
+      go : (m n : Answer Tree) → read l ≡ m → read r ≡ n → both-in (profile-in j m) (profile-in k n) ≡ NotReadable x → (room : ℕ)
+          → on-flights l r room ≡ refusal x
+      go (refused y) n e f q room = let same : y ≡ x = cc in first-unread l r y e room ∙ ap refusal same
+      go (gives t) (refused y) e f q room = second-unread l r t y e f room ∙ ap refusal (second (fits-profile j t) y q)
+      go (gives t) (gives u) e f q room = never (fits-profile j t) (fits-profile k u) q
+
+  module _ (ol : Octets l) (or : Octets r) where
+    -- How deep each side stands in the overlay, by how many levels it has.
+    side-levels : (fl : FlightRecord l) (fr : FlightRecord r) → (depth (fl .tree) ≤ levels-beside (header l) (header r)) ↔ (stands (fl .tree) (fr .tree) ≤ 8)
+    side-levels fl fr =
+        rw (header-read l (fl .tree) ol (fl .reads), header-read r (fr .tree) or (fr .reads))
+        (beside-levels (fl .tree) (fr .tree) (fl .flight .deep))
+
+module _ (l r : Bytes) (ol : Octets l) (or : Octets r) where
+  -- Both inside with the levels that they may have beside each other: the plain edit.
+  pub beside-inside : both-in (beside l r) (beside r l) ≡ Inside → (room : ℕ) → on-flights l r room ≡ on-two concat l r room
+  beside-inside e room =
+      let both = both-inside (beside l r) (beside r l) e in
+      let left = inside-told (levels-beside (header l) (header r)) l (few-levels (header l) (header r)) (both .0) in
+      let right = inside-told (levels-beside (header r) (header l)) r (few-levels (header r) (header l)) (both .1) in
+      let fl = left .0 in
+      let fr = right .0 in
+      overlay-plain l r fl fr
+      (leaves l r fl fr .1 (side-levels l r ol or fl fr .0 (left .1), side-levels r l or ol fr fl .0 (right .1)))
+      room
+
+  -- Both flight records, and one of them outside with these levels: the overlay would be too deep.
+  pub beside-deep : OutsideBeside l r → (fl : FlightRecord l) (fr : FlightRecord r) (a : Ending) → a ≡ ending (on-two concat l r 65536)
+      → (x : Refusal) → x ≡ or-profile a → (room : ℕ) → on-flights l r room ≡ refusal x
+  beside-deep out fl fr a ha x hx room =
+      overlay-refused l r fl fr deeper room ∙ ap refusal (sym (hx ∙ ap or-profile ha))
+    where
+      deeper : Flight (concat-so l r fl fr .0) → ⊥
+      deeper f =
+          let q = leaves l r fl fr .0 f in
+          let left : beside l r ≡ Inside = inside-so (levels-beside (header l) (header r)) l fl (side-levels l r ol or fl fr .1 (q .0)) in
+          let right : beside r l ≡ Inside = inside-so (levels-beside (header r) (header l)) r fr (side-levels r l or ol fr fl .1 (q .1)) in
+          let both : Inside ≡ Outside = sym (ap₂ both-in left right) ∙ out in
+          clash both (λ z. omega arith)
 
 -- ---- the forms of the code, by what a call has told
 
@@ -372,21 +436,12 @@ module _ (b : Bytes) (s : Steps) (e : s ≡ steps-told (path-of b)) where
       go (gives p) k = cc
       go (refused x) k = refl
 
--- An object, by the code's test that it is none.
-turned : (g b : Bool) → not g ≡ b → g ≡ not b
-turned true b e = ap not e
-turned false b e = ap not e
+-- Which levels a side may have, by the two tests of the code.
+module _ (h o : Header) (g k : Bool) (hg : g ≡ is-object h) (hk : k ≡ is-object o) where
+  pub one-level-less : (g && not k) ≡ true → 7 ≡ levels-beside h o
+  unfolding levels-beside
+  one-level-less q = rw (← hg, ← hk, q)
 
-module _ (h o : Header) (n : Nesting) (g : Bool) (hg : g ≡ is-object h) where
-  pub no-object : not g ≡ true → false ≡ too-deep h o n
-  unfolding too-deep
-  no-object q = rw (← hg, turned g true q)
-
-  module _ (q : not g ≡ false) (k : Bool) (hk : k ≡ is-object o) where
-    pub two-objects : k ≡ true → false ≡ too-deep h o n
-    unfolding too-deep
-    two-objects p = rw (← hg, turned g false q, ← hk, p)
-
-    pub one-object : k ≡ false → (m x : Nesting) → m ≡ n → m ≡ x → is-deep x ≡ too-deep h o n
-    unfolding too-deep
-    one-object p m x e t = rw (← hg, turned g false q, ← hk, p) (as-told is-deep e t)
+  pub all-levels : (g && not k) ≡ false → 8 ≡ levels-beside h o
+  unfolding levels-beside
+  all-levels q = rw (← hg, ← hk, q)

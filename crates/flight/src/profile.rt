@@ -8,6 +8,7 @@ use layout::every::Question;
 use layout::every::passes;
 use layout::refusal::Refusal;
 ghost use mathlib.Core.Path.{_≡_};
+ghost use Prim.Native.Nat.{_≤_};
 ghost use Rattle.layout.specs.Read.{read};
 ghost use Rattle.layout.specs.Check.{checked};
 ghost use Rattle.flight.specs.Flight.{flight};
@@ -25,11 +26,13 @@ pub enum Profile {
     Refused(Refusal),
 }
 
-// The check tells the depth at once; the rest of the profile is one question, asked of a record that has passed it.
-pub(crate) fn profile_of(s: &[u8]) -> Profile
-    ensures { λ r. ⌜ r ≡ profileIn (read (now (s .entry))) ⌝ }
+// How a record stands to it that may have so many levels. The check tells the depth at once; the rest of the profile is one question,
+// asked of a record that has passed.
+pub(crate) fn profile_of(s: &[u8], levels: u32) -> Profile
+    requires { ⌜ levels ≤ 64 ⌝ }
+    ensures { λ r. ⌜ r ≡ profileIn levels (read (now (s .entry))) ⌝ }
 {
-    match check_levels(s, FLIGHT_DEPTH) {
+    match check_levels(s, levels) {
         Nesting::Refused(refusal) => Profile::Refused(refusal),
         Nesting::Deep => Profile::Outside,
         Nesting::Fits => {
@@ -42,13 +45,20 @@ pub(crate) fn profile_of(s: &[u8]) -> Profile
 }
 
 // How two records stand to it together: a number comes before 12, the left one's first.
-pub(crate) fn profile_of_both(left: &[u8], right: &[u8]) -> Profile
-    ensures { λ r. ⌜ r ≡ bothIn (profileIn (read (now (left .entry)))) (profileIn (read (now (right .entry)))) ⌝ }
+pub(crate) fn profile_of_both(
+    left: &[u8],
+    left_levels: u32,
+    right: &[u8],
+    right_levels: u32,
+) -> Profile
+    requires { ⌜ («left_levels» ≤ 64) × («right_levels» ≤ 64) ⌝ }
+    ensures { λ r. ⌜ r
+        ≡ bothIn (profileIn «left_levels» (read (now (left .entry)))) (profileIn «right_levels» (read (now (right .entry)))) ⌝ }
 {
-    match profile_of(left) {
+    match profile_of(left, left_levels) {
         Profile::Refused(refusal) => Profile::Refused(refusal),
-        Profile::Inside => profile_of(right),
-        Profile::Outside => match profile_of(right) {
+        Profile::Inside => profile_of(right, right_levels),
+        Profile::Outside => match profile_of(right, right_levels) {
             Profile::Refused(refusal) => Profile::Refused(refusal),
             Profile::Inside => Profile::Outside,
             Profile::Outside => Profile::Outside,
@@ -60,7 +70,7 @@ pub(crate) fn profile_of_both(left: &[u8], right: &[u8]) -> Profile
 pub fn check_flight(s: &[u8]) -> Check
     ensures { λ r. ⌜ r ≡ checked (flight (now (s .entry))) ⌝ }
 {
-    match profile_of(s) {
+    match profile_of(s, FLIGHT_DEPTH) {
         Profile::Inside => Check::Readable,
         Profile::Outside => Check::Refused(Refusal::Profile),
         Profile::Refused(refusal) => Check::Refused(refusal),

@@ -22,25 +22,25 @@ returns : tie.Need-returns
 returns c =
     let asked = c .before in
     let checked = to-check asked in
-    standing-inside (bytes checked) (octets checked) _ (checked .check-levels .ensures) (asked .before .enum-told2 .given .1) _
+    standing-inside _ (bytes checked) (octets checked) _ (checked .check-levels .ensures) (asked .before .enum-told2 .given .1) _
     (asked .passes .ensures)
     (c .if1 .taken)
 
 returns-2 : tie.Need-returns-2
 returns-2 c =
     let checked = c .before .before .before in
-    standing-refused (read (bytes checked)) _ (checked .check-levels .ensures) _ (c .before .refusal .given .1)
+    standing-refused _ (read (bytes checked)) _ (checked .check-levels .ensures) _ (c .before .refusal .given .1)
 
 returns-3 : tie.Need-returns-3
 returns-3 c =
     let checked = c .before .before in
-    standing-deep (read (bytes checked)) _ (checked .check-levels .ensures) (c .enum-told .given .1)
+    standing-deep _ (read (bytes checked)) _ (checked .check-levels .ensures) (c .enum-told .given .1)
 
 returns-4 : tie.Need-returns-4
 returns-4 c =
     let asked = c .before in
     let checked = to-check asked in
-    standing-outside (bytes checked) (octets checked) _ (checked .check-levels .ensures) (asked .before .enum-told2 .given .1) _
+    standing-outside _ (bytes checked) (octets checked) _ (checked .check-levels .ensures) (asked .before .enum-told2 .given .1) _
     (asked .passes .ensures)
     (c .if1 .left)
 

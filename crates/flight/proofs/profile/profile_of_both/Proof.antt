@@ -2,21 +2,25 @@
 use mathlib.Core.Path.{_∙_}
 use Rattle.layout.specs.Read.{read}
 use Rattle.flight.specs.Profile.{profile-in, both-in}
+use Rattle.flight.specs.declared.profile.Profile.{Profile as Standing}
 use Rattle.flight.proofs.Ends.{as-told, as-both-told}
 use borrow.Author.Needs.{needs}
 use Rattle.flight.proofs.profile.profile_of_both.Statement.{statement}
 use Rattle.flight.proofs.profile.profile_of_both.Tie as tie
 
+-- How the right record stands.
+abbrev right : tie.After-profile-of → Standing
+right c = let a = c .before .before .before .args in profile-in (a .right-levels) (read (a .right .now))
+
 returns : tie.Need-returns
 returns c =
     let l = c .before .before .before in
-    as-told (λ p. both-in p (profile-in (read (l .before .before .before .args .right .now)))) (l .profile-of .ensures) (c .before .refusal .given .1)
+    as-told (λ p. both-in p (right l)) (l .profile-of .ensures) (c .before .refusal .given .1)
 
 returns-2 : tie.Need-returns-2
 returns-2 c =
     let l = c .before .before .before in
-    c .profile-of2 .ensures
-    ∙ as-told (λ p. both-in p (profile-in (read (l .before .before .before .args .right .now)))) (l .profile-of .ensures) (c .before .enum-told .given .1)
+    c .profile-of2 .ensures ∙ as-told (λ p. both-in p (right l)) (l .profile-of .ensures) (c .before .enum-told .given .1)
 
 returns-3 : tie.Need-returns-3
 returns-3 c =
