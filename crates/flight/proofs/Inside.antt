@@ -15,8 +15,8 @@ use Rattle.layout.specs.EveryAt.{both-ask, ask-of}
 use Rattle.layout.specs.declared.refusal.Refusal.the-variants.{Profile}
 use Rattle.layout.specs.declared.every.Question.the-variants.{Profile as InProfile}
 use Rattle.layout.proofs.Answers.{from-require, to-require, gives-inj}
-use Rattle.layout.proofs.Sounds.{sound-test}
-use Rattle.layout.proofs.Questions.{every-both, and-apart, and-joined, names-apiece, kinds-apiece}
+use Rattle.layout.proofs.Sounds.{both, sound-test}
+use Rattle.layout.proofs.Questions.{every-both, names-apiece, kinds-apiece}
 use Rattle.builders.specs.Build.{join}
 use Rattle.builders.proofs.Appends.{depth-join}
 use Rattle.edits.specs.Keypath.{Step}
@@ -33,20 +33,13 @@ use Rattle.flight.specs.Claims.{stands}
 
 pub flight-test : (t : Tree) → T (is-flight t) ↔ Flight t
 unfolding is-flight
-flight-test t = (there, back)
-  where
-    there : T (is-sound t && (leb (depth t) 8 && (every (names-ask 1 32) t && every kinds-ask t))) → Flight t
-    there h =
-        let sound = and-apart (is-sound t) (leb (depth t) 8 && (every (names-ask 1 32) t && every kinds-ask t)) h in
-        let deep = and-apart (leb (depth t) 8) (every (names-ask 1 32) t && every kinds-ask t) (sound .1) in
-        let rest = and-apart (every (names-ask 1 32) t) (every kinds-ask t) (deep .1) in
-        record { sound = sound-test t .0 (sound .0); deep = leb→le (depth t) 8 (deep .0); named = rest .0; plain = rest .1 }
-
-    back : Flight t → T (is-sound t && (leb (depth t) 8 && (every (names-ask 1 32) t && every kinds-ask t)))
-    back f =
-        and-joined (is-sound t) (leb (depth t) 8 && (every (names-ask 1 32) t && every kinds-ask t)) (sound-test t .1 (f .sound))
-        (and-joined (leb (depth t) 8) (every (names-ask 1 32) t && every kinds-ask t) (le→leb (depth t) 8 (f .deep))
-        (and-joined (every (names-ask 1 32) t) (every kinds-ask t) (f .named) (f .plain)))
+flight-test t =
+    let asked = both (every (names-ask 1 32) t) (every kinds-ask t) (λ h. h, λ h. h) (λ h. h, λ h. h) in
+    let rest = both (leb (depth t) 8) (every (names-ask 1 32) t && every kinds-ask t) (leb→le (depth t) 8, le→leb (depth t) 8) asked in
+    let all = both (is-sound t) (leb (depth t) 8 && (every (names-ask 1 32) t && every kinds-ask t)) (sound-test t) rest in (
+      λ h. let r = all .0 h in record { sound = r .0; deep = r .1 .0; named = r .1 .1 .0; plain = r .1 .1 .1 },
+      λ f. all .1 (f .sound, (f .deep, (f .named, f .plain))),
+    )
 
 -- The order in which the code asks: first the depth, and then the rest at once.
 pub flight-asked : (t : Tree) → is-flight t ≡ (leb (depth t) 8 && every (ask-of (InProfile 32)) t)

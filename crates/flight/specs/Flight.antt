@@ -28,7 +28,7 @@ pub record Flight (t : Tree) : Type 0 where
   pub named : T (every (names-ask 1 32) t)
   pub plain : T (every kinds-ask t)
 
--- The same as a test: `flight-test` of proofs/Flights.antt.
+-- The same as a test: `flight-test` of proofs/Inside.antt.
 unfoldable pub is-flight : Tree → Bool
 unfolding has-characters is-integer
 is-flight t = is-sound t && (leb (depth t) 8 && (every (names-ask 1 32) t && every kinds-ask t))

@@ -1,5 +1,6 @@
 -- A question asked of everything in the tree that a record reads as: of each number, of each extension and of the names of each
--- object, at every level. Soundness is one such question; document 02 asks others. The code asks it by places in the bytes (EveryAt.antt).
+-- object, at every level. Soundness is one such question; document 02 asks others. The code asks them by places in the bytes
+-- (EveryAt.antt).
 use Prim.Native.Nat.{ℕ}
 use mathlib.Core.Bool.{Bool, true, false, _&&_}
 use mathlib.Core.List.{List, [], _∷_}

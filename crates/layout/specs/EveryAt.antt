@@ -41,7 +41,7 @@ unfoldable pub every-at : Ask → ℕ → Bytes → Bool
 every-at a zero s = true
 every-at a (suc k) s = every-by a (every-at a k) (header s) s
 
--- Two questions at once: that both have the answer yes is `every-both` of proofs/Asks.antt.
+-- Two questions at once: that this asks both is `every-both` of proofs/Questions.antt.
 abbrev pub both-ask : Ask → Ask → Ask
 both-ask a b =
     record {
