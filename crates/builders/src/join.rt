@@ -16,7 +16,7 @@ use layout::util::{Header, read_header, slice};
 use layout::writer::{copy, put_u32};
 
 // What a record gives to a container: the items of its table, of which a scalar record has one, or itself whole as one item.
-#[derive(Drop)]
+#[derive(Clone, Copy)]
 pub enum Given {
     Table(usize),
     Whole,

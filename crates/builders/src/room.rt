@@ -5,7 +5,7 @@ ghost use Rattle.builders.specs.Room.{room_for};
 use layout::constants::RECORD_LIMIT;
 use layout::refusal::Refusal;
 
-#[derive(Drop)]
+#[derive(Clone, Copy)]
 pub enum Room {
     Serves,
     Refused(Refusal),

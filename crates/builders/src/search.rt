@@ -16,7 +16,7 @@ use layout::util::slice;
 use layout::writer::{copy, put_u32};
 
 // Which members are searched: all, all but one, told by how many stand before it, or those whose value is not null.
-#[derive(Drop)]
+#[derive(Clone, Copy)]
 pub enum Kept {
     All,
     But(usize),
@@ -24,7 +24,7 @@ pub enum Kept {
 }
 
 // What the search has found.
-#[derive(Drop)]
+#[derive(Clone, Copy)]
 pub enum Found {
     Nothing,
     At(MemberAt),

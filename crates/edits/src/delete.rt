@@ -43,7 +43,7 @@ use layout::util::{Header, read_header, read_u32, slice};
 use layout::writer::{copy, put_u32};
 
 // A path of `count` steps, of which `step` is the next.
-#[derive(Drop)]
+#[derive(Clone, Copy)]
 pub struct Way {
     pub step: PartAt,
     pub count: usize,
@@ -51,7 +51,7 @@ pub struct Way {
 
 // How a container is written anew: an array of n items, an object of n members whose names rise, or one whose names do not.
 // What is no container is written in neither way.
-#[derive(Drop)]
+#[derive(Clone, Copy)]
 pub enum Manner {
     Items(usize),
     Rising(usize),

@@ -21,14 +21,14 @@ use layout::util::{Header, read_header, slice};
 const INDEX_ROOM: usize = 11;
 
 // Where a step leads.
-#[derive(Drop)]
+#[derive(Clone, Copy)]
 pub enum Spot {
     Nothing,
     At(PartAt),
 }
 
 // Which of n items is meant.
-#[derive(Drop)]
+#[derive(Clone, Copy)]
 pub enum Place {
     Nothing,
     At(usize),

@@ -29,7 +29,7 @@ const INDEX_DIGITS: u32 = 10;
 const MINUS_SIGN: u8 = 0x2d;
 
 // What an item of a path record is. The text of a name is the item's payload.
-#[derive(Drop)]
+#[derive(Clone, Copy)]
 pub enum KeyPath {
     Index(i32),
     Name,
@@ -37,7 +37,7 @@ pub enum KeyPath {
 }
 
 // How many steps a path has; or that it is no path.
-#[derive(Drop)]
+#[derive(Clone, Copy)]
 pub enum Steps {
     Count(usize),
     Refused,

@@ -14,7 +14,7 @@ use layout::sound::is_rising;
 use layout::util::slice;
 
 // How many members are written anew, and how long their names and values are.
-#[derive(Drop)]
+#[derive(Clone, Copy)]
 pub struct Sizes {
     pub count: usize,
     pub keys: usize,
@@ -23,7 +23,7 @@ pub struct Sizes {
 
 // Members that are still to be taken, of `count` those from the one behind `index` others on. Where the names rise they are taken
 // as they stand; elsewhere `index` stays 0, and each is searched for among all.
-#[derive(Drop)]
+#[derive(Clone, Copy)]
 pub struct Ahead {
     pub at: Places,
     pub index: usize,
@@ -32,7 +32,7 @@ pub struct Ahead {
 }
 
 // The next member, and what is ahead behind it; or the end.
-#[derive(Drop)]
+#[derive(Clone, Copy)]
 pub enum NextMember {
     Member(MemberAt, Ahead),
     End,

@@ -24,7 +24,7 @@ use layout::writer::put_u32;
 
 // Where the next member comes from: the side, the member and what is then ahead there; of equal names both sides, the right one's
 // member and what is then ahead on the left and on the right; or the end.
-#[derive(Drop)]
+#[derive(Clone, Copy)]
 pub enum Turn {
     Left(MemberAt, Ahead),
     Right(MemberAt, Ahead),

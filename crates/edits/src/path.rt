@@ -29,7 +29,7 @@ use layout::util::{Header, read_header, slice};
 use layout::writer::{copy, put_u32};
 
 // What a path finds in a record.
-#[derive(Drop)]
+#[derive(Clone, Copy)]
 pub enum Item {
     Nothing,
     At(ItemAt),

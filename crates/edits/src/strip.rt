@@ -30,7 +30,7 @@ use layout::util::{Header, read_header, slice};
 use layout::writer::{copy, put_u32};
 
 // How storing ends: with the length of what was stored, or at a name that is repeated among the members kept.
-#[derive(Drop)]
+#[derive(Clone, Copy)]
 pub enum Stripped {
     Len(usize),
     Repeated,

@@ -8,7 +8,7 @@ use layout::ending::Ending;
 use layout::refusal::Refusal;
 
 // Why they are refused, by the names of the plain refusals, whose numbers these have. A repeated name is not among them.
-#[derive(Drop)]
+#[derive(Clone, Copy)]
 pub enum FlightRefusal {
     // The sender of a record.
     Short,
@@ -25,7 +25,7 @@ pub enum FlightRefusal {
 }
 
 // The length of the result, which fills that many first bytes of the buffer, or a refusal, which changes no byte.
-#[derive(Drop)]
+#[derive(Clone, Copy)]
 pub enum FlightEnding {
     Done(usize),
     Refused(FlightRefusal),

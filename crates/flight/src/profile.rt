@@ -17,7 +17,7 @@ pub(crate) const FLIGHT_DEPTH: u32 = 8;
 const LONGEST_NAME: usize = 32;
 
 // How a record stands to the profile.
-#[derive(Drop)]
+#[derive(Clone, Copy)]
 pub enum Profile {
     Inside,
     Outside,

@@ -20,21 +20,21 @@ use crate::refusal::Refusal;
 use crate::utf8::{is_ascii, is_utf8};
 use crate::util::{Header, read_header};
 
-#[derive(Drop)]
+#[derive(Clone, Copy)]
 pub enum Check {
     Readable,
     Refused(Refusal),
 }
 
 // Where the names of an object end; none where rule 5 is broken.
-#[derive(Drop)]
+#[derive(Clone, Copy)]
 pub enum NamesEnd {
     At(usize),
     Bad,
 }
 
 // Whether a record nests no deeper than it may, as one that is to stand inside another, or one for the board's loader.
-#[derive(Drop)]
+#[derive(Clone, Copy)]
 pub enum Nesting {
     Fits,
     Deep,

@@ -17,7 +17,7 @@ use crate::sound::is_rising;
 use crate::utf8::{TextCheck, check_text};
 use crate::util::{Header, read_header, slice};
 
-#[derive(Drop)]
+#[derive(Clone, Copy)]
 pub enum Question {
     // Whether names rise.
     Sound,

@@ -1,7 +1,7 @@
 // What an entry describes.
 
 // The kinds of an item, one for each type code.
-#[derive(Drop)]
+#[derive(Clone, Copy)]
 pub enum Kind {
     Null,
     String,
@@ -13,14 +13,14 @@ pub enum Kind {
 }
 
 // The characters of an item: the number of code points of a name or a string; what is no text has none.
-#[derive(Drop)]
+#[derive(Clone, Copy)]
 pub enum Characters {
     Count(usize),
     NoText,
 }
 
 // An item of a record: its kind, where its payload stands, and its characters.
-#[derive(Drop)]
+#[derive(Clone, Copy)]
 pub struct JsonbItem {
     pub kind: Kind,
     pub place: usize,

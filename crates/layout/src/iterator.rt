@@ -17,7 +17,7 @@ use crate::utf8::{TextCheck, check_text};
 use crate::util::{Header, is_inside, read_header, read_u32, slice};
 
 // Where the next entry and the next payload stand, and how many items are left.
-#[derive(Drop)]
+#[derive(Clone, Copy)]
 pub struct ArrayIterator {
     pub jentry_offset: usize,
     pub item_offset: usize,
@@ -25,7 +25,7 @@ pub struct ArrayIterator {
 }
 
 // How opening ends; absent is the walk over a readable record of another kind.
-#[derive(Drop)]
+#[derive(Clone, Copy)]
 pub enum ArrayOpen {
     Opened(ArrayIterator),
     Absent,
@@ -34,7 +34,7 @@ pub enum ArrayOpen {
 
 // How a step ends: the item and the walk behind it, the end past the last item, or a refusal. A refused step has not moved:
 // the walk that it took can be used again.
-#[derive(Drop)]
+#[derive(Clone, Copy)]
 pub enum ArrayStep {
     Item(JsonbItem, ArrayIterator),
     End,
@@ -42,7 +42,7 @@ pub enum ArrayStep {
 }
 
 // Where the entries and the payloads of the next name and the next value stand, and how many members are left.
-#[derive(Drop)]
+#[derive(Clone, Copy)]
 pub struct ObjectIterator {
     pub key_jentry_offset: usize,
     pub val_jentry_offset: usize,
@@ -51,20 +51,20 @@ pub struct ObjectIterator {
     pub remaining: usize,
 }
 
-#[derive(Drop)]
+#[derive(Clone, Copy)]
 pub enum ObjectOpen {
     Opened(ObjectIterator),
     Absent,
     Refused(Refusal),
 }
 
-#[derive(Drop)]
+#[derive(Clone, Copy)]
 pub struct ObjectMember {
     pub key: JsonbItem,
     pub val: JsonbItem,
 }
 
-#[derive(Drop)]
+#[derive(Clone, Copy)]
 pub enum ObjectStep {
     Member(ObjectMember, ObjectIterator),
     End,
@@ -84,7 +84,7 @@ fn jentry_to_jsonb_item(jentry: u32, place: usize, characters: Characters) -> Js
 }
 
 // What a step hands out of an entry: the item, or the refusal of a string that is no text.
-#[derive(Drop)]
+#[derive(Clone, Copy)]
 enum Handed {
     Item(JsonbItem),
     Refused(Refusal),

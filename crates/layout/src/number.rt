@@ -38,7 +38,7 @@ const NEG_INFINITY: u64 = 0xfff0_0000_0000_0000;
 
 // What a payload stands for. A float is its 64 bits: the language's floats have one NaN, and every pattern of bits is listed. Of
 // a decimal that is wider than 64 bits only the length is given, 17 or 33: the bytes behind the first.
-#[derive(Drop)]
+#[derive(Clone, Copy)]
 pub enum Number {
     Nan,
     Infinity,

@@ -12,35 +12,35 @@ use crate::util::{read_u32, slice};
 
 // A part of a container: the number of its entry, and the place of its payload. An object of n members has 2n parts, the names
 // and then the values.
-#[derive(Drop)]
+#[derive(Clone, Copy)]
 pub struct PartAt {
     pub index: usize,
     pub place: usize,
 }
 
 // The places of the entry and of the payload that are stored next.
-#[derive(Drop)]
+#[derive(Clone, Copy)]
 pub struct Cursor {
     pub jentry: usize,
     pub place: usize,
 }
 
 // An item as it stands in a record: its entry, and the place of its payload.
-#[derive(Drop)]
+#[derive(Clone, Copy)]
 pub struct ItemAt {
     pub jentry: u32,
     pub place: usize,
 }
 
 // A member as it stands in one record, or in an array of names and one of values.
-#[derive(Drop)]
+#[derive(Clone, Copy)]
 pub struct MemberAt {
     pub key: ItemAt,
     pub val: ItemAt,
 }
 
 // The places of a member's two entries, its name and its value, in records to read or in a buffer to write.
-#[derive(Drop)]
+#[derive(Clone, Copy)]
 pub struct Places {
     pub key_jentry: usize,
     pub val_jentry: usize,

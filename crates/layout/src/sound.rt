@@ -13,7 +13,7 @@ use crate::order::is_before;
 use crate::refusal::Refusal;
 use crate::util::slice;
 
-#[derive(Drop)]
+#[derive(Clone, Copy)]
 pub enum Soundness {
     Sound,
     Unsound,

@@ -6,14 +6,14 @@ ghost use Rattle.layout.specs.Check.{text_checked};
 use crate::refusal::Refusal;
 
 // How the text check ends: the number of code points, or the refusal of bytes that are no text.
-#[derive(Drop)]
+#[derive(Clone, Copy)]
 pub enum TextCheck {
     Passed(usize),
     Refused(Refusal),
 }
 
 // What a first byte asks for: how many tail bytes, and the range of the first of them; or no character starts so.
-#[derive(Drop)]
+#[derive(Clone, Copy)]
 pub enum Lead {
     Tails(u8, u8, u8),
     Bad,

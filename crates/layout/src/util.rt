@@ -12,7 +12,7 @@ use crate::constants::{
 use crate::refusal::Refusal;
 
 // What the first four bytes of a record say: its sort with its count, or why it is none.
-#[derive(Drop)]
+#[derive(Clone, Copy)]
 pub enum Header {
     Array(usize),
     Object(usize),

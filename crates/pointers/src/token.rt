@@ -23,7 +23,7 @@ const SLASH: u8 = b'/';
 const TILDE: u8 = b'~';
 
 // A byte of a token, undone, and the place behind what it is written in.
-#[derive(Drop)]
+#[derive(Clone, Copy)]
 pub(crate) struct Undone {
     byte: u8,
     next: usize,

@@ -9,7 +9,7 @@ use layout::order::is_same_bytes;
 use layout::refusal::Refusal;
 use layout::sound::is_sound_where_readable;
 
-#[derive(Drop)]
+#[derive(Clone, Copy)]
 pub enum Grade {
     // The expected record itself.
     Right,

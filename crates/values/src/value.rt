@@ -23,7 +23,7 @@ use layout::parts::{PartAt, first_part, part_behind, part_payload, place_after};
 use layout::util::{Header, read_header, read_u32};
 
 // A member of an object: the parts of its name and of its value.
-#[derive(Drop)]
+#[derive(Clone, Copy)]
 pub struct PairAt {
     pub key: PartAt,
     pub val: PartAt,
