@@ -27,6 +27,29 @@ def tokens(text):
     return out
 
 
+def clause_names(root):
+    """The names of the clauses of each function that has several of a kind: (path, kind) to names."""
+    out = {}
+    for folder, dirs, files in os.walk(root):
+        dirs[:] = [d for d in dirs if d not in ("out", ".git")]
+        for f in files:
+            if not f.endswith(".rt"):
+                continue
+            t = open(os.path.join(folder, f), encoding="utf-8").read()
+            crate = os.path.relpath(folder, root).split("/")[0]
+            fn, kinds = None, {}
+            for line in t.split("\n"):
+                m = re.search(r"\bfn (\w+)", line)
+                if m and not line.strip().startswith("//"):
+                    fn, kinds = m[1], {}
+                m = re.match(r"\s+(requires|ensures) (\w+) \{", line)
+                if m and fn:
+                    kinds.setdefault(m[1], []).append(m[2])
+                    if len(kinds[m[1]]) > 1:
+                        out[f"{crate}::{f[:-3]}::{fn}", m[1]] = kinds[m[1]]
+    return out
+
+
 class Fn:
     """One function's names."""
 
@@ -38,6 +61,13 @@ class Fn:
         self.nindex = {norm(p[0]): i for i, p in enumerate(self.places)}
         self.needs = {norm(o): n for o, n in v["needs"]}
         self.stem = v["stem"]
+        self.cycle = ".+" in key
+        # Rattle-layout-proofs.decimal.+put_decimal.Lts-put_decimal is layout::decimal::put_decimal
+        parts = key.split(".")
+        crate = parts[0].split("-")[1]
+        name = parts[-1][4:] if parts[-1].startswith("Lts-") else parts[-2]
+        mods = [x for x in parts[1:-2]]
+        self.path = "::".join([crate] + mods + [name])
 
     def place(self, name):
         return self.nindex.get(norm(name))
@@ -47,7 +77,18 @@ class Fn:
         return None if p is None else self.index[p]
 
     def new_place(self, i):
+        arm = self.v["arms"][i]
+        if arm:
+            for j in range(len(self.places) - 1, i - 1, -1):
+                other = self.v["arms"][j]
+                if other and other[0] == arm[0] and self.under(j, i):
+                    return self.v["places_by_name"][j]
         return self.v["places_by_name"][i]
+
+    def under(self, j, i):
+        while j is not None and j != i:
+            j = self.parent(j)
+        return j == i
 
 
 START = {"args", "requires", "pre", "well_formed", "ranges", "lifetimes", "decreases", "good", "requires_raw"}
@@ -79,8 +120,18 @@ class Path:
         if not rest:
             return self.base
         f = norm(rest[0])
+        if f in ("requires", "pre") and fn.cycle and rest[1:2] in (["0"], ["1"]):
+            # in a cycle the measure stood before what is asked
+            rest = ["decreases"] + rest[2:] if rest[1] == "0" else ["requires"] + rest[2:]
+            f = rest[0]
         if f in START:
-            f = {"pre": "requires"}.get(f, f)
+            f = {"pre": "requires", "good": "well_formed"}.get(f, f)
+            own = CLAUSES.get((fn.path, "requires"))
+            if f == "requires" and own:
+                if len(rest) > 1 and rest[1].isdigit():
+                    rest[1] = own[int(rest[1])]
+                elif len(rest) == 1:
+                    return "(" + ", ".join(f"{self.base}.requires.{n}" for n in own) + ")"
             return ".".join([self.base, f] + [norm(x) if not x.isdigit() else x for x in rest[1:]])
         q = self.place
         while q is not None and norm(fn.places[q][2][0]) != f:
@@ -102,9 +153,21 @@ class Path:
                     continue
                 if norm(oldf) == f and tail[: len(oldpath)] == oldpath:
                     return ".".join([self.base, arm[0], newf] + [norm(x) for x in tail[len(oldpath) :]])
+        if f.startswith("match") and tail and re.match(r"keys\d+$", tail[0]) and "in_default" in step:
+            vs = [p[2][1] for p in fn.places if p[1] == fn.places[q][1] and norm(p[2][0]) == f and p[2][1].startswith("in-")]
+            if len(vs) == 1:
+                NOTS[".".join([self.base, step])] = re.match(r"in-(\w+)", vs[0])[1]
+            return ".".join([self.base, step, step + "-own"] + tail)
         if f.startswith("match") and tail and re.match(r"keys\d+$", tail[0]):
             return ".".join([self.base, step, "is"] + tail[1:])
         tail = [norm(x) if not x.isdigit() else x for x in tail]
+        callee = fn.places[q][3]
+        names = CLAUSES.get((callee, "ensures"))
+        if names and tail[:1] == ["ensures"]:
+            if len(tail) > 1 and tail[1].isdigit():
+                tail[1] = names[int(tail[1])]
+            elif len(tail) == 1:
+                return "(" + ", ".join(".".join([self.base, step, "ensures", n]) for n in names) + ")"
         if tail and (f.startswith("if") or f.endswith("test")):
             tail[0] = {"taken": "true", "left": "false"}.get(tail[0], tail[0])
         if tail and tail[0] == "inv":
@@ -140,12 +203,20 @@ class File:
             elif k.startswith(head + ".Lts-"):
                 f = k[len(head) + 5 :]
                 self.fns[norm(f) + "_lts"] = Fn(k, v)
-        self.text = open(self.path, encoding="utf-8").read()
+        text = open(self.path, encoding="utf-8").read()
+        # `f t c .x .y` is `(f t c).x.y`, and `c .x` is `c.x`
+        text = re.sub(
+            r"((?:[(=,\n]|\bin)\s*)([\w'₀-₉-]+(?: [\w'₀-₉-][\w'.₀-₉-]*)+)((?: \.\w[\w-]*)+)",
+            lambda m: m[1] + "(" + m[2] + ")" + m[3].replace(" ", ""),
+            text,
+        )
+        self.text = re.sub(r"(?<=[^\s(=→λ]) \.(?=\w)", ".", text)
 
     def fn_of(self, word):
         return self.fns.get(norm(word))
 
     def run(self):
+        NOTS.clear()
         if not self.fns:
             print("TODO no names for", self.folder)
             return
@@ -153,6 +224,13 @@ class File:
         head, body = [], []
         uses, chunks, cur = [], [], []
         self.header = []
+        joined = []
+        for line in lines:
+            if joined and joined[-1].startswith("use ") and "{" in joined[-1] and "}" not in joined[-1]:
+                joined[-1] += " " + line.strip()
+            else:
+                joined.append(line)
+        lines = [re.sub(r",\s*\}", "}", re.sub(r"\{ ", "{", l)) if l.startswith("use ") else l for l in joined]
         for line in lines:
             if line.startswith("use "):
                 uses.append(line)
@@ -174,7 +252,7 @@ class File:
             else:
                 merged.append(c)
         self.uses = [u for u in uses if self.keep_use(u)]
-        self.kinds_alias = {}
+        self.families = set()
         self.local, self.placefns, self.helpers, self.placetypes = set(), {}, {}, {}
         self.renames = {}
         self.answers, self.invariants, self.others = [], [], []
@@ -185,6 +263,8 @@ class File:
                 self.renames[p["name"]] = p["name"].replace("-", "_")
         for p in parsed:
             self.classify(p)
+        self.goals = {p["name"]: p for p in parsed if p["kind"] == "goal"}
+        self.number_temps(parsed)
         for p in parsed:
             self.emit(p)
         self.write()
@@ -222,6 +302,8 @@ class File:
     def place_of_type(self, text):
         """The place that a type names: tie.A .., x-lts.A .., or an alias."""
         m = re.match(r"\(?\s*(" + IDENT + r")(?:\.(" + IDENT + r"))?", text.strip())
+        if m and not m[2] and m[1] in self.families:
+            m = re.match(r"\(?\s*" + re.escape(m[1]) + r"\s+(" + IDENT + r")\.(" + IDENT + r")", text.strip())
         if not m:
             return None
         if m[2]:
@@ -238,9 +320,12 @@ class File:
             p["kind"] = "raw"
             return
         typ = self.head_type(sig)
-        if "statement M" in typ and re.search(r"[-_]spec$", name):
+        if m := re.match(r"\s*\(\s*(" + IDENT + r")\.Claims\b[\s\S]*→ ℕ → Type 0\s*$", typ):
+            self.families.add(name)
             p["kind"] = "drop"
-        elif re.search(r"→ In 1 |^\s*ℕ → In 1", typ) or re.search(r"\.Claims\b", typ):
+        elif "statement M" in typ and re.search(r"[-_]spec$", name):
+            p["kind"] = "drop"
+        elif re.search(r"→ In \d |^\s*ℕ → In \d", typ) or re.search(r"\.Claims\b", typ):
             p["kind"] = "drop"
         elif m := re.search(r"(?:^|[\s(])(" + IDENT + r")\.Need-(" + IDENT + r")", typ):
             p["kind"] = "goal"
@@ -251,7 +336,7 @@ class File:
             p["kind"], p["fn"], p["loop"] = "invariant", self.fn_of(m[1]), m[2]
         elif m := re.search(r"(" + IDENT + r")\.decreases-(loop[^\s]*)", typ):
             p["kind"], p["fn"], p["loop"] = "measure", self.fn_of(m[1]), m[2]
-        elif "Measures 1 " in typ:
+        elif re.search(r"Measures \d ", typ):
             p["kind"] = "decreases"
             f = norm(re.sub(r"^μ[-_]", "", name))
             p["fn"] = self.fns.get(f + "_lts") or (list(self.fns.values())[0] if len(self.fns) == 1 else None)
@@ -271,7 +356,8 @@ class File:
                 arrow = t0.split("→", 1)
                 if len(arrow) == 2 and (pt := self.place_of_type(arrow[0])):
                     res = self.place_of_type(arrow[1])
-                    if res and arrow[1].count("→") == 0:
+                    p["fn"], p["place"] = pt
+                    if (res and arrow[1].count("→") == 0) or (sig.startswith("abbrev") and self.is_path(p)):
                         p["kind"], p["fn"], p["place"] = "placefn", pt[0], pt[1]
                         self.placefns[name] = p
                     else:
@@ -279,6 +365,15 @@ class File:
                         self.helpers[name] = p
                 else:
                     p["kind"] = "lemma"
+
+    def is_path(self, p):
+        """Whether a value at a place is a path from there."""
+        unf, params, body = self.clause(p)
+        if params is None:
+            return False
+        toks = tokens(body.strip())
+        got = self.expr(toks, 0, {params[-1]: Path(p["fn"], "c", p["place"])})
+        return bool(got) and self.skip(toks, got[1]) >= len(toks)
 
     def clause(self, p):
         """(unfolding lines, parameters, body) of a definition with one clause."""
@@ -298,6 +393,7 @@ class File:
         toks = tokens(text)
         out, i = [], 0
         env = dict(env)
+        depth, shadows = 0, []
         while i < len(toks):
             t = toks[i]
             if t == "let":
@@ -319,11 +415,29 @@ class File:
                 out.append(t)
                 i += 1
                 continue
+            if t in "([{":
+                depth += 1
+            elif t in ")]}":
+                depth -= 1
+                while shadows and shadows[-1][0] > depth:
+                    _, name, old = shadows.pop()
+                    env[name] = old
             if t == "λ":
-                out.append(t)
-                i += 1
+                j = i + 1
+                while j < len(toks) and toks[j] != ".":
+                    if toks[j] in env:
+                        shadows.append((depth, toks[j], env.pop(toks[j])))
+                    j += 1
+                out.append("".join(toks[i : j + 1]))
+                i = j + 1
                 continue
             prev = toks[i - 1] if i else ""
+            if t in self.goals and prev != ".":
+                got = self.goal_call(toks, i, env)
+                if got:
+                    out.append(got[0])
+                    i = got[1]
+                    continue
             if t in self.helpers and prev != ".":
                 got = self.helper_call(toks, i, env)
                 if got:
@@ -411,6 +525,53 @@ class File:
         got = self.expr(toks, i, env)
         return got[0]
 
+    def number_temps(self, parsed):
+        """A goal that the old names call after a temporary, as add-t11: by its rank among those of its kind."""
+        groups = {}
+        for p in parsed:
+            if p["kind"] == "goal" and (m := re.match(r"(\w+)[-_]t(\d+)$", p["old"])):
+                groups.setdefault((id(p["fn"]), m[1]), []).append((int(m[2]), p))
+        for (_, op), ps in groups.items():
+            fn = ps[0][1]["fn"]
+            have = sorted(int(m[1]) for o, _ in fn.v["needs"] if (m := re.match(op + r"-t(\d+)$", o)))
+            ps.sort(key=lambda x: x[0])
+            if all(n in have for n, _ in ps):
+                continue
+            if len(have) == len(ps):
+                for n, (_, p) in zip(have, ps):
+                    p["old"] = f"{op}-t{n}"
+            else:
+                print("TODO temporaries", self.folder, op, [n for n, _ in ps], have)
+
+    def place_asked(self, p):
+        """The goal's new name and the place where it is asked."""
+        fn = p["fn"]
+        for (o, n), (po, pn) in zip(fn.v["needs"], fn.v["asked_at"]):
+            if norm(o) == norm(p["old"]):
+                return n, fn.place(po)
+        return None, None
+
+    def goal_call(self, toks, i, env):
+        """An answer that another answer cites."""
+        p = self.goals[toks[i]]
+        new, place = self.place_asked(p)
+        if new is None or place is None or not self.goal:
+            return None
+        j = self.skip(toks, i + 1)
+        targ = ""
+        if self.cycle:
+            targ = " " + toks[j]
+            j = self.skip(toks, j + 1)
+        got = self.expr(toks, j, env) if toks[j] == "(" else self.atom(toks, j, env)
+        if not got or got[0].fields:
+            return None
+        k = self.skip(toks, got[1])
+        life = self.expr(toks, k, env) if k < len(toks) and toks[k] == "(" else self.atom(toks, k, env) if k < len(toks) else None
+        end = life[1] if life and life[0].fields and life[0].fields[-1] == "lifetimes" else got[1]
+        fn = p["fn"]
+        self.records.add(fn.stem + fn.v["places_by_name"][place])
+        return f"{fn.stem}{new}{targ} (goal.at.{self.goal}{targ} {got[0].base}).{fn.v['places_by_name'][place]}", end
+
     def helper_call(self, toks, i, env):
         name = toks[i]
         p = self.helpers[name]
@@ -428,8 +589,14 @@ class File:
         if arg.root == arg.place == p["place"] or (arg.root == p["place"]):
             return f"{new}{targ} {arg.base}", got[1]
         if self.goal:
-            return f"{new}{targ} (goal.at.{self.goal}{targ} {arg.base}).{p['fn'].stem}{want}", got[1]
-        return f"{new}{targ} TODO-{want}", got[1]
+            return f"{new}{targ} (goal.at.{self.goal}{targ} {arg.base}).{want}", got[1]
+        unf, params, body = self.clause(p)
+        was = self.goal
+        text = self.rewrite(body, {params[-1]: arg})
+        self.goal = was
+        if "\n" in text:
+            text = "\n        " + text.strip()
+        return f"({text})", got[1]
 
     # ---- emission
 
@@ -467,7 +634,9 @@ class File:
         t = []
         if self.cycle:
             t, names = [names[0]], names[1:]
-        c = names[0]
+        c, more = names[0], names[1:]
+        if more and more[0].startswith("κ"):
+            more = more[1:]
         # where the goal is asked
         at = None
         for (o, n), (po, pn) in zip(fn.v["needs"], fn.v["asked_at"]):
@@ -481,7 +650,21 @@ class File:
             return
         env = {c: Path(fn, c, at)}
         body = self.rewrite(body, env, goal)
-        lhs = " ".join([goal] + t + [c])
+        names = None
+        if new.startswith("returns"):
+            names = CLAUSES.get((fn.path, "ensures"))
+        elif m := re.match(r"(\w+?)(-\w+)?-requires", new):
+            for (callee, kind), ns in CLAUSES.items():
+                if kind == "requires" and callee.endswith("::" + m[1]):
+                    names = ns
+        if names and (spread := self.spread(body, names)):
+            body = spread
+        elif names:
+            if "\n" in body:
+                body = "\n    let all =" + (body if body.startswith("\n") else " " + body) + " in\n    record { " + "; ".join(f"{n} = all.{i}" for i, n in enumerate(names)) + " }"
+            else:
+                body = f"let all = {body} in record {{ " + "; ".join(f"{n} = all.{i}" for i, n in enumerate(names)) + " }"
+        lhs = " ".join([goal] + t + [c] + more)
         text = p["comments"] + [f"pub {goal} : goal.{goal}"] + unf
         if "\n" in body:
             b = body if body.startswith("\n") else "\n    " + body
@@ -489,6 +672,75 @@ class File:
         else:
             text.append(f"{lhs} = {body}")
         self.answers.append(text)
+
+    def spread(self, body, names):
+        """A tuple, or a tactic, at the end of a body: a record with the clauses' names."""
+        depth, last = 0, 0
+        toks = tokens(body)
+        pos, at = 0, 0
+        for tk in toks:
+            if tk in "([{":
+                depth += 1
+            elif tk in ")]}":
+                depth -= 1
+            pos += len(tk)
+            if tk == "in" and depth == 0:
+                at = pos
+        front, end = body[:at], body[at:]
+        strip = end.strip()
+        lead = end[: len(end) - len(end.lstrip())]
+        if re.match(r"(omega|search|grind)\b", strip):
+            return front + lead + "record { " + "; ".join(f"{n} = {strip}" for n in names) + " }"
+        if not strip.startswith("("):
+            return None
+        parts, depth, cur = [], 0, ""
+        for k, tk in enumerate(tokens(strip)):
+            if tk in "([{":
+                depth += 1
+                if depth == 1:
+                    continue
+            elif tk in ")]}":
+                depth -= 1
+                if depth == 0:
+                    parts.append(cur)
+                    cur = None
+                    continue
+            if cur is None:
+                if tk.strip():
+                    return None
+                continue
+            if tk == "," and depth == 1:
+                parts.append(cur)
+                cur = ""
+            else:
+                cur += tk
+        parts = [x.strip() for x in parts if x is not None and x.strip()]
+        if len(parts) != len(names):
+            return None
+        if "\n" in strip:
+            return front + lead + "record {\n" + "".join(f"      {n} = {x};\n" for n, x in zip(names, parts)) + "    }"
+        return front + lead + "record { " + "; ".join(f"{n} = {x}" for n, x in zip(names, parts)) + " }"
+
+    def finish(self, text):
+        """What is plainer in the new names: facts of a default arm, and records in omega's list."""
+
+        def negation(m):
+            v = NOTS.get(m[1])
+            return m[1] + ".not-" + v if v else m[0]
+
+        text = re.sub(r"\(λ (?:\w+ )?e\. (?:none_of|⊎_elim) (?:\(λ q\. omega arith\) )+\(rw e at (c\.in_default[\w-]*)\.in_default[\w-]*-own\.keys\d+\)\)", negation, text)
+        text = re.sub(r"λ (?:\w+ )?e\. (?:none_of|⊎_elim) (?:\(λ q\. omega arith\) )+\(rw e at (c\.in_default[\w-]*)\.in_default[\w-]*-own\.keys\d+\)", negation, text)
+
+        def absent(m):
+            v = NOTS.get(m[3])
+            return f"λ {m[1]} e. {m[3]}.not-{v} {m[1]} ({m[2]})" if v else m[0]
+
+        text = re.sub(r"λ (\w+) e\. (?:⊎_elim|none_of) (?:\(λ q\. omega arith\) )+\(rw \(((?:[^()]|\([^()]*\))*)\) at (c\.in_default[\w-]*)\.in_default[\w-]*-own\.keys\d+\)", absent, text)
+
+        def record(m):
+            return re.sub(r"\((c(?:\.[\w-]+)*\.(?:requires|ensures))\.\w+(?:, \1\.\w+)+\)", r"\1", m[0])
+
+        return re.sub(r"omega \(arith, (?:[^()\n]|\([^()\n]*\))*\)", record, text)
 
     def emit_loop(self, p):
         fn = p["fn"]
@@ -630,6 +882,7 @@ class File:
             if names and self.answers:
                 uses = uses + [f"use {self.module}.Invariants.{{{', '.join(names)}}}"]
         if self.answers:
+            self.answers = [[self.finish(x) for x in c] for c in self.answers]
             body = "\n".join("\n".join(c) for c in self.answers)
             have = set(re.findall(r"[^\s{},]+", " ".join(uses)))
             more = [n for n in ("ap", "not") if "(ap not " in body and n not in have]
@@ -656,7 +909,12 @@ class File:
         return out
 
 
+CLAUSES = {}
+NOTS = {}
+
+
 def main():
+    CLAUSES.update(clause_names(os.path.join(os.path.abspath(sys.argv[1]), "..")))
     crate, names = sys.argv[1], json.load(open(sys.argv[2]))
     only = sys.argv[3:]
     n = 0

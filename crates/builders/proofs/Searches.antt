@@ -2,7 +2,7 @@
 use Prim.Native.Nat.{ℕ, zero, suc, ◌+◌, ◌^◌, ◌<◌, ◌≤◌, zero-le, suc-le-suc}
 use native.Mathlib.Nat.{le_of_suc-le-suc, not-suc-le-zero}
 use native.Mathlib.Omega.{arith}
-use mathlib.Core.Path.{◌≡◌, refl, sym, ap, ◌∙◌}
+use mathlib.Core.Path.{◌≡◌, refl, sym, ap, subst, ◌∙◌}
 use mathlib.Core.Bool.{Bool, true, false, cond}
 use mathlib.Core.List.{List, [], ◌∷◌, ◌++◌}
 use lib.ListN.{length, drop, length-take}
@@ -167,7 +167,7 @@ module _ (key : MemberAt → Bytes) where
       → first_over (after (key x)) bs ≡ nth bs (suc j)
   unfolding first_over nth over before
   first_after [] j x h e = cc
-  first_after (b ∷ bs) zero x h e = let q : b ≡ x = cc in rw (← q, order_refl (key b)) (first_above b bs h.0)
+  first_after (b ∷ bs) zero x h e = let q : b ≡ x = cc in rw (q, order_refl (key x)) (subst (λ (y : MemberAt). first_over (after (key y)) bs ≡ nth bs zero) q (first_above b bs h.0))
   first_after (b ∷ bs) (suc j) x h e = rw (order_turn (key b) (key x), above_nth b x bs j h.0 e) (first_after bs j x h.1 e)
 
   nth_some : (bs : List MemberAt) (j : ℕ) → j < length bs → (x : MemberAt) × (nth bs j ≡ At x)

@@ -6,13 +6,11 @@ use mathlib.Core.Path.{◌≡◌, refl}
 use mathlib.Core.Bool.{Bool, true, false, not, cond}
 use mathlib.Core.List.{List, ◌∷◌}
 use lib.Dec.{eqb}
-use lib.ListN.{take, drop}
 use Rattle.layout.specs.Bytes.{Bytes}
-use Rattle.layout.specs.Entry.{code_of, length_of}
+use Rattle.layout.specs.Entry.{code_of}
 use Rattle.layout.specs.Order.{before}
 use Rattle.layout.specs.Parts.{name_in, member_at, members_from, members_at, behind_member}
 use Rattle.builders.specs.Search.{is_kept, kept_of, Bound, bound, over, better, step, turn, least}
-use Rattle.layout.specs.declared.parts.ItemAt.{ItemAt}
 use Rattle.layout.specs.declared.parts.MemberAt.{MemberAt}
 use Rattle.layout.specs.declared.parts.Places.{Places}
 use Rattle.builders.specs.declared.search.Kept.{Kept}

@@ -1,4 +1,6 @@
 // Builders: append and object build, and what writes a container into a lent buffer.
+#![tactic(auto)]
+
 pub mod builder;
 pub mod join;
 pub mod names;

@@ -10,7 +10,7 @@ use Rattle.layout.specs.Bytes.{Bytes, be32, word, Octets}
 use Rattle.layout.specs.Answer.{Answer, refused, gives, ◌>>=◌, require}
 use Rattle.layout.specs.Entry.{sort_of, count_of}
 use Rattle.layout.specs.Text.{utf8}
-use Rattle.layout.specs.Tree.{Tree, null, boolean, number, string, extension, array, object, Items, none, item, names, pair, kind}
+use Rattle.layout.specs.Tree.{Tree, null, boolean, number, string, extension, array, object, Items, none, item, names, pair}
 use Rattle.layout.specs.Encode.{Part, entries, payloads, name_parts, item_parts, member_parts, part, record_of, encode}
 use Rattle.layout.specs.Read.{header, text, number_in, payload_in, items_in, names_in, array_in, object_in, scalar_in, container_in, too_deep, nested, root_in, read}
 use Rattle.layout.specs.Limits.{Valid, ValidItems, ValidMembers, depth, depth_items, depth_members}

@@ -7,7 +7,7 @@ use native.Mathlib.Decide.{dec_le}
 use borrow.Author.Tests.{le-leb, lt-leb}
 use Rattle.layout.specs.Bytes.{Bytes, Octets}
 use Rattle.layout.specs.Answer.{Answer, gives, refused}
-use Rattle.layout.specs.Tree.{Tree, null, boolean, number, string, extension, array, object, kind}
+use Rattle.layout.specs.Tree.{Tree, null, boolean, number, string, extension, array, object}
 use Rattle.layout.specs.Encode.{item_parts, member_parts, part, encode}
 use Rattle.layout.specs.Read.{header, nested, read}
 use Rattle.layout.specs.Limits.{Valid, depth}

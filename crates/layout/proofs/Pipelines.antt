@@ -1,7 +1,7 @@
 -- An edit on bytes, step by step: document 01's order of numbers is the order of these laws.
 use Prim.Native.Nat.{ℕ, ◌≤◌}
 use native.Mathlib.Omega.{arith}
-use mathlib.Core.Path.{◌≡◌, refl, sym, ◌∙◌}
+use mathlib.Core.Path.{◌≡◌, refl}
 use mathlib.Core.Bool.{Bool, true, false, not, cond}
 use mathlib.Core.Option.{Option, none as nothing, some}
 use lib.Dec.{T, ltb, nltb→le}
@@ -18,7 +18,6 @@ use Rattle.layout.specs.declared.refusal.Refusal.{Refusal}
 use Rattle.layout.specs.declared.refusal.Refusal.TheVariants.{Buffer}
 use Rattle.layout.specs.declared.ending.Ending.{Ending}
 use Rattle.layout.specs.declared.ending.Ending.TheVariants.{Absent, Refused}
-use Rattle.layout.proofs.Answers.{from_bind}
 use Rattle.layout.proofs.Patches.{in_refused, into_fits}
 
 -- An edit that always finds something.

@@ -1,6 +1,6 @@
 -- Equality of values is an equivalence: `same_refl` of Values, and here the other way round and one after the other. And the test
 -- of it, `same`, says what `Same` says.
-use mathlib.Core.Path.{◌≡◌, refl, sym, ap, ap₂, ◌∙◌}
+use mathlib.Core.Path.{◌≡◌, refl, sym, ap, ap₂, subst, ◌∙◌}
 use mathlib.Core.Logic.Iff
 use mathlib.Core.Logic.{◌⊎◌, inl, inr, ⊎_elim, ◌↔◌}
 use mathlib.Core.Bool.{Bool, true, false, ◌&&◌}
@@ -67,7 +67,8 @@ same_like n u (member m x ns) r ps k h =
     (λ e.
     let (v, q, k₁, s₁, r₁) = same_like n u ns e.0 h.1 e.2 h.4 in
     let w = taken_two m h.0 n v ps h.1 q h.2 k₁ in
-    (v, w.0, w.1, s₁, rw e.1 (h.0, q, w.2, h.3, r₁)))
+    let r₂ : SameMembers (member m x e.0) w.0 = (h.0, q, w.2, h.3, r₁) in
+    (v, w.0, w.1, s₁, subst (λ (z : Members). SameMembers z w.0) (sym e.1) r₂))
     k
   where
     -- Two members taken one after the other can be taken the other way round.

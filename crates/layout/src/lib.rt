@@ -1,4 +1,6 @@
 // The layout of a record in bytes: entries, headers, numbers, text, the check, the walks, and parts by their places.
+#![tactic(auto)]
+
 pub mod check;
 pub mod constants;
 pub mod decimal;

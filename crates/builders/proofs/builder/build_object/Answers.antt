@@ -1,0 +1,7 @@
+-- `builders::builder::build_object` meets its contract: with the buffer's own length as the room.
+use Rattle.layout.proofs.Patches.{ended_in}
+use Rattle.builders.proofs.Twos.{two_fits}
+use Rattle.builders.proofs.builder.build_object.Goals as goal
+
+pub returns : goal.returns
+returns c = ended_in _ (two_fits _ _ _ _) c.build_object_in.ensures

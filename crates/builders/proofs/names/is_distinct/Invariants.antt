@@ -1,0 +1,19 @@
+-- `builders::names::is_distinct` meets its contract.
+-- The loop keeps that all names are distinct where the rest are, and that its place is the table's.
+use Prim.Native.Nat.{◌+◌, ◌-◌, ◌*◌, ◌^◌, ◌≤◌}
+use mathlib.Core.Path.{◌≡◌}
+use Rattle.layout.specs.Place.{parts_at}
+use Rattle.layout.specs.Table.{Carried}
+use Rattle.builders.specs.Order.{distinct}
+use Rattle.layout.specs.Parts.{texts}
+use Rattle.builders.proofs.names.is_distinct.Given as goal
+
+abbrev pub invariant-loop-i : goal.invariant-loop-i
+invariant-loop-i l =
+    (l.i ≤ l.n)
+    × (l.place ≤ l.start + 2 ^ 28 * l.i)
+    × (distinct (texts (parts_at l.s 0 l.start l.n)) ≡ distinct (texts (parts_at l.s l.i l.place (l.n - l.i))))
+    × Carried l.s 0 l.start l.i l.place
+
+abbrev pub decreases-loop-i : goal.decreases-loop-i
+decreases-loop-i l = l.n - l.i
