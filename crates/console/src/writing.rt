@@ -54,8 +54,8 @@ fn write(writing: Writing, first: &[u8], second: &[u8], out: &mut [u8]) -> Endin
     match writing {
         Writing::Plain(edit) => make_edit(edit, first, second, second, out),
         Writing::FlightDelete => flight_delete(first, second, out),
-        Writing::FlightConcat => flight_concat(first, second, out).plain(),
-        Writing::FlightStrip => flight_strip(first, out).plain(),
+        Writing::FlightConcat => flight_concat(first, second, out),
+        Writing::FlightStrip => flight_strip(first, out),
     }
 }
 

@@ -2,7 +2,7 @@
 -- That member goes; the name then finds the next that had it; of every other name the first member stays, and the later ones go.
 -- Where no name is there twice, `deleted_name` and `deleted_member` of Meanings say more. Of an object above the item that goes,
 -- `deleted_within`, `deleted_other_name` and `deleted_in_order` there hold with repeated names too.
-use mathlib.Core.Path.{◌≡◌, refl, ap, sym, ◌∙◌}
+use mathlib.Core.Path.{◌≡◌, refl, ap, subst, sym, ◌∙◌}
 use mathlib.Core.Logic.{inl, inr, ⊎_elim}
 use mathlib.Core.List.{List, [], ◌∷◌, ◌++◌}
 use mathlib.Core.Option.{Option, none as nothing, some}
@@ -40,7 +40,7 @@ first_of n v (member m t ms) e =
       new = λ i. ⊎_elim (λ q. h q) (λ j. f.new j) i;
     })
     (λ (q : n ≡ m).
-    let w : t ≡ v = some_inj (sym (find_first m t ms) ∙ (rw q at e)) in
+    let w : t ≡ v = some_inj (sym (find_first m t ms) ∙ subst (λ (k : Bytes). find k (member m t ms) ≡ some v) q e) in
     record { front = empty; back = ms; whole = rw (w, q); new = λ i. i })
 
 find_behind : (n : Bytes) (front back : Members) → (In n (names front) → ⊥) → find n (follow front back) ≡ find n back

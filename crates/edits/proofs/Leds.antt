@@ -26,13 +26,13 @@ use Rattle.builders.specs.Build.{count}
 use Rattle.builders.proofs.InOrders.{rising_in_order}
 use Rattle.builders.proofs.Knowns.{an_array}
 use Rattle.edits.specs.Keypath.{Step}
-use Rattle.edits.specs.Find.{step_place, step_name, item_at, step_into}
-use Rattle.edits.specs.Delete.{change_member, anew}
+use Rattle.edits.specs.Find.{step_place, step_name, item_at, step_into, ◌then◌}
+use Rattle.edits.specs.Delete.{change_member, change_item, change_at, anew, remains}
 use Rattle.layout.specs.Parts.{nth_part}
 use Rattle.edits.specs.Spot.{spot}
 use Rattle.edits.specs.Cut.{Stores}
 use Rattle.edits.specs.Manner.{InRuns, manner_of}
-use Rattle.edits.specs.Remains.{remains_of}
+use Rattle.edits.specs.Remains.{remains_in, remains_of}
 use Rattle.layout.specs.Parts.{count_parts, PartOf, parts_of}
 use Rattle.edits.specs.Runs.{Table, without, without_member}
 use Rattle.layout.specs.declared.parts.PartAt.{PartAt}
@@ -166,7 +166,11 @@ module _ (s : Bytes) (a : PartAt) (p : Step) (ts : Items) (c : Contains 64 s (ar
       let l : length (sp.left ++ sp.right) ≡ n - 1 = omega (arith, size_all, length-append sp.left sp.right) in
       let w : without a.index (parts_of s n) ≡ sp.left ++ sp.right =
       rw (array_parts, index_is) (without_split sp.left (part v) sp.right k sp.before) in
-      rw (c.reads, hk, hv, sp.gone, l, w)
+      let met : step_into p (array ts) ≡ some v = rw (hk, hv) in
+      let left : remains_of s (p ∷ []) ≡ payload (array (change_item nothing k ts)) =
+      ap (λ r. remains_in r (p ∷ [])) c.reads ∙ ap (λ o. payload (anew (o then remains []) p (array ts))) met
+          ∙ ap (λ o. payload (array (change_at nothing o ts))) hk in
+      left ∙ rw (sp.gone, l, w)
 
 pub array_led : (s : Bytes) (n : ℕ) (a : PartAt) (p : Step) → Octets s → checked (nested 64 s) ≡ Readable → length s ≤ 65536
     → header s ≡ Array n → spot (header s) s p ≡ At a
@@ -248,7 +252,9 @@ module _ (s : Bytes) (n : ℕ) (a : PartAt) (p : Step) (v : ValueAt s n a p) (ha
       rw (k, tk, dv)
       (ap₂ ◌++◌ (without_split sp.keys_left (name_part (step_name p)) sp.keys_right sp.count sp.keys_before)
       (without_split sp.vals_left (part v.value) sp.vals_right sp.count sp.vals_before)) in
-      rw (v.reads, v.found, stays nothing, sp.keys_gone, sp.vals_gone, l, w)
+      let left : remains_of s (p ∷ []) ≡ payload (object (in_order (change_member nothing (step_name p) ms))) =
+      ap (λ r. remains_in r (p ∷ [])) v.reads ∙ ap (λ o. payload (anew (o then remains []) p (object ms))) v.found in
+      left ∙ rw (stays nothing, sp.keys_gone, sp.vals_gone, l, w)
 
 pub rising_led : (s : Bytes) (n : ℕ) (a : PartAt) (p : Step) → Octets s → checked (nested 64 s) ≡ Readable → length s ≤ 65536
     → header s ≡ Object n → rises s n ≡ true → spot (header s) s p ≡ At a

@@ -2,7 +2,7 @@
 use Rattle.layout.specs.Parts.{start_of}
 use Prim.Native.Nat.{ℕ, suc, ◌+◌, ◌*◌, ◌-◌, ◌^◌, ◌≤◌, ◌<◌}
 use native.Mathlib.Omega.{arith}
-use mathlib.Core.Path.{◌≡◌, refl, ap, ap₂, sym, ◌∙◌}
+use mathlib.Core.Path.{◌≡◌, refl, ap, subst, ap₂, sym, ◌∙◌}
 use mathlib.Core.Bool.{false, cond}
 use mathlib.Core.List.{List, [], ◌∷◌, ◌++◌, append_assoc, append-nil}
 use mathlib.Core.Option.{Option, none as nothing, some}
@@ -37,12 +37,12 @@ use Rattle.layout.specs.declared.parts.Places.{Places}
 use Rattle.builders.proofs.Stands.{Stand, stand_from, stand_names, stand_values, stand_sorted}
 use Rattle.builders.proofs.Weaves.{entries_append, woven_record}
 use Rattle.edits.specs.Keypath.{Step}
-use Rattle.edits.specs.Find.{step_name}
-use Rattle.edits.specs.Delete.{change_member, delete}
+use Rattle.edits.specs.Find.{step_name, ◌then◌}
+use Rattle.edits.specs.Delete.{change_member, anew, remains, delete}
 use Rattle.layout.specs.Parts.{nth_part}
 use Rattle.edits.specs.Spot.{first, one_more, spot}
 use Rattle.edits.specs.Cut.{Stores}
-use Rattle.edits.specs.Remains.{remains_of}
+use Rattle.edits.specs.Remains.{remains_in, remains_of}
 use Rattle.layout.specs.Parts.{members_of}
 use Rattle.edits.specs.Members.{places_for, in_turn, sizes_of}
 use Rattle.layout.specs.declared.parts.PartAt.{PartAt}
@@ -141,7 +141,7 @@ module _ (name value : MemberAt → Bytes) (entry : MemberAt → ℕ) (n : Bytes
       let j = one_fewer (first n (names ms)) k e in
       let d : eqb i (i + k) ≡ false = ne_eqb i (i + k) (λ z. omega (arith, j.1)) in
       let y : i + k ≡ i + 1 + j.0 = omega (arith, j.1) in
-      rw d (h.0, rw y (rest j.0 j.2))
+      rw d (h.0, subst (λ (z : ℕ). Stand name value entry (kept_of (But z) (i + 1) xs) (change_member nothing n ms)) (sym y) (rest j.0 j.2))
 
   stand_by : (o : Ordering) (m : Bytes) (t : Tree) (ms : Members) (x : MemberAt) (xs : List MemberAt) (k i : ℕ) → order n m ≡ o
       → by o (one_more (first n (names ms))) (some 0) (one_more (first n (names ms))) ≡ some k
@@ -152,7 +152,8 @@ module _ (name value : MemberAt → Bytes) (entry : MemberAt → ℕ) (n : Bytes
   stand_by Equal m t ms x xs k i q e h rest =
       let z : k ≡ 0 = sym (some_inj e) in
       let y : i + k ≡ i = omega arith in
-      rw (q, y, eq-eqb i i refl, kept_past i (i + 1) xs (omega arith)) h.1
+      subst (λ (w : ℕ). Stand name value entry (kept_of (But w) i (x ∷ xs)) (change_member nothing n (member m t ms))) (sym y)
+          (rw (q, eq-eqb i i refl, kept_past i (i + 1) xs (omega arith)) h.1)
   stand_by Less m t ms x xs k i q e h rest = rw q (stand_later m t ms x xs k i e h rest)
   stand_by Greater m t ms x xs k i q e h rest = rw q (stand_later m t ms x xs k i e h rest)
 
@@ -287,7 +288,7 @@ gone s n val p v =
     record {
       rest = in_order (change_member nothing (step_name p) v.members);
       stand = rw z st;
-      left = rw (v.reads, v.found);
+      left = ap (λ r. remains_in r (p ∷ [])) v.reads ∙ ap (λ o. payload (anew (o then remains []) p (object ms))) v.found;
       shorter =
           omega (
             arith,

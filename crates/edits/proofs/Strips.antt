@@ -2,7 +2,7 @@
 -- and no longer, and where it is refused.
 use Prim.Native.Nat.{ℕ, zero, suc}
 use native.Mathlib.Omega.{arith}
-use mathlib.Core.Path.{◌≡◌, refl, ap, sym, ◌∙◌}
+use mathlib.Core.Path.{◌≡◌, refl, ap, subst, sym, ◌∙◌}
 use mathlib.Core.Logic.{inl, inr, ⊎_elim}
 use mathlib.Core.Bool.{Bool, true, false, cond, ◌&&◌}
 use mathlib.Core.List.{List, [], ◌∷◌}
@@ -264,7 +264,7 @@ kept_find (member m t ms) d n =
     (λ e.
     by_test (is_null t) (λ p. find n (cond p (kept ms) (member m t (kept ms))) ≡ cond p nothing (some t))
     (λ _. not_in n (kept ms) (λ i. has_not m (names ms) c.0 (rw e at (kept_names ms n i))))
-    (λ _. rw e (find_first m t (kept ms))))
+    (λ _. subst (λ (k : Bytes). find k (member m t (kept ms)) ≡ some t) (sym e) (find_first m t (kept ms))))
   where
     later : (n ≡ m → ⊥) → (p : Bool) → find n (cond p (kept ms) (member m t (kept ms))) ≡ find n (kept ms)
     later h true = refl

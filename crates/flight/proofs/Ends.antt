@@ -55,8 +55,7 @@ use Rattle.flight.specs.Profile.{fits_profile, profile_in, both_in, beside_outsi
 use Rattle.flight.specs.declared.profile.Profile.{Profile as Standing}
 use Rattle.flight.specs.declared.profile.Profile.TheVariants.{Inside, Outside, Refused as NotReadable}
 use Rattle.flight.proofs.Inside.{flight_test, flight_asked, profiled_gives, profiled_refused, outside, concat_leaves}
-use Rattle.flight.proofs.Fewer.{strip_lines, concat_lines}
-use Rattle.flight.proofs.Flights.{delete_lines, delete_stays, strip_stays, on_flights_is}
+use Rattle.flight.proofs.Flights.{delete_lines, delete_stays, strip_lines, strip_stays, concat_lines, on_flights_is}
 
 -- ---- how a record stands to the profile
 

@@ -1,25 +1,23 @@
--- Worked cases of document 02 §5 and §6 as one table: what the check answers of a record, and how an edit ends. `worked` proves every line,
+-- Worked cases of document 02 §5 as one table: what the check answers of a record, and how an edit ends. `worked` proves every line,
 -- about the definitions that the contracts cite.
 use Prim.Native.Nat.{ℕ, zero, suc, ◌+◌}
 use mathlib.Core.Path.{◌≡◌, refl}
 use mathlib.Core.List.{List, [], ◌∷◌, ◌++◌}
 use lib.ListN.{length, replicate}
 use Rattle.layout.specs.Bytes.{Bytes, be32}
-use Rattle.layout.specs.Tree.{Tree, array, object, none, item, empty, member}
+use Rattle.layout.specs.Tree.{Tree, null, array, object, none, item, empty, member}
 use Rattle.layout.specs.Encode.{encode}
 use Rattle.layout.specs.Order.{order, before, same_bytes}
 use Rattle.layout.specs.Check.{checked}
 use Rattle.layout.specs.Ended.{Outcome, result, refusal}
 use Rattle.layout.specs.declared.check.Check.{Check}
 use Rattle.layout.specs.declared.check.Check.TheVariants.{Readable, Refused}
-use Rattle.layout.specs.declared.refusal.Refusal.TheVariants.{Short, Layout, Path, Kind, Repeated, Buffer, Profile}
+use Rattle.layout.specs.declared.refusal.Refusal.TheVariants.{Short, Layout, Path, Kind, Buffer, Profile}
 use Rattle.layout.proofs.Lists.{Each}
 use Rattle.layout.proofs.Cases.{◌▸◌, ◌also◌}
 use Rattle.builders.specs.Order.{has, distinct}
-use Rattle.builders.specs.Build.{on_two}
 use Rattle.edits.specs.Path.{on_path}
-use Rattle.edits.specs.Concat.{concat}
-use Rattle.edits.specs.Strip.{strip, on_one}
+use Rattle.edits.specs.Strip.{on_one}
 use Rattle.flight.specs.Flight.{flight, flight_delete_by, flight_strip, on_flights}
 
 -- ---- what a line says
@@ -43,10 +41,6 @@ true_b = 0x40000001 ▸ 0x10000001 ▸ 0x40000000 ▸ 0x62 ∷ []
 
 abbrev D : Bytes
 D = 0x40000002 ▸ 0x10000001 ▸ 0x10000001 ▸ 0x00000000 ▸ 0x40000000 ▸ 0x61 ∷ 0x61 ∷ []
-
--- {"a":true,"a":true}.
-abbrev twice : Bytes
-twice = 0x40000002 ▸ 0x10000001 ▸ 0x10000001 ▸ 0x40000000 ▸ 0x40000000 ▸ 0x61 ∷ 0x61 ∷ []
 
 abbrev no_items : Bytes
 no_items = 0x80000000 ▸ []
@@ -136,11 +130,9 @@ table =
     ∷ ends (on_path flight_delete_by root_null no_items 65536) (refusal Kind)
     ∷ ends (on_flights (number_in (0x10 ∷ [])) cut_short 65536) (refusal Short)
     ∷ ends (on_flights A (number_in (0x10 ∷ [])) 0) (refusal Profile)
-    -- A repeated name: outside aboard, and 8 on the ground.
+    -- 12 in 8's place: a repeated name is outside.
     ∷ ends (on_flights no_members D 65536) (refusal Profile)
-    ∷ ends (on_two concat no_members D 65536) (refusal Repeated)
-    ∷ ends (on_one flight_strip twice 65536) (refusal Profile)
-    ∷ ends (on_one strip twice 65536) (refusal Repeated)
+    ∷ ends (on_one flight_strip D 65536) (refusal Profile)
     -- "A result's after 9", and before 10: an object of 8 levels beside a record that is none.
     ∷ ends (on_flights (encode (objects 7)) root_null 65536) (refusal Profile)
     ∷ ends (on_flights (encode (objects 7)) root_null 0) (refusal Profile)
@@ -152,11 +144,9 @@ table =
     ∷ []
 
 worked : Each Holds table
-unfolding flight on_path flight_delete_by on_one flight_strip on_flights on_two concat order before be32 same_bytes has distinct
+unfolding flight on_path flight_delete_by on_one flight_strip on_flights order before be32 same_bytes has distinct
 worked =
     refl
-    also refl
-    also refl
     also refl
     also refl
     also refl

@@ -26,7 +26,6 @@ use Rattle.edits.proofs.OperatorResults.{concat_made, strip_made}
 use Rattle.flight.specs.Flight.{Flight, profiled, flight_delete_by, flight_strip, flight_concat, on_flights}
 use Rattle.flight.specs.Claims.{FlightRecord, Flights}
 use Rattle.flight.proofs.Inside.{profiled_gives, profiled_flight, delete_flight, strip_flight, concat_leaves}
-use Rattle.flight.proofs.Fewer.{strip_lines, concat_lines}
 
 -- The tree of a flight record is that which it reads as.
 flight_of : (b : Bytes) (t : Tree) → FlightRecord b → read b ≡ gives t → Flight t
@@ -84,6 +83,9 @@ of_delete s p b room o = (there, λ h. delete_stays s p room h.0 ∙ h.1)
 
 -- ---- strip
 
+pub strip_lines : (t : Tree) → flight_strip t ≡ (profiled t >>= λ _. strip t >>= λ v. profiled v)
+strip_lines t = unfold flight_strip in refl
+
 strip_same : (t : Tree) → Flight t → flight_strip t ≡ strip t
 strip_same t f =
     let plain = strip_of_sound t f.sound in
@@ -113,6 +115,10 @@ of_strip s b room o = (there, λ h. strip_stays s room h.0 ∙ h.1)
 
 -- ---- concat
 
+pub concat_lines : (t u : Tree)
+    → flight_concat t u ≡ (profiled t >>= λ _. profiled u >>= λ _. concat t u >>= λ v. within v >>= λ w. profiled w)
+concat_lines t u = unfold flight_concat in refl
+
 pub on_flights_is : (l r : Bytes) (room : ℕ) → on_flights l r room ≡ written room (read l >>= λ t. read r >>= λ u. flight_concat t u)
 unfolding on_flights on_record ◌>>=◌
 on_flights_is l r room = by_reads (read l) (read r)
@@ -135,8 +141,8 @@ record Overlaid (l r : Bytes) (w : Tree) : Type 0 where
   limited : within w ≡ gives w
   flight : Flight w
 
-overlay_lines : (l r : Bytes) (w : Tree) → (read l >>= λ t. read r >>= λ u. flight_concat t u) ≡ gives w → Overlaid l r w
-overlay_lines l r w e =
+overlaid : (l r : Bytes) (w : Tree) → (read l >>= λ t. read r >>= λ u. flight_concat t u) ≡ gives w → Overlaid l r w
+overlaid l r w e =
     from_bind e λ t ht e₁. from_bind e₁ λ u hu e₂.
     from_bind (sym (concat_lines t u) ∙ e₂) λ x hx e₃. from_bind e₃ λ y hy e₄. from_bind e₄ λ v hv e₅. from_bind e₅ λ z hz e₆.
     let fz = profiled_flight z w e₆ in
@@ -161,7 +167,7 @@ of_concat l r b room ol or = (there, back)
     there : on_flights l r room ≡ result b → FlightRecord l × FlightRecord r × (on_two concat l r room ≡ result b) × FlightRecord b
     there e =
         let w = written_result room _ b (sym (on_flights_is l r room) ∙ e) in
-        let k = overlay_lines l r w.0 w.1 in
+        let k = overlaid l r w.0 w.1 in
         let plain : on_two concat l r room ≡ result b =
         on_two_is concat l r room
         ∙ ap (written room) (to_bind _ k.left_reads (to_bind _ k.right_reads (to_bind _ k.edited k.limited)) ∙ sym w.1)

@@ -1,8 +1,6 @@
 -- The laws of the flight profile.
 pub mod Inside
-pub mod Fewer
 pub mod Flights
 pub mod Limited
 pub mod Ends
-pub mod Aboard
 pub mod FlightCases

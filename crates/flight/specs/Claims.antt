@@ -1,21 +1,17 @@
--- What document 02 §5 and §6 say of the flight edits beside the plain ones.
+-- What document 02 §5 says of the flight edits beside the plain ones.
 use Rattle.std.specs.Prelude.{ℕ, suc, ◌≤◌, ◌≡◌, ◌↔◌}
 use Rattle.std.proofs.Math.Option.{Option, none as nothing, some}
 use Rattle.layout.specs.Bytes.{Bytes, Octets}
-use Rattle.layout.specs.Answer.{gives, ◌>>=◌}
+use Rattle.layout.specs.Answer.{gives}
 use Rattle.layout.specs.Tree.{Tree, Members}
 use Rattle.layout.specs.Read.{read}
 use Rattle.layout.specs.Limits.{depth}
-use Rattle.layout.specs.Ended.{result, refusal}
-use Rattle.layout.specs.Pipeline.{within}
-use Rattle.layout.specs.declared.refusal.Refusal.TheVariants.{Repeated}
+use Rattle.layout.specs.Ended.{result}
 use Rattle.builders.specs.Build.{on_two}
 use Rattle.edits.specs.Path.{delete_by, on_path}
 use Rattle.edits.specs.Concat.{members_in, concat}
 use Rattle.edits.specs.Strip.{strip, on_one}
-use Rattle.flight.specs.declared.ending.FlightEnding.{FlightEnding}
-use Rattle.flight.specs.Flight.{Flight, profiled, flight_delete_by, flight_strip, flight_concat, on_flights}
-use Rattle.flight.specs.Ending.{plain_ending}
+use Rattle.flight.specs.Flight.{Flight, flight_delete_by, flight_strip, on_flights}
 
 -- Bytes that are a flight record.
 pub record FlightRecord (b : Bytes) : Type 0 where
@@ -47,16 +43,3 @@ pub record Flights : Type 0 where
   pub strip_stays : (s : Bytes) (room : ℕ) → FlightRecord s → on_one flight_strip s room ≡ on_one strip s room
   -- Of concat one level too many, and nothing else, takes a result out of it.
   pub concat_leaves : (t u v : Tree) → Flight t → Flight u → concat t u ≡ gives v → Flight v ↔ ((stands t u ≤ 8) × (stands u t ≤ 8))
-
--- Document 02 §6.
-pub record OneFewer : Type 0 where
-  -- "In flight concat and strip a repeated name cannot be met, since names rise strictly": with the plain edits' own lines in the place of
-  -- theirs, that of 8 among them, they would say the same of all trees.
-  pub concat_lines : (t u : Tree)
-      → flight_concat t u ≡ (profiled t >>= λ _. profiled u >>= λ _. concat t u >>= λ v. within v >>= λ w. profiled w)
-  pub strip_lines : (t : Tree) → flight_strip t ≡ (profiled t >>= λ _. strip t >>= λ v. profiled v)
-  -- "Take 8 out of those two functions' answers": on any bytes, into any room, neither is refused with it; and of their own answers no
-  -- two are one plain ending, so that what is promised of that fixes the answer.
-  pub concat_never : (l r : Bytes) (room : ℕ) → on_flights l r room ≡ refusal Repeated → ⊥
-  pub strip_never : (s : Bytes) (room : ℕ) → on_one flight_strip s room ≡ refusal Repeated → ⊥
-  pub answers_apart : (x y : FlightEnding) → plain_ending x ≡ plain_ending y → x ≡ y

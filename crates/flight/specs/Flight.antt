@@ -1,9 +1,9 @@
--- The flight profile, document 02 §5, and its edits, of which §6 takes a number out.
+-- The flight profile: document 02 §5.
 use Rattle.std.specs.Prelude.{ℕ, ◌≤◌, Bool, ◌&&◌, List, T, leb}
-use Rattle.std.proofs.Math.Option.{Option, none as nothing, some}
+use Rattle.std.proofs.Math.Option.{Option, some}
 use Rattle.layout.specs.Bytes.{Bytes}
 use Rattle.layout.specs.Answer.{Answer, gives, ◌>>=◌, require}
-use Rattle.layout.specs.Tree.{Tree, array, object, Members}
+use Rattle.layout.specs.Tree.{Tree}
 use Rattle.layout.specs.Read.{read}
 use Rattle.layout.specs.Limits.{depth}
 use Rattle.layout.specs.Sound.{Sound}
@@ -12,12 +12,10 @@ use Rattle.layout.specs.Every.{every, is_sound, has_characters, names_ask, kinds
 use Rattle.layout.specs.Ended.{Outcome}
 use Rattle.layout.specs.Pipeline.{within, on_record}
 use Rattle.layout.specs.declared.refusal.Refusal.TheVariants.{Profile}
-use Rattle.builders.specs.Order.{in_order, follow}
-use Rattle.builders.specs.Build.{join}
 use Rattle.edits.specs.Keypath.{Step}
 use Rattle.edits.specs.Delete.{delete, deletable}
-use Rattle.edits.specs.Concat.{as_items, members_in}
-use Rattle.edits.specs.Strip.{stripped}
+use Rattle.edits.specs.Concat.{concat}
+use Rattle.edits.specs.Strip.{strip}
 
 -- "A flight record is sound, at most 8 deep, has names of 1 to 32 characters, and holds no extension, float, decimal, NaN or
 -- infinity." A root scalar has no depth.
@@ -54,33 +52,23 @@ flight_delete_by p t = do
   v ← profiled (delete p u)
   gives (some v)
 
--- Document 02 §6: in flight concat and strip "a repeated name cannot be met, since names rise strictly". So these are document 01's
--- concat and strip without the lines of 8; that they are the plain edits all the same is `OneFewer` and `Flights` of Claims.
 unfoldable pub flight_strip : Tree → Answer Tree
-unfolding profiled ◌>>=◌
+unfolding profiled strip ◌>>=◌
 flight_strip t = do
   _ ← profiled t
-  profiled (stripped t)
-
--- "Right members first, then left names not yet seen" of two objects, and `other` of any other pair.
-abbrev pub overlaid_or : Tree → Option Members → Option Members → Tree
-overlaid_or other nothing rs = other
-overlaid_or other (some ls) nothing = other
-overlaid_or other (some ls) (some rs) = object (in_order (follow rs ls))
-
--- "Two arrays join; any other pair becomes an array, a non-array side being one item."
-abbrev pub overlaid : Tree → Tree → Tree
-overlaid t u = overlaid_or (array (join (as_items t) (as_items u))) (members_in t) (members_in u)
+  v ← strip t
+  profiled v
 
 unfoldable pub flight_concat : Tree → Tree → Answer Tree
-unfolding profiled within ◌>>=◌
+unfolding profiled concat within ◌>>=◌
 flight_concat t u = do
   _ ← profiled t
   _ ← profiled u
-  w ← within (overlaid t u)
+  v ← concat t u
+  w ← within v
   profiled w
 
--- Left record, right record, 12, 9, 12, 10.
+-- Left record, right record, 12, 8, 9, 12, 10.
 unfoldable pub on_flights : Bytes → Bytes → ℕ → Outcome
 unfolding on_record flight_concat
 on_flights left right room =

@@ -1,7 +1,6 @@
--- The forms of the code: how records stand to the profile, the number of one outside it beside a path, how deep a side of an overlay
--- may be, and which endings are answers of flight concat and strip.
-use Rattle.std.specs.Prelude.{ℕ, ◌≡◌, Bool, true, false, not, cond, ◌&&◌, List, [], ◌∷◌, ◌++◌, T, leb}
-use Rattle.layout.specs.Refusal.{is_one_of, sender}
+-- The forms of the code: how records stand to the profile, the number of one outside it beside a path, and how deep a side of an
+-- overlay may be.
+use Rattle.std.specs.Prelude.{ℕ, ◌≡◌, Bool, true, false, not, cond, ◌&&◌, List, leb}
 use Rattle.layout.specs.Bytes.{Bytes}
 use Rattle.layout.specs.Answer.{Answer, gives, refused}
 use Rattle.layout.specs.Tree.{Tree}
@@ -63,16 +62,3 @@ abbrev pub or_profile : Ending → Refusal
 or_profile (Done n) = Profile
 or_profile Absent = Profile
 or_profile (NotDone r) = r
-
--- What is asked of an ending before it is told by the enums without 8. The numbers that have a case there are the sender's, and 9, 10 and
--- 12.
-abbrev pub own_numbers : List ℕ
-own_numbers = 9 ∷ 10 ∷ 12 ∷ []
-
-abbrev pub Aboard : Refusal → Type 0
-Aboard r = T (is_one_of (sender ++ own_numbers) r)
-
-abbrev pub EndsAboard : Ending → Type 0
-EndsAboard (Done n) = Unit {0}
-EndsAboard Absent = ⊥
-EndsAboard (NotDone r) = Aboard r

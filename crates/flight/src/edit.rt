@@ -1,6 +1,5 @@
 // Delete, concat and strip that take flight records and give flight records: document 02 §5. Each is the plain edit behind a look
-// at what it takes; only of concat can a result leave the profile. Concat and strip meet no repeated name, and have no 8 among their
-// answers: §6.
+// at what it takes; only of concat can a result leave the profile.
 ghost use Rattle.std.specs.Prelude.{◌≡◌, length};
 ghost use Rattle.layout.specs.Read.{header};
 ghost use Rattle.layout.specs.Ended.{Ended};
@@ -9,11 +8,9 @@ ghost use Rattle.edits.specs.Path.{on_path};
 ghost use Rattle.edits.specs.Strip.{on_one};
 ghost use Rattle.flight.specs.Flight.{flight_delete_by, flight_strip};
 ghost use Rattle.flight.specs.Flight.{on_flights};
-ghost use Rattle.flight.specs.Ending.{plain_ending};
 ghost use Rattle.flight.specs.Profile.{beside_outside, is_object};
 ghost use Rattle.flight.specs.Profile.{levels_beside, OutsideBeside, or_profile};
 
-use crate::ending::{FlightEnding, ending_aboard};
 use crate::profile::{FLIGHT_DEPTH, Profile, profile_of, profile_of_both};
 use edits::keypath::{Steps, check_path};
 use edits::operator::{concat, concat_in, strip_nulls};
@@ -45,8 +42,8 @@ pub fn flight_delete(target: &[u8], path: &[u8], out: &mut [u8]) -> Ending
     }
 }
 
-// Strips a flight record by the plain edit, whose ending it has.
-fn strip_flight(target: &[u8], out: &mut [u8]) -> Ending
+// Takes the members whose value is null out of a flight record, at every level.
+pub fn flight_strip(target: &[u8], out: &mut [u8]) -> Ending
     ensures { Ended result out.old out.new
         (on_one flight_strip target.now (length out.old)) }
 {
@@ -55,14 +52,6 @@ fn strip_flight(target: &[u8], out: &mut [u8]) -> Ending
         Profile::Outside => Ending::Refused(Refusal::Profile),
         Profile::Inside => strip_nulls(target, out),
     }
-}
-
-// Takes the members whose value is null out of a flight record, at every level.
-pub fn flight_strip(target: &[u8], out: &mut [u8]) -> FlightEnding
-    ensures { Ended (plain_ending result) out.old out.new
-        (on_one flight_strip target.now (length out.old)) }
-{
-    ending_aboard(strip_flight(target, out))
 }
 
 fn is_object(s: &[u8]) -> bool
@@ -115,9 +104,9 @@ fn refuse_overlay(left: &[u8], right: &[u8], out: &mut [u8]) -> Ending
     }
 }
 
-// Overlays a flight record with another by the plain edit, whose ending it has. That the result is a flight record is known before a
-// byte is written.
-fn concat_flights(left: &[u8], right: &[u8], out: &mut [u8]) -> Ending
+// Overlays a flight record with another: two objects become one, anything else an array. That the result is a flight record is known
+// before a byte is written.
+pub fn flight_concat(left: &[u8], right: &[u8], out: &mut [u8]) -> Ending
     ensures { Ended result out.old out.new
         (on_flights left.now right.now (length out.old)) }
 {
@@ -128,12 +117,4 @@ fn concat_flights(left: &[u8], right: &[u8], out: &mut [u8]) -> Ending
         Profile::Outside => refuse_overlay(left, right, out),
         Profile::Inside => concat(left, right, out),
     }
-}
-
-// Overlays a flight record with another: two objects become one, anything else an array.
-pub fn flight_concat(left: &[u8], right: &[u8], out: &mut [u8]) -> FlightEnding
-    ensures { Ended (plain_ending result) out.old out.new
-        (on_flights left.now right.now (length out.old)) }
-{
-    ending_aboard(concat_flights(left, right, out))
 }

@@ -216,7 +216,7 @@ pub extern "C" fn jsonb_flight_concat(left: &[u8], right: &[u8], out: &mut [u8])
     ensures { EndedC result out.old out.new
         (on_flights left.now right.now (length out.old)) }
 {
-    c_ending(flight_concat(left, right, out).plain())
+    c_ending(flight_concat(left, right, out))
 }
 
 // Takes the members whose value is null out of a flight record, at every level.
@@ -225,5 +225,5 @@ pub extern "C" fn jsonb_flight_strip(target: &[u8], out: &mut [u8]) -> u64
     ensures { EndedC result out.old out.new
         (on_one flight_strip target.now (length out.old)) }
 {
-    c_ending(flight_strip(target, out).plain())
+    c_ending(flight_strip(target, out))
 }

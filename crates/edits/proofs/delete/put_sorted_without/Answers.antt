@@ -1,0 +1,68 @@
+-- `edits::delete::put_sorted_without` meets its contract.
+use Prim.Native.Nat.{◌+◌, ◌*◌, ◌≤◌}
+use native.Mathlib.Omega.{arith}
+use mathlib.Core.Path.{◌≡◌, refl}
+use Rattle.layout.specs.Read.{header}
+use Rattle.layout.proofs.Words.{octets_of}
+use Rattle.edits.specs.Keypath.{Step}
+use Rattle.edits.specs.Spot.{spot}
+use Rattle.edits.specs.declared.find.Spot.TheVariants.{At}
+use Rattle.edits.proofs.Sorteds.{ValueAt, value_at, same_places, gone_room, gone_stored}
+use borrow.Author.Rules.{rules}
+use Rattle.edits.proofs.delete.put_sorted_without.Goals.{After-measure_members-sizes, After-shared_slice_known-1}
+use Rattle.edits.proofs.delete.put_sorted_without.Goals as goal
+
+-- The value that a step finds.
+found_by : (c : After-shared_slice_known-1) (p : Step)
+    → spot (header c.args.s.now) c.args.s.now p ≡ At c.args.val
+    → ValueAt c.args.s.now c.args.n c.args.val p
+found_by c p q = value_at c.args.s.now _ c.args.val p (octets_of c.args.s.now (λ i. omega (arith, c.type_inv.s i))) c.requires.0 c.requires.1 c.requires.2 q
+
+-- By the step that led to it.
+found : (c : After-shared_slice_known-1) → ValueAt c.args.s.now c.args.n c.args.val c.requires.3.0
+found c = found_by c c.requires.3.0 c.requires.3.1
+
+-- What is left is no longer than the object was.
+room : (c : After-measure_members-sizes) → 4 + 8 * c.measure_members-sizes.result.count + c.measure_members-sizes.result.keys + c.measure_members-sizes.result.vals ≤ 65536
+room c =
+    let v = value_at c.args.s.now _ c.args.val c.requires.3.0 (octets_of c.args.s.now (λ i. omega (arith, c.type_inv.s i)))
+        c.requires.0 c.requires.1 c.requires.2 c.requires.3.1 in
+    gone_room c.args.s.now _ _ _ v _ _ c.members_of-from.ensures c.measure_members-sizes.ensures
+
+pub members_of-from-requires : goal.members_of-from-requires
+members_of-from-requires c = let v = found (goal.at.members_of-from-requires c).After-shared_slice_known-1 in omega (arith, v.table, v.short)
+
+pub overflow_sub-kept : goal.overflow_sub-kept
+overflow_sub-kept c = omega (arith, (found (goal.at.overflow_sub-kept c).After-shared_slice_known-1).index)
+
+pub measure_members-sizes-requires : goal.measure_members-sizes-requires
+measure_members-sizes-requires c =
+    let v = found (goal.at.measure_members-sizes-requires c).After-shared_slice_known-1 in
+    omega (arith, v.table, v.short, v.values, same_places c.members_of-from.ensures)
+
+pub places_for-to-requires : goal.places_for-to-requires
+places_for-to-requires c = omega (arith, room c, c.requires.4)
+
+pub overflow_cast-sizes : goal.overflow_cast-sizes
+overflow_cast-sizes c = omega (arith, room (goal.at.overflow_cast-sizes c).After-measure_members-sizes)
+
+pub put_members-requires : goal.put_members-requires
+put_members-requires c =
+    let v = found (goal.at.put_members-requires c).After-shared_slice_known-1 in
+    let at = same_places c.members_of-from.ensures in
+    let behind = same_places c.places_for-to.ensures in record {
+      count_bound = omega (arith, v.table, v.short, v.values, at);
+      key_jentry_bound = omega (arith, room (goal.at.put_members-requires c).After-measure_members-sizes, c.requires.4, behind);
+    }
+
+pub overflow_add-result : goal.overflow_add-result
+overflow_add-result c = omega (arith, room (goal.at.overflow_add-result c).After-measure_members-sizes, c.requires.4, (same_places c.places_for-to.ensures).3)
+
+pub overflow_sub-result : goal.overflow_sub-result
+overflow_sub-result c = omega (arith, (same_places c.places_for-to.ensures).3)
+
+pub returns : goal.returns
+returns c =
+    λ p q.
+    gone_stored c.args.s.now _ c.args.val p (found_by (goal.at.returns c).After-shared_slice_known-1 p q) _ _ c.members_of-from.ensures c.measure_members-sizes.ensures
+    _ _ _ _ _ _ c.places_for-to.ensures refl c.put_u32.ensures c.put_members.ensures

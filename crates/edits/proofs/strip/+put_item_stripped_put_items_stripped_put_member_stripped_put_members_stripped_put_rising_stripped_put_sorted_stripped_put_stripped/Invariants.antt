@@ -1,0 +1,75 @@
+-- `edits::strip::put_stripped` and what it calls in a cycle meet their contracts: the allowance falls with each level.
+use Prim.Native.Nat.{ℕ, ◌+◌, ◌*◌, ◌-◌, ◌<◌}
+use native.Mathlib.Omega.{arith}
+use mathlib.Core.Path.{◌≡◌, refl, ap, sym, ◌∙◌}
+use lib.Dec.{eqb}
+use lib.ListN.{length, take}
+use Rattle.layout.specs.Bytes.{Octets}
+use Rattle.layout.specs.Parts.{name_in, nth_part}
+use Rattle.layout.proofs.Words.{octets_of}
+use Rattle.layout.proofs.Pieces.{same_part}
+use Rattle.layout.proofs.Carries.{part_start, part_on}
+use Rattle.layout.proofs.Patches.{length_patch}
+use Rattle.builders.specs.Search.{bound, least}
+use Rattle.builders.specs.declared.search.Found.TheVariants.{Nothing, At}
+use Rattle.builders.specs.declared.search.Kept.TheVariants.{NonNull}
+use Rattle.edits.specs.Stripping.{Prepared}
+use Rattle.edits.proofs.Aheads.{searched}
+use Rattle.edits.proofs.Standings.{fewer_on}
+use Rattle.edits.proofs.Stripped.{NestedItem, item_asked, item_repeats, item_short, item_stripped, item_as_is, member_stripped}
+use Rattle.edits.proofs.Stripped.{no_scalar, no_refusal, handed_asks, handed_back}
+use Rattle.edits.proofs.StripItems.{ArrayAt, array_at, Storing, storing_starts, storing_room, ItemNext, item_asks}
+use Rattle.edits.proofs.StripItems.{storing_repeats, storing_len, storing_on, storing_ends}
+use Rattle.edits.proofs.StripMembers.{ObjectStripped, object_stripped, handed_near, handed_members}
+use Rattle.edits.proofs.StripMembers.{sizes_measured, sizes_fit, setting_of, all_places, found_among}
+use Rattle.edits.proofs.StripMembers.{StoringMembers, members_starts, members_room, members_few, members_asks}
+use Rattle.edits.proofs.StripMembers.{members_repeats, past_room, members_on, members_ends}
+use Rattle.edits.proofs.StripRising.{StoringRising, rising_starts, RisingNext, rising_found, rising_asks, rising_on, rising_passed, rising_ends}
+use borrow.Author.Rules.{rules}
+use Rattle.edits.proofs.strip.+put_item_stripped_put_items_stripped_put_member_stripped_put_members_stripped_put_rising_stripped_put_sorted_stripped_put_stripped.Lts-put_item_stripped
+use Rattle.edits.proofs.strip.+put_item_stripped_put_items_stripped_put_member_stripped_put_members_stripped_put_rising_stripped_put_sorted_stripped_put_stripped.Lts-put_items_stripped
+use Rattle.edits.proofs.strip.+put_item_stripped_put_items_stripped_put_member_stripped_put_members_stripped_put_rising_stripped_put_sorted_stripped_put_stripped.Lts-put_member_stripped
+use Rattle.edits.proofs.strip.+put_item_stripped_put_items_stripped_put_member_stripped_put_members_stripped_put_rising_stripped_put_sorted_stripped_put_stripped.Lts-put_members_stripped
+use Rattle.edits.proofs.strip.+put_item_stripped_put_items_stripped_put_member_stripped_put_members_stripped_put_rising_stripped_put_sorted_stripped_put_stripped.Lts-put_rising_stripped
+use Rattle.edits.proofs.strip.+put_item_stripped_put_items_stripped_put_member_stripped_put_members_stripped_put_rising_stripped_put_sorted_stripped_put_stripped.Lts-put_sorted_stripped
+use Rattle.edits.proofs.strip.+put_item_stripped_put_items_stripped_put_member_stripped_put_members_stripped_put_rising_stripped_put_sorted_stripped_put_stripped.Lts-put_stripped
+use Rattle.edits.proofs.strip.+put_item_stripped_put_items_stripped_put_member_stripped_put_members_stripped_put_rising_stripped_put_sorted_stripped_put_stripped.Given as goal
+
+abbrev pub decreases-put_item_stripped : goal.decreases-put_item_stripped
+decreases-put_item_stripped l = 5 * l.allowance + 4
+
+abbrev pub decreases-put_items_stripped : goal.decreases-put_items_stripped
+decreases-put_items_stripped l = 5 * l.allowance + 1
+
+abbrev pub decreases-put_member_stripped : goal.decreases-put_member_stripped
+decreases-put_member_stripped l = 5 * l.allowance + 5
+
+abbrev pub decreases-put_members_stripped : goal.decreases-put_members_stripped
+decreases-put_members_stripped l = 5 * l.allowance + 2
+
+abbrev pub decreases-put_rising_stripped : goal.decreases-put_rising_stripped
+decreases-put_rising_stripped l = 5 * l.allowance + 1
+
+abbrev pub decreases-put_sorted_stripped : goal.decreases-put_sorted_stripped
+decreases-put_sorted_stripped l = 5 * l.allowance + 1
+
+abbrev pub decreases-put_stripped : goal.decreases-put_stripped
+decreases-put_stripped l = 5 * l.allowance + 3
+
+abbrev pub invariant-put_items_stripped-loop-part : goal.invariant-put_items_stripped-loop-part
+invariant-put_items_stripped-loop-part l = (w : ArrayAt l.s l.n l.allowance) × Storing l.s l.n l.allowance l.at w l.initial.out l.out l.here l.part × (l.part ≡ nth_part l.s l.n l.part.index)
+
+abbrev pub decreases-put_items_stripped-loop-part : goal.decreases-put_items_stripped-loop-part
+decreases-put_items_stripped-loop-part l = l.n - l.part.index
+
+abbrev pub invariant-put_rising_stripped-loop-here : goal.invariant-put_rising_stripped-loop-here
+invariant-put_rising_stripped-loop-here l = StoringRising l.s l.initial.here.count l.allowance l.at l.initial.to l.initial.out l.out l.to l.here
+
+abbrev pub decreases-put_rising_stripped-loop-here : goal.decreases-put_rising_stripped-loop-here
+decreases-put_rising_stripped-loop-here l = l.here.count - l.here.index
+
+abbrev pub invariant-put_sorted_stripped-loop-i : goal.invariant-put_sorted_stripped-loop-i
+invariant-put_sorted_stripped-loop-i l = StoringMembers l.s l.ahead.count l.allowance l.at l.sizes l.initial.to l.initial.out l.out l.last l.to l.i
+
+abbrev pub decreases-put_sorted_stripped-loop-i : goal.decreases-put_sorted_stripped-loop-i
+decreases-put_sorted_stripped-loop-i l = l.sizes.count - l.i
