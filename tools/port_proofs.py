@@ -220,13 +220,14 @@ class File:
         if not self.fns:
             print("TODO no names for", self.folder)
             return
+        self.text = self.out_of_module(self.text)
         lines = self.text.split("\n")
         head, body = [], []
         uses, chunks, cur = [], [], []
         self.header = []
         joined = []
         for line in lines:
-            if joined and joined[-1].startswith("use ") and "{" in joined[-1] and "}" not in joined[-1]:
+            if joined and joined[-1].startswith("use ") and ("{" in joined[-1] and "}" not in joined[-1] or line.startswith("    as ")):
                 joined[-1] += " " + line.strip()
             else:
                 joined.append(line)
@@ -268,6 +269,53 @@ class File:
         for p in parsed:
             self.emit(p)
         self.write()
+
+    def out_of_module(self, text):
+        """What stands in `module _ (t : ℕ) where`, at the top, with t written out."""
+        m = re.search(r"^module _ \(t : ℕ\) where\n", text, re.M)
+        if not m:
+            return text
+        lines = text[m.end() :].split("\n")
+        inside, k = [], 0
+        while k < len(lines) and (not lines[k].strip() or lines[k].startswith("  ")):
+            inside.append(lines[k][2:] if lines[k].strip() else "")
+            k += 1
+        blocks = re.split(r"\n\n+", "\n".join(inside).strip("\n"))
+        parsed = []
+        for b in blocks:
+            parsed.append(self.parse(b.split("\n")))
+        fns = set()
+        for p in parsed:
+            typ = self.head_type(p["sig"])
+            p["how"] = "family" if ".Claims" in typ else "type" if re.match(r"\s*Type 0\s*$", typ) else "function"
+            if p["name"] and p["how"] == "function":
+                fns.add(p["name"])
+
+        def with_t(body):
+            toks = tokens(body)
+            def label(i):
+                k = self.skip(toks, i + 1)
+                return k < len(toks) and toks[k] == "="
+
+            return "".join(tk + " t" if tk in fns and (i == 0 or toks[i - 1] != ".") and not label(i) else tk for i, tk in enumerate(toks))
+
+        out = []
+        for p in parsed:
+            sig = p["sig"]
+            if p["how"] == "family":
+                sig = re.sub(r"→ Type 0\s*$", "→ ℕ → Type 0", sig)
+                out.append("\n".join(p["comments"] + [sig, p["defs"]]))
+            elif p["how"] == "type":
+                sig = re.sub(r"Type 0\s*$", "ℕ → Type 0", sig)
+                out.append("\n".join(p["comments"] + [sig, p["defs"]]))
+            else:
+                head, rest = sig.split(":", 1)
+                rest = with_t(rest)
+                sig = head + ": (t : ℕ) " + ("" if rest.lstrip().startswith("(c") else "→ ") + rest.lstrip()
+                unf, params, body = self.clause(p)
+                defs = "\n".join(unf + [" ".join([p["name"], "t"] + (params or [])) + " =" + (" " if "\n" not in body else "\n    ") + with_t(body.strip())])
+                out.append("\n".join(p["comments"] + [sig, defs]))
+        return text[: m.start()] + "\n\n".join(out) + "\n\n" + "\n".join(lines[k:])
 
     def keep_use(self, u):
         if re.search(r"\.(Statement\.\{statement\}|Tie as tie|Tie\.\{close\}|Reads as|Kinds as|Lts(-[\w-]+)? as)", u):

@@ -8,7 +8,7 @@ use lib.ListN.{length, take, drop}
 use lib.Seq.{take_at}
 use Rattle.layout.specs.Bytes.{Bytes, Octets, be32, word_at}
 use Rattle.layout.specs.Entry.{entry_of, length_of, entry_at}
-use Rattle.layout.specs.Tree.{Tree, kind}
+use Rattle.layout.specs.Tree.{Tree}
 use Rattle.layout.specs.Encode.{Part, entry_word, payload, part, record_of}
 use Rattle.layout.specs.Check.{checked}
 use Rattle.layout.specs.Patch.{patch}

@@ -1,5 +1,5 @@
 -- Delete by a path, number by number in document 01's order, as the code decides.
-use Prim.Native.Nat.{ℕ, ◌^◌, ◌≤◌, ◌<◌}
+use Prim.Native.Nat.{ℕ, ◌^◌, ◌<◌}
 use native.Mathlib.Omega.{arith}
 use mathlib.Core.Path.{◌≡◌, refl, ap, sym, ◌∙◌}
 use mathlib.Core.Bool.{true, false}
@@ -20,10 +20,9 @@ use Rattle.layout.specs.declared.refusal.Refusal.{Refusal}
 use Rattle.layout.specs.declared.refusal.Refusal.TheVariants.{Path, Kind}
 use Rattle.layout.specs.declared.ending.Ending.{Ending}
 use Rattle.layout.specs.declared.ending.Ending.TheVariants.{Refused}
-use Rattle.layout.specs.declared.util.Header.{Header}
 use Rattle.layout.specs.declared.util.Header.TheVariants.{Scalar}
 use Rattle.layout.specs.declared.check.Check.{Check}
-use Rattle.layout.specs.declared.check.Check.TheVariants.{Readable, Refused as NotReadable}
+use Rattle.layout.specs.declared.check.Check.TheVariants.{Refused as NotReadable}
 use Rattle.layout.specs.declared.item.Kind.TheVariants.{Container}
 use Rattle.layout.proofs.Level.{code_small}
 use Rattle.layout.proofs.Decoding.{container_encode}
@@ -39,10 +38,10 @@ use Rattle.edits.specs.Find.{◌then◌, step_into, look_up}
 use Rattle.edits.specs.Delete.{anew, remains, delete, deletable}
 use Rattle.edits.specs.Path.{delete_by, on_path}
 use Rattle.edits.specs.Steps.{steps_told}
-use Rattle.edits.specs.Held.{finding, Finds}
+use Rattle.edits.specs.Held.{finding}
 use Rattle.edits.specs.Remains.{remains_of}
 use Rattle.edits.specs.declared.keypath.Steps.{Steps}
-use Rattle.edits.specs.declared.keypath.Steps.TheVariants.{Count, Refused as NoPath}
+use Rattle.edits.specs.declared.keypath.Steps.TheVariants.{Refused as NoPath}
 use Rattle.edits.specs.declared.path.Item.{Item}
 use Rattle.edits.specs.declared.path.Item.TheVariants.{Nothing, At}
 use Rattle.edits.proofs.Deletes.{then_some}

@@ -27,7 +27,7 @@ use Rattle.layout.proofs.Patches.{in_as}
 use Rattle.layout.proofs.Pipelines.{record_absent, record_done}
 use Rattle.builders.proofs.Knowns.{Known, known}
 use Rattle.edits.specs.Find.{◌then◌}
-use Rattle.edits.specs.Held.{Held, Agree, Leads, search_in, Finds, item_record}
+use Rattle.edits.specs.Held.{Held, Leads, search_in, Finds, item_record}
 use Rattle.edits.specs.declared.path.Item.{Item}
 use Rattle.edits.specs.declared.path.Item.TheVariants.{Nothing, At}
 use Rattle.edits.proofs.Helds.{agree_none, agree_some, found_none, found_some, root_held, held_record}

@@ -1,6 +1,6 @@
 -- Indexes, which are signed. A signed local holds bits, so a test or a sum speaks of what the machine reads back,
 -- `to_z w (of_z w z)`, which is z where z fits: each law below takes that number as v, with v ≡ z.
-use Prim.Native.Nat.{ℕ, suc, ◌+◌, ◌-◌, ◌<◌, ◌≤◌, ◌^◌}
+use Prim.Native.Nat.{ℕ, suc, ◌-◌, ◌<◌, ◌≤◌, ◌^◌}
 use mathlib.Core.Path.{◌≡◌, refl, ap, ◌∙◌}
 use mathlib.Core.Bool.{Bool, true, false, cond}
 use native.Mathlib.Decide.{dec_lt}

@@ -6,7 +6,6 @@ use mathlib.Core.Logic.{◌⊎◌, ⊎_elim}
 use mathlib.Core.Bool.{Bool, true, false, cond}
 use mathlib.Core.Option.{none as nothing}
 use lib.Bits.{bit_or, or_shifted}
-use lib.ListN.{length}
 use borrow.Author.Tests.{le-leb, lt-leb}
 use native.Mathlib.Decide.{dec_le}
 use Rattle.layout.specs.Bytes.{Bytes}

@@ -169,7 +169,7 @@ module _ (s : Bytes) (a : PartAt) (p : Step) (ts : Items) (c : Contains 64 s (ar
       let met : step_into p (array ts) ≡ some v = rw (hk, hv) in
       let left : remains_of s (p ∷ []) ≡ payload (array (change_item nothing k ts)) =
       ap (λ r. remains_in r (p ∷ [])) c.reads ∙ ap (λ o. payload (anew (o then remains []) p (array ts))) met
-          ∙ ap (λ o. payload (array (change_at nothing o ts))) hk in
+      ∙ ap (λ o. payload (array (change_at nothing o ts))) hk in
       left ∙ rw (sp.gone, l, w)
 
 pub array_led : (s : Bytes) (n : ℕ) (a : PartAt) (p : Step) → Octets s → checked (nested 64 s) ≡ Readable → length s ≤ 65536

@@ -1,11 +1,11 @@
 -- No result of an edit is longer than the longest record.
-use Prim.Native.Nat.{ℕ, ◌-◌, ◌≤◌}
+use Prim.Native.Nat.{ℕ, ◌≤◌}
 use mathlib.Core.Path.{◌≡◌, sym, ◌∙◌}
 use lib.Dec.{leb→le}
 use lib.ListN.{length}
 use Rattle.layout.specs.Bytes.{Bytes, Octets}
 use Rattle.layout.specs.Answer.{Answer}
-use Rattle.layout.specs.Tree.{Tree, array}
+use Rattle.layout.specs.Tree.{Tree}
 use Rattle.layout.specs.Ended.{Outcome, result}
 use Rattle.layout.proofs.Answers.{from_require}
 use Rattle.layout.proofs.Decoding.{read_is}

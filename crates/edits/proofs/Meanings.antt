@@ -15,7 +15,7 @@ use Rattle.builders.specs.Order.{in_order, find, distinct}
 use Rattle.builders.specs.Build.{count, join}
 use Rattle.builders.proofs.InOrders.{in_order_rising, in_order_same, find_in_order}
 use Rattle.edits.specs.Keypath.{Step, index, name}
-use Rattle.edits.specs.Find.{◌then◌, place, step_place, step_name, item_at, step_into, look_up}
+use Rattle.edits.specs.Find.{◌then◌, step_place, step_name, item_at, step_into, look_up}
 use Rattle.edits.specs.Delete.{change_item, change_at, change_member, anew, remains, or_same, delete}
 use Rattle.edits.proofs.Deletes.{some_inj, nothing_some, then_some, found_or_not, find_other, find_changed, find_gone}
 use Rattle.edits.proofs.Deletes.{change_distinct, change_taken, change_split, step_below, count_changed, count_gone}

@@ -9,7 +9,7 @@ use lib.ListN.{length, take, drop}
 use Rattle.layout.specs.Bytes.{Bytes, Octets}
 use Rattle.layout.specs.Answer.{gives}
 use Rattle.layout.specs.Entry.{code_of, length_of, entry_at}
-use Rattle.layout.specs.Tree.{Tree, null, boolean, number, string, extension, array, object, none, kind}
+use Rattle.layout.specs.Tree.{Tree, null, boolean, number, string, extension, array, object, kind}
 use Rattle.layout.specs.Encode.{payload, part}
 use Rattle.layout.specs.Read.{header, nested}
 use Rattle.layout.specs.Check.{checked}

@@ -2,11 +2,11 @@
 -- sound one of any.
 use Prim.Native.Nat.{ℕ, ◌≤◌}
 use native.Mathlib.Omega.{arith}
-use mathlib.Core.Path.{◌≡◌, refl, ap, sym, ◌∙◌}
+use mathlib.Core.Path.{◌≡◌, ap, sym, ◌∙◌}
 use mathlib.Core.Bool.{true}
 use lib.ListN.{length}
 use Rattle.layout.specs.Bytes.{Bytes, Octets}
-use Rattle.layout.specs.Answer.{Answer, gives, ◌>>=◌}
+use Rattle.layout.specs.Answer.{gives}
 use Rattle.layout.specs.Tree.{Tree}
 use Rattle.layout.specs.Encode.{encode}
 use Rattle.layout.specs.Read.{read}

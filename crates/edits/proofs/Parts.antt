@@ -1,6 +1,6 @@
 -- The parts of a container by their places, and the first of its names that has equal bytes.
 use Rattle.layout.specs.Parts.{start_of}
-use Prim.Native.Nat.{ℕ, suc, ◌+◌, ◌*◌, ◌-◌, ◌<◌, ◌≤◌}
+use Prim.Native.Nat.{ℕ, suc, ◌+◌, ◌-◌, ◌<◌, ◌≤◌}
 use native.Mathlib.Omega.{arith}
 use native.Mathlib.Nat.{sub-zero, zero-add, add-zero}
 use mathlib.Core.Path.{◌≡◌, refl, sym, ap, ◌∙◌}
@@ -11,15 +11,12 @@ use lib.ListN.{length, take, drop}
 use Rattle.layout.specs.Bytes.{Bytes}
 use Rattle.layout.specs.Entry.{length_of, entry_at, lengths}
 use Rattle.layout.specs.Place.{parts_at}
-use Rattle.layout.proofs.Checks.{parts_step, lengths_step}
-use Rattle.layout.proofs.Places.{lengths_split, length_parts}
+use Rattle.layout.proofs.Checks.{parts_step}
+use Rattle.layout.proofs.Places.{length_parts}
 use Rattle.layout.specs.Order.{same_bytes}
 use Rattle.layout.specs.Parts.{texts}
 use Rattle.builders.proofs.Builds.{length_texts}
-use Rattle.edits.specs.Find.{place}
-use Rattle.layout.specs.Parts.{next_part}
 use Rattle.edits.specs.Spot.{first, one_more, spot_at}
-use Rattle.layout.specs.declared.parts.PartAt.{PartAt}
 use Rattle.edits.specs.declared.find.Spot.TheVariants.{Nothing, At}
 
 -- The first name that has equal bytes, counted from the `i`th on.

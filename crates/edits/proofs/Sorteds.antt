@@ -153,7 +153,7 @@ module _ (name value : MemberAt → Bytes) (entry : MemberAt → ℕ) (n : Bytes
       let z : k ≡ 0 = sym (some_inj e) in
       let y : i + k ≡ i = omega arith in
       subst (λ (w : ℕ). Stand name value entry (kept_of (But w) i (x ∷ xs)) (change_member nothing n (member m t ms))) (sym y)
-          (rw (q, eq-eqb i i refl, kept_past i (i + 1) xs (omega arith)) h.1)
+      (rw (q, eq-eqb i i refl, kept_past i (i + 1) xs (omega arith)) h.1)
   stand_by Less m t ms x xs k i q e h rest = rw q (stand_later m t ms x xs k i e h rest)
   stand_by Greater m t ms x xs k i q e h rest = rw q (stand_later m t ms x xs k i e h rest)
 

@@ -11,7 +11,7 @@ use Rattle.layout.specs.declared.order.Ordering.{Ordering}
 use Rattle.layout.specs.declared.order.Ordering.TheVariants.{Less, Equal, Greater}
 use Rattle.builders.specs.Order.{by}
 use Rattle.layout.specs.Parts.{bytes_at, name_in, value_in, members_at}
-use Rattle.builders.specs.Search.{Bound, after, bound, over, least}
+use Rattle.builders.specs.Search.{Bound, after, over, least}
 use Rattle.builders.specs.declared.search.Kept.TheVariants.{All}
 use Rattle.layout.specs.declared.parts.MemberAt.{MemberAt}
 use Rattle.builders.specs.declared.search.Found.{Found}

@@ -1,9 +1,8 @@
 -- Two objects' members taken in turn, as the code of concat goes. proofs/Overlays.antt ties it to `concat`.
-use Rattle.std.specs.Prelude.{ℕ, ◌+◌, ◌*◌, ◌≤◌, ◌≡◌, Bool, List, [], ◌∷◌, ◌++◌, length}
+use Rattle.std.specs.Prelude.{ℕ, ◌+◌, ◌*◌, ◌≤◌, ◌≡◌, List, [], ◌∷◌, ◌++◌, length}
 use Rattle.layout.specs.Bytes.{Bytes}
 use Rattle.layout.specs.Read.{header, nested}
 use Rattle.layout.specs.Check.{checked}
-use Rattle.layout.specs.Place.{parts_at, rising_parts}
 use Rattle.layout.specs.Order.{order}
 use Rattle.layout.specs.declared.check.Check.TheVariants.{Readable}
 use Rattle.layout.specs.declared.util.Header.TheVariants.{Object}

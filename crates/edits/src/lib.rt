@@ -1,4 +1,6 @@
 // The edits: look-up and delete by a path, concat, strip.
+#![tactic(auto)]
+
 pub mod delete;
 pub mod find;
 pub mod keypath;

@@ -3,7 +3,6 @@ use Rattle.edits.proofs.Manners.{manner_items, manner_rising, manner_unsorted, m
 use Prim.Native.Nat.{◌^◌, ◌<◌}
 use native.Mathlib.Omega.{arith}
 use Rattle.layout.proofs.Checks.{told_object}
-use borrow.Author.Rules.{rules}
 use Rattle.edits.proofs.delete.manner_of.Goals.{In-Object}
 use Rattle.edits.proofs.delete.manner_of.Goals as goal
 

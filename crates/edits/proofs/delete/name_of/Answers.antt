@@ -2,7 +2,6 @@
 use native.Mathlib.Omega.{arith}
 use Rattle.layout.proofs.Pieces.{same_part}
 use Rattle.edits.proofs.Manners.{name_is}
-use borrow.Author.Rules.{rules}
 use Rattle.edits.proofs.delete.name_of.Goals as goal
 
 pub place_after-requires : goal.place_after-requires

@@ -7,7 +7,6 @@ use Rattle.edits.proofs.Tables.{parted}
 use Rattle.edits.proofs.Runs.{behind_run}
 use Rattle.edits.proofs.Cuts.{IsPartAt, at_part}
 use Rattle.edits.proofs.Withouts.{array_gone}
-use borrow.Author.Rules.{rules}
 use Rattle.edits.proofs.delete.put_array_without.Goals.{After-put_run-arg-1, After-put_run-arg-2-1, After-shared_slice_known-1}
 use Rattle.edits.proofs.delete.put_array_without.Goals as goal
 

@@ -7,7 +7,6 @@ use Rattle.layout.proofs.Pieces.{same_part, nth_is}
 use Rattle.edits.proofs.Tables.{Parted, parted}
 use Rattle.edits.proofs.Runs.{behind_run}
 use Rattle.edits.proofs.Withouts.{Bounds, bounds, object_gone}
-use borrow.Author.Rules.{rules}
 use Rattle.edits.proofs.delete.put_object_without.Goals.{After-put_run-arg-1, After-put_run-arg-2-1, After-put_run-arg-3-1, After-shared_slice_known-1}
 use Rattle.edits.proofs.delete.put_object_without.Goals as goal
 

@@ -1,7 +1,6 @@
 -- `edits::delete::put_run` meets its contract.
 use mathlib.Core.Path.{refl}
 use Rattle.edits.proofs.Manners.{two_stored}
-use borrow.Author.Rules.{rules}
 use Rattle.edits.proofs.delete.put_run.Goals as goal
 
 pub returns : goal.returns

@@ -8,7 +8,6 @@ use Rattle.edits.specs.Keypath.{Step}
 use Rattle.edits.specs.Spot.{spot}
 use Rattle.edits.specs.declared.find.Spot.TheVariants.{At}
 use Rattle.edits.proofs.Sorteds.{ValueAt, value_at, same_places, gone_room, gone_stored}
-use borrow.Author.Rules.{rules}
 use Rattle.edits.proofs.delete.put_sorted_without.Goals.{After-measure_members-sizes, After-shared_slice_known-1}
 use Rattle.edits.proofs.delete.put_sorted_without.Goals as goal
 
@@ -26,7 +25,7 @@ found c = found_by c c.requires.3.0 c.requires.3.1
 room : (c : After-measure_members-sizes) → 4 + 8 * c.measure_members-sizes.result.count + c.measure_members-sizes.result.keys + c.measure_members-sizes.result.vals ≤ 65536
 room c =
     let v = value_at c.args.s.now _ c.args.val c.requires.3.0 (octets_of c.args.s.now (λ i. omega (arith, c.type_inv.s i)))
-        c.requires.0 c.requires.1 c.requires.2 c.requires.3.1 in
+    c.requires.0 c.requires.1 c.requires.2 c.requires.3.1 in
     gone_room c.args.s.now _ _ _ v _ _ c.members_of-from.ensures c.measure_members-sizes.ensures
 
 pub members_of-from-requires : goal.members_of-from-requires

@@ -8,7 +8,6 @@ use Rattle.layout.specs.Parts.{rises}
 use Rattle.layout.specs.declared.util.Header.TheVariants.{Array, Object}
 use Rattle.layout.proofs.Words.{octets_of}
 use Rattle.edits.proofs.Leds.{manner_array, manner_object, manner_search, no_manner, array_led, rising_led, stores_as}
-use borrow.Author.Rules.{rules}
 use Rattle.edits.proofs.delete.put_without.Goals.{After-manner_of, In-Items, In-Rising, In-Unsorted}
 use Rattle.edits.proofs.delete.put_without.Goals as goal
 

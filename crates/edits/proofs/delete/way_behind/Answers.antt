@@ -1,5 +1,4 @@
 -- `edits::delete::way_behind` meets its contract.
-use borrow.Author.Rules.{rules}
 use Rattle.edits.proofs.delete.way_behind.Goals as goal
 
 pub returns : goal.returns

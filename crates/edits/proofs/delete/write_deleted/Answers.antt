@@ -5,7 +5,6 @@ use Rattle.layout.specs.declared.parts.PartAt.{PartAt}
 use Rattle.layout.proofs.Words.{octets_of}
 use Rattle.edits.specs.declared.delete.Way.{Way}
 use Rattle.edits.proofs.Writes.{Deletion, whole_cuts, room_enough, no_room, has_room}
-use borrow.Author.Rules.{rules}
 use Rattle.edits.proofs.delete.write_deleted.Goals.{After-first_part}
 use Rattle.edits.proofs.delete.write_deleted.Goals as goal
 

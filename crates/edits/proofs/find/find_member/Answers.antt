@@ -1,7 +1,6 @@
 -- `edits::find::find_member` meets its contract.
 use Rattle.edits.proofs.Parts.{first_lt}
 use Rattle.edits.proofs.Finds.{member_value, name_bounds}
-use borrow.Author.Rules.{rules}
 use Rattle.edits.proofs.find.find_member.Goals as goal
 
 pub value_of-requires : goal.value_of-requires

@@ -1,16 +1,9 @@
 -- `edits::find::find_name` meets its contract.
 use native.Mathlib.Omega.{arith}
-use borrow.Author.Rules.{rules}
-use Prim.Native.Nat.{◌+◌, ◌-◌, ◌*◌, ◌^◌, ◌≤◌}
-use mathlib.Core.Path.{◌≡◌}
-use Rattle.layout.specs.Table.{table_place}
-use Rattle.layout.specs.Place.{parts_at}
-use Rattle.layout.specs.Parts.{start_of, texts}
 use Rattle.layout.proofs.Fields.{length_lt}
 use Rattle.layout.proofs.Pieces.{same_part}
 use Rattle.layout.proofs.Carries.{place_first, place_on}
-use Rattle.edits.specs.Spot.{first}
-use Rattle.edits.proofs.Parts.{moved, first_start, first_found, first_more, first_none}
+use Rattle.edits.proofs.Parts.{first_start, first_found, first_more, first_none}
 use Rattle.edits.proofs.find.find_name.Goals as goal
 
 pub loop-i-init : goal.loop-i-init
@@ -22,14 +15,13 @@ returns-then-is_same_bytes c =
     c.payload_len-len.ensures c.slice.ensures c.is_same_bytes.ensures c.if-is_same_bytes.true c.loop-i.invariant.2
 
 pub loop-i-preserved : goal.loop-i-preserved
-loop-i-preserved c =
-    (
-      omega arith,
-      omega (arith, c.payload_len-len.ensures, length_lt c.jentry_at.result),
-      place_on _ _ _ _ _ _ c.loop-i.invariant.2 c.jentry_at.ensures c.payload_len-len.ensures,
-      first_more _ _ _ _ _ c.loop-i.invariant.3 c.loop-i-test.true _ _ _ _ c.jentry_at.ensures
-          c.payload_len-len.ensures c.slice.ensures c.is_same_bytes.ensures c.if-is_same_bytes.false,
-    )
+loop-i-preserved c = (
+  omega arith,
+  omega (arith, c.payload_len-len.ensures, length_lt c.jentry_at.result),
+  place_on _ _ _ _ _ _ c.loop-i.invariant.2 c.jentry_at.ensures c.payload_len-len.ensures,
+  first_more _ _ _ _ _ c.loop-i.invariant.3 c.loop-i-test.true _ _ _ _ c.jentry_at.ensures
+      c.payload_len-len.ensures c.slice.ensures c.is_same_bytes.ensures c.if-is_same_bytes.false,
+)
 
 pub returns : goal.returns
 returns c = first_none _ _ _ _ _ c.loop-i.invariant.3 c.loop-i-test.false

@@ -1,16 +1,11 @@
 -- `edits::find::find_name` meets its contract.
-use native.Mathlib.Omega.{arith}
-use borrow.Author.Rules.{rules}
 use Prim.Native.Nat.{◌+◌, ◌-◌, ◌*◌, ◌^◌, ◌≤◌}
 use mathlib.Core.Path.{◌≡◌}
 use Rattle.layout.specs.Table.{table_place}
 use Rattle.layout.specs.Place.{parts_at}
 use Rattle.layout.specs.Parts.{start_of, texts}
-use Rattle.layout.proofs.Fields.{length_lt}
-use Rattle.layout.proofs.Pieces.{same_part}
-use Rattle.layout.proofs.Carries.{place_first, place_on}
 use Rattle.edits.specs.Spot.{first}
-use Rattle.edits.proofs.Parts.{moved, first_start, first_found, first_more, first_none}
+use Rattle.edits.proofs.Parts.{moved}
 use Rattle.edits.proofs.find.find_name.Given as goal
 
 -- Name i stands where the table gives it, and the first of all is the first of what is left.

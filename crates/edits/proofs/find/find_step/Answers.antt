@@ -1,7 +1,6 @@
 -- `edits::find::find_step` meets its contract.
 use Rattle.layout.proofs.Checks.{told_array, told_object}
 use Rattle.edits.proofs.Finds.{step_array, step_object, step_scalar, step_refused}
-use borrow.Author.Rules.{rules}
 use Rattle.edits.proofs.find.find_step.Goals as goal
 
 pub find_item-requires : goal.find_item-requires

@@ -2,7 +2,6 @@
 use native.Mathlib.Omega.{arith}
 use Rattle.layout.proofs.Pieces.{same_part}
 use Rattle.edits.proofs.Finds.{place_none, place_found}
-use borrow.Author.Rules.{rules}
 use Rattle.edits.proofs.find.item_at.Goals as goal
 
 pub returns-in_default : goal.returns-in_default

@@ -1,5 +1,4 @@
 -- `edits::find::place_of` meets its contract.
-use borrow.Author.Rules.{rules}
 use mathlib.Core.Path.{◌≡◌}
 use lib.IntN.{ℤ}
 use mir.Syntax.{w32}

@@ -2,7 +2,6 @@
 use Prim.Native.Nat.{◌^◌, ◌<◌}
 use native.Mathlib.Omega.{arith}
 use Rattle.edits.proofs.Finds.{value_found}
-use borrow.Author.Rules.{rules}
 use Rattle.edits.proofs.find.value_of.Goals.{In-At}
 use Rattle.edits.proofs.find.value_of.Goals as goal
 

@@ -1,16 +1,8 @@
 -- `edits::keypath::are_steps` meets its contract.
 use native.Mathlib.Omega.{arith}
-use borrow.Author.Rules.{rules}
-use Prim.Native.Nat.{◌+◌, ◌-◌, ◌*◌, ◌^◌, ◌≤◌}
-use mathlib.Core.Path.{◌≡◌}
-use mathlib.Core.Logic.{⊎_elim}
-use Rattle.layout.specs.Place.{parts_at}
-use Rattle.layout.specs.Parts.{start_of}
-use Rattle.layout.specs.Table.{table_place}
 use Rattle.layout.proofs.Fields.{length_lt}
 use Rattle.layout.proofs.Pieces.{same_part}
 use Rattle.layout.proofs.Carries.{place_first, place_on}
-use Rattle.edits.specs.Steps.{are_steps}
 use Rattle.edits.proofs.Keys.{steps_start, steps_other, steps_more, steps_end}
 use Rattle.edits.proofs.keypath.are_steps.Goals as goal
 
@@ -23,15 +15,14 @@ returns-in-Other c =
     c.payload_len-len.ensures c.slice.ensures c.key_of.ensures c.in-Other.is
 
 pub loop-i-preserved : goal.loop-i-preserved
-loop-i-preserved c =
-    (
-      omega arith,
-      omega (arith, c.payload_len-len.ensures, length_lt c.jentry_at-jentry.result),
-      steps_more _ _ _ _ _ c.loop-i.invariant.2 c.loop-i-test.true _ _ _ _ c.jentry_at-jentry.ensures
-          c.payload_len-len.ensures c.slice.ensures c.key_of.ensures
-          c.in_default.not-Other,
-      place_on _ _ _ _ _ _ c.loop-i.invariant.3 c.jentry_at-jentry.ensures c.payload_len-len.ensures,
-    )
+loop-i-preserved c = (
+  omega arith,
+  omega (arith, c.payload_len-len.ensures, length_lt c.jentry_at-jentry.result),
+  steps_more _ _ _ _ _ c.loop-i.invariant.2 c.loop-i-test.true _ _ _ _ c.jentry_at-jentry.ensures
+      c.payload_len-len.ensures c.slice.ensures c.key_of.ensures
+      c.in_default.not-Other,
+  place_on _ _ _ _ _ _ c.loop-i.invariant.3 c.jentry_at-jentry.ensures c.payload_len-len.ensures,
+)
 
 pub returns : goal.returns
 returns c = steps_end _ _ _ _ _ c.loop-i.invariant.2 c.loop-i-test.false

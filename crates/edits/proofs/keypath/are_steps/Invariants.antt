@@ -1,17 +1,10 @@
 -- `edits::keypath::are_steps` meets its contract.
-use native.Mathlib.Omega.{arith}
-use borrow.Author.Rules.{rules}
 use Prim.Native.Nat.{◌+◌, ◌-◌, ◌*◌, ◌^◌, ◌≤◌}
 use mathlib.Core.Path.{◌≡◌}
-use mathlib.Core.Logic.{⊎_elim}
 use Rattle.layout.specs.Place.{parts_at}
 use Rattle.layout.specs.Parts.{start_of}
 use Rattle.layout.specs.Table.{table_place}
-use Rattle.layout.proofs.Fields.{length_lt}
-use Rattle.layout.proofs.Pieces.{same_part}
-use Rattle.layout.proofs.Carries.{place_first, place_on}
 use Rattle.edits.specs.Steps.{are_steps}
-use Rattle.edits.proofs.Keys.{steps_start, steps_other, steps_more, steps_end}
 use Rattle.edits.proofs.keypath.are_steps.Given as goal
 
 -- All items are steps where those that are left are, and item i stands where the table gives it.

@@ -1,10 +1,8 @@
 -- `edits::keypath::check_path` meets its contract.
 use native.Mathlib.Omega.{arith}
 use Rattle.layout.proofs.Words.{octets_of}
-use Rattle.layout.proofs.Walks.{none_of}
 use Rattle.layout.proofs.Checks.{told_array}
 use Rattle.edits.proofs.Paths.{count_unreadable, count_no_array, count_steps, count_no_steps}
-use borrow.Author.Rules.{rules}
 use Rattle.edits.proofs.keypath.check_path.Goals as goal
 
 pub returns-in-Refused : goal.returns-in-Refused

@@ -1,6 +1,5 @@
 -- `edits::keypath::key_of` meets its contract.
 use Rattle.edits.proofs.Keys.{key_name, key_number, key_other}
-use borrow.Author.Rules.{rules}
 use Rattle.edits.proofs.keypath.key_of.Goals as goal
 
 pub returns-then-code-eq-STRING_CODE : goal.returns-then-code-eq-STRING_CODE

@@ -6,7 +6,6 @@ use mir.Val.{to_z, of_z}
 use mir.ValLaws.{to_z-of_z}
 use Rattle.edits.proofs.Indexes.{wider, widened, index_cast, turned_fits, turned_cast, turned_is}
 use Rattle.edits.proofs.IndexTexts.{text_negative, text_positive}
-use borrow.Author.Rules.{rules}
 use Rattle.edits.proofs.keypath.put_index.Goals.{Start}
 use Rattle.edits.proofs.keypath.put_index.Goals as goal
 

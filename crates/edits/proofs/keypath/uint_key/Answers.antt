@@ -1,5 +1,4 @@
 -- `edits::keypath::uint_key` meets its contract.
-use borrow.Author.Rules.{rules}
 use Rattle.edits.proofs.Indexes.{uint_high, uint_index}
 use Rattle.edits.proofs.keypath.uint_key.Goals as goal
 

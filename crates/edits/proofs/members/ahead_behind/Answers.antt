@@ -1,5 +1,4 @@
 -- `edits::members::ahead_behind` meets its contract.
-use borrow.Author.Rules.{rules}
 use Rattle.edits.proofs.members.ahead_behind.Goals as goal
 
 pub returns : goal.returns

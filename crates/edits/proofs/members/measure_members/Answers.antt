@@ -1,11 +1,7 @@
 -- `edits::members::measure_members` meets its contract.
-use Prim.Native.Nat.{◌-◌}
 use native.Mathlib.Omega.{arith}
-use borrow.Author.Rules.{rules}
-use Rattle.layout.specs.Parts.{members_at}
-use Rattle.builders.specs.Search.{kept_of}
 use Rattle.builders.proofs.Storing.{payload_short, few_searched}
-use Rattle.edits.proofs.Measures.{Measured, measured_none, measured_early, measured_full, measured_more}
+use Rattle.edits.proofs.Measures.{measured_none, measured_early, measured_full, measured_more}
 use Rattle.edits.proofs.members.measure_members.Goals as goal
 
 pub loop-i-init : goal.loop-i-init

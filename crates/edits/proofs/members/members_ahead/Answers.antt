@@ -1,5 +1,4 @@
 -- `edits::members::members_ahead` meets its contract.
-use borrow.Author.Rules.{rules}
 use Rattle.edits.proofs.members.members_ahead.Goals as goal
 
 pub returns : goal.returns

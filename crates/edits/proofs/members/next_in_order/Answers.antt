@@ -1,7 +1,6 @@
 -- `edits::members::next_in_order` meets its contract.
 use native.Mathlib.Omega.{arith}
 use Rattle.edits.proofs.Standings.{next_stands, next_end, next_found}
-use borrow.Author.Rules.{rules}
 use Rattle.edits.proofs.members.next_in_order.Goals as goal
 
 pub next_standing-requires : goal.next_standing-requires

@@ -1,10 +1,8 @@
 -- `edits::members::next_standing` meets its contract.
 -- The loop keeps that what was ahead at first is ahead still but for members that are left out, and that its places are the table's.
-use borrow.Author.Rules.{rules}
-use mathlib.Core.Path.{◌≡◌, refl, ap, ◌∙◌}
+use mathlib.Core.Path.{◌≡◌}
 use Prim.Native.Nat.{◌-◌}
 use Rattle.edits.specs.Members.{kept_ahead, Near, CarriedAhead}
-use Rattle.edits.proofs.Standings.{near_on, fewer_on, carried_ahead, one_kept, one_passed, none_left}
 use Rattle.edits.proofs.members.next_standing.Given as goal
 
 abbrev pub invariant-loop-here : goal.invariant-loop-here

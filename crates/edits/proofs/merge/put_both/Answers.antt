@@ -1,5 +1,4 @@
 -- `edits::merge::put_both` meets its contract.
-use borrow.Author.Rules.{rules}
 use mathlib.Core.Path.{sym, ◌∙◌}
 use Rattle.layout.proofs.Places.{and_both}
 use Rattle.edits.proofs.merge.put_both.Goals as goal

@@ -1,12 +1,10 @@
 -- `edits::merge::put_merged` meets its contract.
-use Prim.Native.Nat.{◌+◌, ◌-◌, ◌^◌, ◌≤◌, ◌<◌}
+use Prim.Native.Nat.{◌+◌, ◌^◌, ◌≤◌, ◌<◌}
 use native.Mathlib.Omega.{arith}
-use mathlib.Core.Logic.{⊎_elim}
 use Rattle.layout.proofs.Words.{octets_of}
 use Rattle.edits.proofs.Sorteds.{ObjectAt}
 use Rattle.edits.proofs.Merges.{objects_at, few_both, starts_ready, ready_left, ready_right, ready_both, goes_left, goes_right, goes_both}
-use Rattle.edits.proofs.Merges.{Merging, merging_starts, merging_near, merging_full, merging_end}
-use borrow.Author.Rules.{rules}
+use Rattle.edits.proofs.Merges.{merging_starts, merging_near, merging_full, merging_end}
 use Rattle.edits.proofs.merge.put_merged.Goals.{After-slice_known-1, At-loop-i}
 use Rattle.edits.proofs.merge.put_merged.Goals.{in-Left, in-Right, in-Both}
 use Rattle.edits.proofs.merge.put_merged.Goals as goal
@@ -37,13 +35,12 @@ pub next_in_order-r-requires : goal.next_in_order-r-requires
 next_in_order-r-requires c = starts_ready c.args.right.now _ (objects (goal.at.next_in_order-r-requires c).After-slice_known-1).1 _ c.members_ahead-2.ensures
 
 pub loop-i-init : goal.loop-i-init
-loop-i-init c =
-    (
-      omega arith,
-      few (goal.at.loop-i-init c).After-slice_known-1,
-      merging_starts _ _ _ _ _ _ (objects (goal.at.loop-i-init c).After-slice_known-1).0 (objects (goal.at.loop-i-init c).After-slice_known-1).1 _ _ c.members_ahead.ensures c.members_ahead-2.ensures _ _
-          c.next_in_order-l.ensures c.next_in_order-r.ensures,
-    )
+loop-i-init c = (
+  omega arith,
+  few (goal.at.loop-i-init c).After-slice_known-1,
+  merging_starts _ _ _ _ _ _ (objects (goal.at.loop-i-init c).After-slice_known-1).0 (objects (goal.at.loop-i-init c).After-slice_known-1).1 _ _ c.members_ahead.ensures c.members_ahead-2.ensures _ _
+      c.next_in_order-l.ensures c.next_in_order-r.ensures,
+)
 
 pub put_member-at-requires : goal.put_member-at-requires
 put_member-at-requires c = near (goal.at.put_member-at-requires c).At-loop-i
@@ -73,7 +70,7 @@ returns-in-End c = let all = merging_end _ _ _ _ _ _ _ _ _ _ _ c.loop-i.invarian
 pub loop-i-preserved : goal.loop-i-preserved
 loop-i-preserved c =
     elim c.match-turn_of.branch [
-      in-Left w ↦ (
+      | in-Left w ↦ (
         omega arith,
         c.loop-i.invariant.1,
         goes_left c.args.left.now c.args.m c.args.right.now c.args.n c.args.out.now c.args.to
@@ -81,7 +78,7 @@ loop-i-preserved c =
             _ c.turn_of.ensures _ _ _ _ _ _ _ w.out-is w.at-is _ _ _
             w.in-Left.is w.payload_at-name.ensures (w.put_member-at.ensures.is, w.put_member-at.ensures.kept) (record { stands = w.next_in_order-l-in-Left.ensures.stands; searched = w.next_in_order-l-in-Left.ensures.searched }) w.l-is w.r-is,
       )
-    | in-Right w ↦ (
+      | in-Right w ↦ (
         omega arith,
         c.loop-i.invariant.1,
         goes_right c.args.left.now c.args.m c.args.right.now c.args.n c.args.out.now c.args.to
@@ -89,7 +86,7 @@ loop-i-preserved c =
             _ c.turn_of.ensures _ _ _ _ _ _ _ w.out-is w.at-is _ _ _
             w.in-Right.is w.payload_at-name-in-Right.ensures (w.put_member-at-in-Right.ensures.is, w.put_member-at-in-Right.ensures.kept) (record { stands = w.next_in_order-r-in-Right.ensures.stands; searched = w.next_in_order-r-in-Right.ensures.searched }) w.l-is w.r-is,
       )
-    | in-Both w ↦ (
+      | in-Both w ↦ (
         omega arith,
         c.loop-i.invariant.1,
         goes_both c.args.left.now c.args.m c.args.right.now c.args.n c.args.out.now c.args.to

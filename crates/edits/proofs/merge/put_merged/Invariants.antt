@@ -1,12 +1,6 @@
 -- `edits::merge::put_merged` meets its contract.
-use Prim.Native.Nat.{◌+◌, ◌-◌, ◌^◌, ◌≤◌, ◌<◌}
-use native.Mathlib.Omega.{arith}
-use mathlib.Core.Logic.{⊎_elim}
-use Rattle.layout.proofs.Words.{octets_of}
-use Rattle.edits.proofs.Sorteds.{ObjectAt}
-use Rattle.edits.proofs.Merges.{objects_at, few_both, starts_ready, ready_left, ready_right, ready_both, goes_left, goes_right, goes_both}
-use Rattle.edits.proofs.Merges.{Merging, merging_starts, merging_near, merging_full, merging_end}
-use borrow.Author.Rules.{rules}
+use Prim.Native.Nat.{◌+◌, ◌-◌, ◌≤◌}
+use Rattle.edits.proofs.Merges.{Merging}
 use Rattle.edits.proofs.merge.put_merged.Given as goal
 
 abbrev pub invariant-loop-i : goal.invariant-loop-i

@@ -1,6 +1,6 @@
 -- `edits::merge::put_rising` meets its contract.
 -- The loop keeps what is stored so far, and that the places of both sides are those of their tables.
-use Prim.Native.Nat.{◌+◌, ◌-◌, ◌^◌, ◌≤◌, ◌<◌}
+use Prim.Native.Nat.{◌+◌, ◌^◌, ◌≤◌, ◌<◌}
 use native.Mathlib.Omega.{arith}
 use borrow.Author.Rules.{rules}
 use mathlib.Core.Path.{◌≡◌, ◌∙◌}
@@ -12,7 +12,7 @@ use Rattle.layout.proofs.Carries.{object_start, object_on}
 use Rattle.edits.proofs.Merges.{objects_at, few_both}
 use Rattle.edits.proofs.Sorteds.{ObjectAt}
 use Rattle.edits.proofs.Walks.{Under, under_up, near_under, both_more, behind_near}
-use Rattle.edits.proofs.Walks.{Walking, walking_starts, walking_near, walks_left, walks_both, walks_right, walking_rest}
+use Rattle.edits.proofs.Walks.{walking_starts, walking_near, walks_left, walks_both, walks_right, walking_rest}
 use Rattle.edits.proofs.merge.put_rising.Goals.{After-compare, After-shared_slice_known-2-1, At-loop-i}
 use Rattle.edits.proofs.merge.put_rising.Goals as goal
 
@@ -71,16 +71,15 @@ pub loop-i-smaller-in-Less : goal.loop-i-smaller-in-Less
 loop-i-smaller-in-Less c = omega (arith, more (goal.at.loop-i-smaller-in-Less c).After-compare)
 
 pub loop-i-preserved-in-Less : goal.loop-i-preserved-in-Less
-loop-i-preserved-in-Less c =
-    (
-      c.loop-i.invariant.0,
-      walks_left _ _ _ _ _ _ _ _ _ _ _ _ c.loop-i.invariant.1 (more (goal.at.loop-i-preserved-in-Less c).After-compare).0 (more (goal.at.loop-i-preserved-in-Less c).After-compare).1 _ _
-          c.read_member-left_member.ensures c.read_member-right_member.ensures _ _ _
-          c.payload_at.ensures c.payload_at-in-loop-i.ensures c.compare.ensures _ _ _
-          c.in-Less.is (c.put_member-at.ensures.is, c.put_member-at.ensures.kept) c.places_behind-l.ensures,
-      left_on (goal.at.loop-i-preserved-in-Less c).After-compare c.places_behind-l.ensures,
-      c.loop-i.invariant.3,
-    )
+loop-i-preserved-in-Less c = (
+  c.loop-i.invariant.0,
+  walks_left _ _ _ _ _ _ _ _ _ _ _ _ c.loop-i.invariant.1 (more (goal.at.loop-i-preserved-in-Less c).After-compare).0 (more (goal.at.loop-i-preserved-in-Less c).After-compare).1 _ _
+      c.read_member-left_member.ensures c.read_member-right_member.ensures _ _ _
+      c.payload_at.ensures c.payload_at-in-loop-i.ensures c.compare.ensures _ _ _
+      c.in-Less.is (c.put_member-at.ensures.is, c.put_member-at.ensures.kept) c.places_behind-l.ensures,
+  left_on (goal.at.loop-i-preserved-in-Less c).After-compare c.places_behind-l.ensures,
+  c.loop-i.invariant.3,
+)
 
 -- The names are the same.
 pub put_member-at-requires-in-Equal : goal.put_member-at-requires-in-Equal
@@ -102,17 +101,16 @@ pub loop-i-smaller-in-Equal : goal.loop-i-smaller-in-Equal
 loop-i-smaller-in-Equal c = omega (arith, more (goal.at.loop-i-smaller-in-Equal c).After-compare)
 
 pub loop-i-preserved-in-Equal : goal.loop-i-preserved-in-Equal
-loop-i-preserved-in-Equal c =
-    (
-      c.loop-i.invariant.0,
-      walks_both _ _ _ _ _ _ _ _ _ _ _ _ c.loop-i.invariant.1 (more (goal.at.loop-i-preserved-in-Equal c).After-compare).0 (more (goal.at.loop-i-preserved-in-Equal c).After-compare).1 _ _
-          c.read_member-left_member.ensures c.read_member-right_member.ensures _ _ _
-          c.payload_at.ensures c.payload_at-in-loop-i.ensures c.compare.ensures _ _ _ _
-          c.in-Equal.is (c.put_member-at-in-Equal.ensures.is, c.put_member-at-in-Equal.ensures.kept)
-          c.places_behind-l-in-Equal.ensures c.places_behind-r.ensures,
-      left_on (goal.at.loop-i-preserved-in-Equal c).After-compare c.places_behind-l-in-Equal.ensures,
-      right_on (goal.at.loop-i-preserved-in-Equal c).After-compare c.places_behind-r.ensures,
-    )
+loop-i-preserved-in-Equal c = (
+  c.loop-i.invariant.0,
+  walks_both _ _ _ _ _ _ _ _ _ _ _ _ c.loop-i.invariant.1 (more (goal.at.loop-i-preserved-in-Equal c).After-compare).0 (more (goal.at.loop-i-preserved-in-Equal c).After-compare).1 _ _
+      c.read_member-left_member.ensures c.read_member-right_member.ensures _ _ _
+      c.payload_at.ensures c.payload_at-in-loop-i.ensures c.compare.ensures _ _ _ _
+      c.in-Equal.is (c.put_member-at-in-Equal.ensures.is, c.put_member-at-in-Equal.ensures.kept)
+      c.places_behind-l-in-Equal.ensures c.places_behind-r.ensures,
+  left_on (goal.at.loop-i-preserved-in-Equal c).After-compare c.places_behind-l-in-Equal.ensures,
+  right_on (goal.at.loop-i-preserved-in-Equal c).After-compare c.places_behind-r.ensures,
+)
 
 -- The right name is less.
 pub put_member-at-requires-in-Greater : goal.put_member-at-requires-in-Greater
@@ -128,16 +126,15 @@ pub loop-i-smaller : goal.loop-i-smaller
 loop-i-smaller c = omega (arith, more (goal.at.loop-i-smaller c).After-compare)
 
 pub loop-i-preserved : goal.loop-i-preserved
-loop-i-preserved c =
-    (
-      c.loop-i.invariant.0,
-      walks_right _ _ _ _ _ _ _ _ _ _ _ _ c.loop-i.invariant.1 (more (goal.at.loop-i-preserved c).After-compare).0 (more (goal.at.loop-i-preserved c).After-compare).1 _ _
-          c.read_member-left_member.ensures c.read_member-right_member.ensures _ _ _
-          c.payload_at.ensures c.payload_at-in-loop-i.ensures c.compare.ensures _ _ _
-          c.in-Greater.is (c.put_member-at-in-Greater.ensures.is, c.put_member-at-in-Greater.ensures.kept) c.places_behind-r-in-Greater.ensures,
-      c.loop-i.invariant.2,
-      right_on (goal.at.loop-i-preserved c).After-compare c.places_behind-r-in-Greater.ensures,
-    )
+loop-i-preserved c = (
+  c.loop-i.invariant.0,
+  walks_right _ _ _ _ _ _ _ _ _ _ _ _ c.loop-i.invariant.1 (more (goal.at.loop-i-preserved c).After-compare).0 (more (goal.at.loop-i-preserved c).After-compare).1 _ _
+      c.read_member-left_member.ensures c.read_member-right_member.ensures _ _ _
+      c.payload_at.ensures c.payload_at-in-loop-i.ensures c.compare.ensures _ _ _
+      c.in-Greater.is (c.put_member-at-in-Greater.ensures.is, c.put_member-at-in-Greater.ensures.kept) c.places_behind-r-in-Greater.ensures,
+  c.loop-i.invariant.2,
+  right_on (goal.at.loop-i-preserved c).After-compare c.places_behind-r-in-Greater.ensures,
+)
 
 -- One side is done: what stands on the other follows.
 pub overflow_sub-m : goal.overflow_sub-m

@@ -1,18 +1,9 @@
 -- `edits::merge::put_rising` meets its contract.
 -- The loop keeps what is stored so far, and that the places of both sides are those of their tables.
-use Prim.Native.Nat.{◌+◌, ◌-◌, ◌^◌, ◌≤◌, ◌<◌}
-use native.Mathlib.Omega.{arith}
-use borrow.Author.Rules.{rules}
-use mathlib.Core.Path.{◌≡◌, ◌∙◌}
-use Rattle.layout.specs.Parts.{behind_member}
+use Prim.Native.Nat.{◌+◌, ◌-◌, ◌≤◌}
+use mathlib.Core.Path.{◌≡◌}
 use Rattle.layout.specs.Table.{nth_member}
-use Rattle.layout.specs.declared.parts.Places.{Places}
-use Rattle.layout.proofs.Words.{octets_of}
-use Rattle.layout.proofs.Carries.{object_start, object_on}
-use Rattle.edits.proofs.Merges.{objects_at, few_both}
-use Rattle.edits.proofs.Sorteds.{ObjectAt}
-use Rattle.edits.proofs.Walks.{Under, under_up, near_under, both_more, behind_near}
-use Rattle.edits.proofs.Walks.{Walking, walking_starts, walking_near, walks_left, walks_both, walks_right, walking_rest}
+use Rattle.edits.proofs.Walks.{Walking}
 use Rattle.edits.proofs.merge.put_rising.Given as goal
 
 abbrev pub invariant-loop-i : goal.invariant-loop-i

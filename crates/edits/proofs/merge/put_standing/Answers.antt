@@ -1,8 +1,6 @@
 -- `edits::merge::put_standing` meets its contract.
-use Prim.Native.Nat.{◌-◌}
 use native.Mathlib.Omega.{arith}
-use borrow.Author.Rules.{rules}
-use Rattle.edits.proofs.Walks.{Putting, putting_starts, putting_goes, putting_ends, reached_near}
+use Rattle.edits.proofs.Walks.{putting_starts, putting_goes, putting_ends, reached_near}
 use Rattle.edits.proofs.merge.put_standing.Goals as goal
 
 pub loop-i-init : goal.loop-i-init

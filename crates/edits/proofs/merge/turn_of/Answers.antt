@@ -1,6 +1,5 @@
 -- `edits::merge::turn_of` meets its contract.
 use Rattle.edits.proofs.Turns.{turn_less, turn_equal, turn_greater}
-use borrow.Author.Rules.{rules}
 use Rattle.edits.proofs.merge.turn_of.Goals as goal
 
 pub returns-in_default : goal.returns-in_default

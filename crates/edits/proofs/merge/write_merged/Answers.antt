@@ -1,7 +1,7 @@
 -- `edits::merge::write_merged` meets its contract.
 use Prim.Native.Nat.{◌+◌, ◌≤◌}
 use native.Mathlib.Omega.{arith}
-use mathlib.Core.Path.{◌≡◌, refl, ap₂}
+use mathlib.Core.Path.{refl, ap₂}
 use mathlib.Core.Bool.{◌&&◌}
 use Rattle.layout.proofs.Words.{octets_of}
 use Rattle.edits.proofs.Overlays.{Overlaid, length_by, few_members, measured_short, measured_near}
@@ -28,7 +28,7 @@ few c = few_members (overlaid c)
 short : (c : After-put_both-end) → length_by c.put_both-end.result ≤ 131072
 short c =
     measured_short ((
-        record {
+    record {
       octets = record {
         left = octets_of c.args.left.now (λ i. omega (arith, c.type_inv.left i));
         right = octets_of c.args.right.now (λ i. omega (arith, c.type_inv.right i));
@@ -73,15 +73,14 @@ pub is_rising-requires-then-is_distinct : goal.is_rising-requires-then-is_distin
 is_rising-requires-then-is_distinct c = omega (arith, few (goal.at.is_rising-requires-then-is_distinct c).After-slice_known-1)
 
 pub put_both-end-requires : goal.put_both-end-requires
-put_both-end-requires c =
-    (
-      c.requires,
-      ap₂ ◌&&◌ c.is_rising.ensures c.is_rising-then-is_distinct.ensures,
-      search rules,
-      search rules,
-      search rules,
-      search rules,
-    )
+put_both-end-requires c = (
+  c.requires,
+  ap₂ ◌&&◌ c.is_rising.ensures c.is_rising-then-is_distinct.ensures,
+  search rules,
+  search rules,
+  search rules,
+  search rules,
+)
 
 pub overflow_mul-len : goal.overflow_mul-len
 overflow_mul-len c = omega (arith, short (goal.at.overflow_mul-len c).After-put_both-end)

@@ -1,7 +1,6 @@
 -- `edits::operator::concat` meets its contract: with the buffer's own length as the room.
 use Rattle.layout.proofs.Patches.{ended_in}
 use Rattle.builders.proofs.Twos.{two_fits}
-use borrow.Author.Rules.{rules}
 use Rattle.edits.proofs.operator.concat.Goals as goal
 
 pub returns : goal.returns

@@ -1,6 +1,5 @@
 -- `edits::operator::concat_in` meets its contract: a slice from its first byte to its end is the slice.
 use Rattle.layout.proofs.Fields.{part_all}
-use borrow.Author.Rules.{rules}
 use Rattle.edits.proofs.operator.concat_in.Goals as goal
 
 pub returns : goal.returns

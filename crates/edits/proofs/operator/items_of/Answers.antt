@@ -1,8 +1,5 @@
 -- `edits::operator::items_of` meets its contract.
-use native.Mathlib.Omega.{arith}
-use Rattle.layout.proofs.Walks.{none_of}
 use Rattle.edits.proofs.Joinings.{given_array, given_other}
-use borrow.Author.Rules.{rules}
 use Rattle.edits.proofs.operator.items_of.Goals as goal
 
 pub returns-in-Array : goal.returns-in-Array

@@ -2,10 +2,8 @@
 use native.Mathlib.Omega.{arith}
 use mathlib.Core.Path.{sym, ◌∙◌}
 use Rattle.layout.proofs.Words.{octets_of}
-use Rattle.layout.proofs.Walks.{none_of}
 use Rattle.edits.proofs.Descents.{Passed}
 use Rattle.edits.proofs.StripWrites.{ContainerAt, strip_left, strip_scalar, strip_ready, strip_ends}
-use borrow.Author.Rules.{rules}
 use Rattle.edits.proofs.operator.strip_nulls_in.Goals.{In_default, In_default-read_header}
 use Rattle.edits.proofs.operator.strip_nulls_in.Goals as goal
 
@@ -21,12 +19,12 @@ container_at : (c : In_default-read_header) → ContainerAt c.args.target.now
 container_at c =
     record {
       passed = (
-        record {
-      octets = octets_of c.args.target.now (λ i. omega (arith, c.type_inv.target i));
-      readable = sym c.check_record.ensures ∙ c.in_default.is;
-    });
+          record {
+            octets = octets_of c.args.target.now (λ i. omega (arith, c.type_inv.target i));
+            readable = sym c.check_record.ensures ∙ c.in_default.is;
+          });
       container = λ m e.
-          none_of (λ q. omega arith) (λ q. omega arith) (λ q. omega arith) (rw (c.read_header.ensures ∙ e) at c.in_default-read_header.in_default-read_header-own.keys2);
+          c.in_default-read_header.not-Scalar m (c.read_header.ensures ∙ e);
     }
 
 pub returns-in-Refused : goal.returns-in-Refused

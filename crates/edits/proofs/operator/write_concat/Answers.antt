@@ -1,12 +1,9 @@
 -- `edits::operator::write_concat` meets its contract.
 use native.Mathlib.Omega.{arith}
 use mathlib.Core.Path.{sym, ◌∙◌}
-use mathlib.Core.Logic.{⊎_elim}
 use Rattle.layout.proofs.Words.{octets_of}
-use Rattle.layout.proofs.Walks.{none_of}
 use Rattle.builders.proofs.Knowns.{BothOctets}
 use Rattle.edits.proofs.ConcatWrites.{LeftNests, BothNest, left_refused, right_refused, left_other, right_other, two_objects}
-use borrow.Author.Rules.{rules}
 use Rattle.edits.proofs.operator.write_concat.Goals.{After-shared_slice_known-2-1, In_default, In_default-right_nesting}
 use Rattle.edits.proofs.operator.write_concat.Goals as goal
 
@@ -22,10 +19,10 @@ left_nests : (c : In_default) → LeftNests c.args.left.now c.args.right.now
 left_nests c =
     record {
       octets = (
-        record {
-      left = octets_of c.args.left.now (λ i. omega (arith, c.type_inv.left i));
-      right = octets_of c.args.right.now (λ i. omega (arith, c.type_inv.right i));
-    });
+          record {
+            left = octets_of c.args.left.now (λ i. omega (arith, c.type_inv.left i));
+            right = octets_of c.args.right.now (λ i. omega (arith, c.type_inv.right i));
+          });
       left = λ x e. c.in_default.not-Refused x (c.check_nesting-left_nesting.ensures ∙ e);
     }
 
@@ -33,14 +30,14 @@ both_nest : (c : In_default-right_nesting) → BothNest c.args.left.now c.args.r
 both_nest c =
     record {
       before = (
-        record {
-      octets = (
-        record {
-      left = octets_of c.args.left.now (λ i. omega (arith, c.type_inv.left i));
-      right = octets_of c.args.right.now (λ i. omega (arith, c.type_inv.right i));
-    });
-      left = λ x e. c.in_default.not-Refused x (c.check_nesting-left_nesting.ensures ∙ e);
-    });
+          record {
+            octets = (
+                record {
+                  left = octets_of c.args.left.now (λ i. omega (arith, c.type_inv.left i));
+                  right = octets_of c.args.right.now (λ i. omega (arith, c.type_inv.right i));
+                });
+            left = λ x e. c.in_default.not-Refused x (c.check_nesting-left_nesting.ensures ∙ e);
+          });
       right = λ x e. c.in_default-right_nesting.not-Refused x (c.check_nesting-right_nesting.ensures ∙ e);
     }
 

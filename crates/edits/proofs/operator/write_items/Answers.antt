@@ -2,7 +2,6 @@
 use native.Mathlib.Omega.{arith}
 use Rattle.layout.proofs.Words.{octets_of}
 use Rattle.edits.proofs.Joinings.{Apart, Offered, items_lie, few_items, left_deep, right_deep, items_end}
-use borrow.Author.Rules.{rules}
 use Rattle.edits.proofs.operator.write_items.Goals.{After-items_of-r, After-slice_known-1}
 use Rattle.edits.proofs.operator.write_items.Goals as goal
 
@@ -21,16 +20,20 @@ apart c =
 
 offered : (c : After-items_of-r) → Offered c.args.left.now c.args.right.now c.items_of-l.result c.items_of-r.result
 offered c =
-    record { before = (
-        record {
-      octets = record {
-        left = octets_of c.args.left.now (λ i. omega (arith, c.type_inv.left i));
-        right = octets_of c.args.right.now (λ i. omega (arith, c.type_inv.right i));
-      };
-      left = c.requires.0;
-      right = c.requires.1;
-      no_pair = c.requires.4;
-    }); left = c.items_of-l.ensures; right = c.items_of-r.ensures }
+    record {
+      before = (
+          record {
+            octets = record {
+              left = octets_of c.args.left.now (λ i. omega (arith, c.type_inv.left i));
+              right = octets_of c.args.right.now (λ i. omega (arith, c.type_inv.right i));
+            };
+            left = c.requires.0;
+            right = c.requires.1;
+            no_pair = c.requires.4;
+          });
+      left = c.items_of-l.ensures;
+      right = c.items_of-r.ensures;
+    }
 
 pub returns-then-is_deep : goal.returns-then-is_deep
 returns-then-is_deep c = left_deep (offered (goal.at.returns-then-is_deep c).After-items_of-r) c.requires.2 c.is_deep.ensures c.if-is_deep.true _

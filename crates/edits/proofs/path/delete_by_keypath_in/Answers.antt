@@ -1,6 +1,5 @@
 -- `edits::path::delete_by_keypath_in` meets its contract: a slice from its first byte to its end is the slice.
 use Rattle.layout.proofs.Fields.{part_all}
-use borrow.Author.Rules.{rules}
 use Rattle.edits.proofs.path.delete_by_keypath_in.Goals as goal
 
 pub returns : goal.returns

@@ -1,18 +1,14 @@
 -- `edits::path::find_path` meets its contract.
 use native.Mathlib.Omega.{arith}
-use borrow.Author.Rules.{rules}
-use Prim.Native.Nat.{◌+◌, ◌-◌, ◌*◌, ◌^◌, ◌<◌, ◌≤◌}
+use Prim.Native.Nat.{◌^◌, ◌<◌}
 use Rattle.layout.specs.Bytes.{Octets}
-use mathlib.Core.Path.{◌≡◌}
-use Rattle.layout.specs.Parts.{start_of}
-use Rattle.layout.specs.Table.{table_place}
 use Rattle.layout.proofs.Fields.{length_lt}
 use Rattle.layout.proofs.Words.{octets_of}
 use Rattle.layout.proofs.Pieces.{same_part}
 use Rattle.layout.proofs.Carries.{place_first, place_on}
-use Rattle.edits.specs.Find.{step_into, look_up}
-use Rattle.edits.proofs.Descents.{Going, going_start, going_stop, going_on, going_end}
-use Rattle.edits.proofs.Lookups.{steps_in, steps_left, left_first, left_none, left_all}
+use Rattle.edits.specs.Find.{step_into}
+use Rattle.edits.proofs.Descents.{going_start, going_stop, going_on, going_end}
+use Rattle.edits.proofs.Lookups.{steps_left, left_first, left_none, left_all}
 use Rattle.edits.proofs.path.find_path.Goals.{After-encoded, After-step_from}
 use Rattle.edits.proofs.path.find_path.Goals as goal
 
@@ -53,16 +49,15 @@ pub overflow_add-place : goal.overflow_add-place
 overflow_add-place c = omega (arith, c.requires.2, c.loop-i.invariant.1, c.loop-i-test.true, near (goal.at.overflow_add-place c).After-step_from)
 
 pub loop-i-preserved : goal.loop-i-preserved
-loop-i-preserved c =
-    (
-      omega (arith, c.loop-i-test.true),
-      omega (arith, c.loop-i.invariant.1, near (goal.at.loop-i-preserved c).After-step_from),
-      going_on c.loop-i.invariant.2 (step_into _) (steps_left _ _ _ _)
-          (left_first _ _ _ _ _ _ _ c.loop-i-test.true c.jentry_at-jentry.ensures c.payload_len-len.ensures
-          c.slice.ensures)
-          _ c.step_from.ensures _ c.in-At.is,
-      place_on _ _ _ _ _ _ c.loop-i.invariant.3 c.jentry_at-jentry.ensures c.payload_len-len.ensures,
-    )
+loop-i-preserved c = (
+  omega (arith, c.loop-i-test.true),
+  omega (arith, c.loop-i.invariant.1, near (goal.at.loop-i-preserved c).After-step_from),
+  going_on c.loop-i.invariant.2 (step_into _) (steps_left _ _ _ _)
+      (left_first _ _ _ _ _ _ _ c.loop-i-test.true c.jentry_at-jentry.ensures c.payload_len-len.ensures
+      c.slice.ensures)
+      _ c.step_from.ensures _ c.in-At.is,
+  place_on _ _ _ _ _ _ c.loop-i.invariant.3 c.jentry_at-jentry.ensures c.payload_len-len.ensures,
+)
 
 pub returns : goal.returns
 returns c = going_end c.loop-i.invariant.2 (left_none _ _ _ _ c.loop-i-test.false)

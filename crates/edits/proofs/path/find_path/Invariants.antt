@@ -1,18 +1,11 @@
 -- `edits::path::find_path` meets its contract.
-use native.Mathlib.Omega.{arith}
-use borrow.Author.Rules.{rules}
-use Prim.Native.Nat.{◌+◌, ◌-◌, ◌*◌, ◌^◌, ◌<◌, ◌≤◌}
-use Rattle.layout.specs.Bytes.{Octets}
+use Prim.Native.Nat.{◌+◌, ◌-◌, ◌*◌, ◌^◌, ◌≤◌}
 use mathlib.Core.Path.{◌≡◌}
 use Rattle.layout.specs.Parts.{start_of}
 use Rattle.layout.specs.Table.{table_place}
-use Rattle.layout.proofs.Fields.{length_lt}
-use Rattle.layout.proofs.Words.{octets_of}
-use Rattle.layout.proofs.Pieces.{same_part}
-use Rattle.layout.proofs.Carries.{place_first, place_on}
-use Rattle.edits.specs.Find.{step_into, look_up}
-use Rattle.edits.proofs.Descents.{Going, going_start, going_stop, going_on, going_end}
-use Rattle.edits.proofs.Lookups.{steps_in, steps_left, left_first, left_none, left_all}
+use Rattle.edits.specs.Find.{look_up}
+use Rattle.edits.proofs.Descents.{Going}
+use Rattle.edits.proofs.Lookups.{steps_in, steps_left}
 use Rattle.edits.proofs.path.find_path.Given as goal
 
 -- What the whole path finds is what the steps that are left find, from the item on; step i stands where the path's table gives it.

@@ -1,7 +1,6 @@
 -- `edits::path::get_by_keypath` meets its contract: with the buffer's own length as the room.
 use Rattle.layout.proofs.Patches.{ended_in}
 use Rattle.edits.proofs.OnPaths.{path_fits}
-use borrow.Author.Rules.{rules}
 use Rattle.edits.proofs.path.get_by_keypath.Goals as goal
 
 pub returns : goal.returns

@@ -2,7 +2,6 @@
 use Prim.Native.Nat.{◌+◌, ◌^◌, ◌<◌}
 use native.Mathlib.Omega.{arith}
 use Rattle.edits.proofs.Helds.{in_found}
-use borrow.Author.Rules.{rules}
 use Rattle.edits.proofs.path.item_in.Goals.{In-At}
 use Rattle.edits.proofs.path.item_in.Goals as goal
 

@@ -1,7 +1,6 @@
 -- `edits::path::step_from` meets its contract.
 use native.Mathlib.Omega.{arith}
 use Rattle.edits.proofs.Helds.{leads_scalar, step_small, leads_in}
-use borrow.Author.Rules.{rules}
 use Rattle.edits.proofs.path.step_from.Goals as goal
 
 pub returns-then-type_code-ne-CONTAINER_CODE : goal.returns-then-type_code-ne-CONTAINER_CODE

@@ -1,7 +1,6 @@
 -- `edits::path::write_copy` meets its contract.
 use mathlib.Core.Path.{refl}
 use Rattle.layout.proofs.Patches.{in_short, in_full}
-use borrow.Author.Rules.{rules}
 use Rattle.edits.proofs.path.write_copy.Goals as goal
 
 pub returns-then-room-s : goal.returns-then-room-s

@@ -2,7 +2,6 @@
 use mathlib.Core.Path.{sym, ◌∙◌}
 use Rattle.layout.proofs.Patches.{in_as}
 use Rattle.edits.proofs.Helds.{item_record_container, item_short, item_stored}
-use borrow.Author.Rules.{rules}
 use Rattle.edits.proofs.path.write_item.Goals as goal
 
 pub returns-then-type_code-eq-CONTAINER_CODE : goal.returns-then-type_code-eq-CONTAINER_CODE

@@ -1,11 +1,11 @@
 -- `edits::strip::put_stripped` and what it calls in a cycle meet their contracts: the allowance falls with each level.
-use Prim.Native.Nat.{ℕ, ◌+◌, ◌*◌, ◌-◌, ◌<◌}
+use Prim.Native.Nat.{ℕ, ◌-◌}
 use native.Mathlib.Omega.{arith}
 use mathlib.Core.Path.{◌≡◌, refl, ap, sym, ◌∙◌}
 use lib.Dec.{eqb}
 use lib.ListN.{length, take}
 use Rattle.layout.specs.Bytes.{Octets}
-use Rattle.layout.specs.Parts.{name_in, nth_part}
+use Rattle.layout.specs.Parts.{name_in}
 use Rattle.layout.proofs.Words.{octets_of}
 use Rattle.layout.proofs.Pieces.{same_part}
 use Rattle.layout.proofs.Carries.{part_start, part_on}
@@ -18,31 +18,15 @@ use Rattle.edits.proofs.Aheads.{searched}
 use Rattle.edits.proofs.Standings.{fewer_on}
 use Rattle.edits.proofs.Stripped.{NestedItem, item_asked, item_repeats, item_short, item_stripped, item_as_is, member_stripped}
 use Rattle.edits.proofs.Stripped.{no_scalar, no_refusal, handed_asks, handed_back}
-use Rattle.edits.proofs.StripItems.{ArrayAt, array_at, Storing, storing_starts, storing_room, ItemNext, item_asks}
+use Rattle.edits.proofs.StripItems.{ArrayAt, array_at, storing_starts, storing_room, ItemNext, item_asks}
 use Rattle.edits.proofs.StripItems.{storing_repeats, storing_len, storing_on, storing_ends}
 use Rattle.edits.proofs.StripMembers.{ObjectStripped, object_stripped, handed_near, handed_members}
 use Rattle.edits.proofs.StripMembers.{sizes_measured, sizes_fit, setting_of, all_places, found_among}
-use Rattle.edits.proofs.StripMembers.{StoringMembers, members_starts, members_room, members_few, members_asks}
+use Rattle.edits.proofs.StripMembers.{members_starts, members_room, members_few, members_asks}
 use Rattle.edits.proofs.StripMembers.{members_repeats, past_room, members_on, members_ends}
-use Rattle.edits.proofs.StripRising.{StoringRising, rising_starts, RisingNext, rising_found, rising_asks, rising_on, rising_passed, rising_ends}
-use borrow.Author.Rules.{rules}
-use Rattle.edits.proofs.strip.+put_item_stripped_put_items_stripped_put_member_stripped_put_members_stripped_put_rising_stripped_put_sorted_stripped_put_stripped.Lts-put_item_stripped
-use Rattle.edits.proofs.strip.+put_item_stripped_put_items_stripped_put_member_stripped_put_members_stripped_put_rising_stripped_put_sorted_stripped_put_stripped.Lts-put_items_stripped
-use Rattle.edits.proofs.strip.+put_item_stripped_put_items_stripped_put_member_stripped_put_members_stripped_put_rising_stripped_put_sorted_stripped_put_stripped.Lts-put_member_stripped
-use Rattle.edits.proofs.strip.+put_item_stripped_put_items_stripped_put_member_stripped_put_members_stripped_put_rising_stripped_put_sorted_stripped_put_stripped.Lts-put_members_stripped
-use Rattle.edits.proofs.strip.+put_item_stripped_put_items_stripped_put_member_stripped_put_members_stripped_put_rising_stripped_put_sorted_stripped_put_stripped.Lts-put_rising_stripped
-use Rattle.edits.proofs.strip.+put_item_stripped_put_items_stripped_put_member_stripped_put_members_stripped_put_rising_stripped_put_sorted_stripped_put_stripped.Lts-put_sorted_stripped
-use Rattle.edits.proofs.strip.+put_item_stripped_put_items_stripped_put_member_stripped_put_members_stripped_put_rising_stripped_put_sorted_stripped_put_stripped.Lts-put_stripped
+use Rattle.edits.proofs.StripRising.{rising_starts, RisingNext, rising_found, rising_asks, rising_on, rising_passed, rising_ends}
 use Rattle.edits.proofs.strip.+put_item_stripped_put_items_stripped_put_member_stripped_put_members_stripped_put_rising_stripped_put_sorted_stripped_put_stripped.Goals.{put_item_stripped-Then-type_code-eq-CONTAINER_CODE, put_items_stripped-After-jentry_at, put_items_stripped-After-shared_slice_known-1, put_items_stripped-After-struct_known-2-1, put_members_stripped-After-measure_ahead-sizes, put_members_stripped-After-shared_slice_known-1, put_rising_stripped-After-is_kept, put_rising_stripped-After-shared_slice_known-1, put_rising_stripped-After-struct_known-2-1, put_rising_stripped-Then-is_kept, put_sorted_stripped-After-shared_slice_known-1, put_sorted_stripped-At-loop-i, put_sorted_stripped-In-At, put_stripped-After-read_header}
 use Rattle.edits.proofs.strip.+put_item_stripped_put_items_stripped_put_member_stripped_put_members_stripped_put_rising_stripped_put_sorted_stripped_put_stripped.Goals as goal
-
-    as put-item-stripped-lts
-    as put-items-stripped-lts
-    as put-member-stripped-lts
-    as put-members-stripped-lts
-    as put-rising-stripped-lts
-    as put-sorted-stripped-lts
-    as put-stripped-lts
 
 nested : (t : ℕ) (c : put_item_stripped-Then-type_code-eq-CONTAINER_CODE t) → NestedItem c.args.s.now c.args.item
     c.payload_at-payload.result.now c.args.allowance
@@ -126,7 +110,7 @@ put_items_stripped-put_item_stripped-requires t c =
     )
 
 pub put_items_stripped-returns-in_default : goal.put_items_stripped-returns-in_default
-put_items_stripped-returns-in_default t c = storing_repeats c.loop-part.invariant.before.before.before.1 (item_next t (goal.at.put_items_stripped-returns-in_default t c).After-jentry_at) _ _ c.put_item_stripped.ensures c.in_default.is
+put_items_stripped-returns-in_default t c = storing_repeats c.loop-part.invariant.1 (item_next t (goal.at.put_items_stripped-returns-in_default t c).After-jentry_at) _ _ c.put_item_stripped.ensures c.in_default.is
 
 pub put_items_stripped-overflow_add-here-in-loop-part : goal.put_items_stripped-overflow_add-here-in-loop-part
 put_items_stripped-overflow_add-here-in-loop-part t c = omega (arith, storing_room c.loop-part.invariant.1, c.requires.2, c.loop-part-test.true)
@@ -141,18 +125,17 @@ put_items_stripped-overflow_add-here-in-loop-part-2 t c =
     )
 
 pub put_items_stripped-part_behind-part-requires : goal.put_items_stripped-part_behind-part-requires
-put_items_stripped-part_behind-part-requires t c = omega (arith, storing_room c.loop-part.invariant.before.before.before.1)
+put_items_stripped-part_behind-part-requires t c = omega (arith, storing_room c.loop-part.invariant.1)
 
 pub put_items_stripped-loop-part-smaller : goal.put_items_stripped-loop-part-smaller
 put_items_stripped-loop-part-smaller t c = omega (arith, c.loop-part-test.true, same_part c.part_behind-part.ensures)
 
 pub put_items_stripped-loop-part-preserved : goal.put_items_stripped-loop-part-preserved
-put_items_stripped-loop-part-preserved t c =
-    (
-      c.loop-part.before.before.before.inv.0,
-      storing_on c.loop-part.before.before.before.inv.1 (item_next t (goal.at.put_items_stripped-loop-part-preserved t c).After-jentry_at) _ _ c.put_item_stripped.ensures c.in-Len.is c.part_behind-part.ensures,
-      part_on _ _ _ _ c.loop-part.before.before.before.inv.2 c.part_behind-part.ensures,
-    )
+put_items_stripped-loop-part-preserved t c = (
+  c.loop-part.invariant.0,
+  storing_on c.loop-part.invariant.1 (item_next t (goal.at.put_items_stripped-loop-part-preserved t c).After-jentry_at) _ _ c.put_item_stripped.ensures c.in-Len.is c.part_behind-part.ensures,
+  part_on _ _ _ _ c.loop-part.invariant.2 c.part_behind-part.ensures,
+)
 
 pub put_items_stripped-overflow_sub-result : goal.put_items_stripped-overflow_sub-result
 put_items_stripped-overflow_sub-result t c = omega (arith, storing_room c.loop-part.invariant.1)
@@ -199,7 +182,7 @@ put_members_stripped-put_rising_stripped-requires t c = (omega (arith, c.decreas
 pub put_members_stripped-returns-then-ahead : goal.put_members_stripped-returns-then-ahead
 put_members_stripped-returns-then-ahead t c =
     handed_back c.put_rising_stripped.result c.args.s.now c.args.out.now
-    c.put_rising_stripped.new.1.1.1.0 c.args.at c.put_rising_stripped.ensures
+    c.put_rising_stripped.new.out c.args.at c.put_rising_stripped.ensures
 
 pub put_members_stripped-put_sorted_stripped-requires : goal.put_members_stripped-put_sorted_stripped-requires
 put_members_stripped-put_sorted_stripped-requires t c = (omega (arith, c.decreases), (prepared t (goal.at.put_members_stripped-put_sorted_stripped-requires t c).After-measure_ahead-sizes, c.requires.2))
@@ -207,7 +190,7 @@ put_members_stripped-put_sorted_stripped-requires t c = (omega (arith, c.decreas
 pub put_members_stripped-returns : goal.put_members_stripped-returns
 put_members_stripped-returns t c =
     handed_back c.put_sorted_stripped.result c.args.s.now c.args.out.now
-    c.put_sorted_stripped.new.1.1.1.0 c.args.at c.put_sorted_stripped.ensures
+    c.put_sorted_stripped.new.out c.args.at c.put_sorted_stripped.ensures
 
 -- What is known at the entry, of the member read, and of one that is kept.
 rising_octets : (t : ℕ) (c : put_rising_stripped-After-shared_slice_known-1 t) → Octets c.args.s.now
@@ -229,7 +212,7 @@ rising_least : (t : ℕ) (c : put_rising_stripped-Then-is_kept t) → At c.read_
     (searched c.args.s.now c.args.ahead.count NonNull)
 rising_least t c =
     rising_found c.loop-here.invariant ((
-        record {
+    record {
       more = c.loop-here-test.true;
       member_is = c.read_member-member.ensures;
       behind = c.ahead_behind-next.ensures;
@@ -252,11 +235,10 @@ pub put_rising_stripped-overflow_sub-allowance : goal.put_rising_stripped-overfl
 put_rising_stripped-overflow_sub-allowance t c = omega (arith, c.loop-here.invariant.storing.setting.object_is.levels)
 
 pub put_rising_stripped-put_member_stripped-requires : goal.put_rising_stripped-put_member_stripped-requires
-put_rising_stripped-put_member_stripped-requires t c =
-    (
-      omega (arith, c.decreases, c.loop-here.invariant.storing.setting.object_is.levels),
-      rising_asks c.loop-here.invariant (rising_next t (goal.at.put_rising_stripped-put_member_stripped-requires t c).After-is_kept) c.if-is_kept.true,
-    )
+put_rising_stripped-put_member_stripped-requires t c = (
+  omega (arith, c.decreases, c.loop-here.invariant.storing.setting.object_is.levels),
+  rising_asks c.loop-here.invariant (rising_next t (goal.at.put_rising_stripped-put_member_stripped-requires t c).After-is_kept) c.if-is_kept.true,
+)
 
 pub put_rising_stripped-returns-in_default : goal.put_rising_stripped-returns-in_default
 put_rising_stripped-returns-in_default t c =
@@ -272,7 +254,7 @@ put_rising_stripped-places_past-to-requires t c =
     c.payload_at.ensures
 
 pub put_rising_stripped-loop-here-smaller-in-Len : goal.put_rising_stripped-loop-here-smaller-in-Len
-put_rising_stripped-loop-here-smaller-in-Len t c = fewer_on _ c.read_member-member.result _ c.loop-here-test.before.before.before.taken c.ahead_behind-next.ensures
+put_rising_stripped-loop-here-smaller-in-Len t c = fewer_on _ c.read_member-member.result _ c.loop-here-test.true c.ahead_behind-next.ensures
 
 pub put_rising_stripped-loop-here-preserved-in-Len : goal.put_rising_stripped-loop-here-preserved-in-Len
 put_rising_stripped-loop-here-preserved-in-Len t c =
@@ -283,7 +265,7 @@ put_rising_stripped-loop-here-preserved-in-Len t c =
     c.places_past-to.ensures
 
 pub put_rising_stripped-loop-here-smaller : goal.put_rising_stripped-loop-here-smaller
-put_rising_stripped-loop-here-smaller t c = fewer_on _ c.read_member-member.result _ c.loop-here-test.before.before.before.true c.ahead_behind-next.ensures
+put_rising_stripped-loop-here-smaller t c = fewer_on _ c.read_member-member.result _ c.loop-here-test.true c.ahead_behind-next.ensures
 
 pub put_rising_stripped-loop-here-preserved : goal.put_rising_stripped-loop-here-preserved
 put_rising_stripped-loop-here-preserved t c = rising_passed c.loop-here.invariant (rising_next t (goal.at.put_rising_stripped-loop-here-preserved t c).After-is_kept) c.if-is_kept.false
@@ -335,31 +317,30 @@ pub put_sorted_stripped-overflow_sub-allowance : goal.put_sorted_stripped-overfl
 put_sorted_stripped-overflow_sub-allowance t c = omega (arith, c.loop-i.invariant.setting.object_is.levels)
 
 pub put_sorted_stripped-put_member_stripped-requires : goal.put_sorted_stripped-put_member_stripped-requires
-put_sorted_stripped-put_member_stripped-requires t c =
-    (
-      omega (arith, c.decreases, c.loop-i.invariant.setting.object_is.levels),
-      members_asks c.loop-i.invariant (sorted_least t (goal.at.put_sorted_stripped-put_member_stripped-requires t c).In-At) c.loop-i-test.true,
-    )
+put_sorted_stripped-put_member_stripped-requires t c = (
+  omega (arith, c.decreases, c.loop-i.invariant.setting.object_is.levels),
+  members_asks c.loop-i.invariant (sorted_least t (goal.at.put_sorted_stripped-put_member_stripped-requires t c).In-At) c.loop-i-test.true,
+)
 
 pub put_sorted_stripped-returns-in_default-put_member_stripped : goal.put_sorted_stripped-returns-in_default-put_member_stripped
-put_sorted_stripped-returns-in_default-put_member_stripped t c = members_repeats c.loop-i.before.before.before.before.before.inv (sorted_least t (goal.at.put_sorted_stripped-returns-in_default-put_member_stripped t c).In-At) _ _ c.put_member_stripped.ensures c.in_default-put_member_stripped.is
+put_sorted_stripped-returns-in_default-put_member_stripped t c = members_repeats c.loop-i.invariant (sorted_least t (goal.at.put_sorted_stripped-returns-in_default-put_member_stripped t c).In-At) _ _ c.put_member_stripped.ensures c.in_default-put_member_stripped.is
 
 pub put_sorted_stripped-places_past-to-requires : goal.put_sorted_stripped-places_past-to-requires
 put_sorted_stripped-places_past-to-requires t c =
-    past_room c.loop-i.before.before.before.before.before.inv (sorted_least t (goal.at.put_sorted_stripped-places_past-to-requires t c).In-At) _ _
+    past_room c.loop-i.invariant (sorted_least t (goal.at.put_sorted_stripped-places_past-to-requires t c).In-At) _ _
     c.put_member_stripped.ensures
     c.in-Len.is
     c.payload_at-last.ensures
 
 pub put_sorted_stripped-overflow_add-i : goal.put_sorted_stripped-overflow_add-i
-put_sorted_stripped-overflow_add-i t c = omega (arith, members_room c.loop-i.before.before.before.before.before.inv)
+put_sorted_stripped-overflow_add-i t c = omega (arith, members_room c.loop-i.invariant)
 
 pub put_sorted_stripped-loop-i-smaller : goal.put_sorted_stripped-loop-i-smaller
 put_sorted_stripped-loop-i-smaller t c = omega (arith, c.loop-i-test.true)
 
 pub put_sorted_stripped-loop-i-preserved : goal.put_sorted_stripped-loop-i-preserved
 put_sorted_stripped-loop-i-preserved t c =
-    members_on c.loop-i.before.before.before.before.before.inv (sorted_least t (goal.at.put_sorted_stripped-loop-i-preserved t c).In-At) _ _
+    members_on c.loop-i.invariant (sorted_least t (goal.at.put_sorted_stripped-loop-i-preserved t c).In-At) _ _
     c.put_member_stripped.ensures
     c.in-Len.is
     c.payload_at-last.ensures
@@ -390,12 +371,12 @@ put_stripped-put_members_stripped-requires t c =
 pub put_stripped-returns-in-Array : goal.put_stripped-returns-in-Array
 put_stripped-returns-in-Array t c =
     handed_back c.put_items_stripped.result c.args.s.now c.args.out.now
-    c.put_items_stripped.new.1.1.0 c.args.at c.put_items_stripped.ensures
+    c.put_items_stripped.new.out c.args.at c.put_items_stripped.ensures
 
 pub put_stripped-returns-in-Object : goal.put_stripped-returns-in-Object
 put_stripped-returns-in-Object t c =
     handed_back c.put_members_stripped.result c.args.s.now c.args.out.now
-    c.put_members_stripped.new.1.1.0 c.args.at c.put_members_stripped.ensures
+    c.put_members_stripped.new.out c.args.at c.put_members_stripped.ensures
 
 pub put_stripped-returns-in-Scalar : goal.put_stripped-returns-in-Scalar
 put_stripped-returns-in-Scalar t c = no_scalar (container_octets t (goal.at.put_stripped-returns-in-Scalar t c).After-read_header) c.requires.0 (sym c.read_header.ensures ∙ c.in-Scalar.is)

@@ -1,38 +1,10 @@
 -- `edits::strip::put_stripped` and what it calls in a cycle meet their contracts: the allowance falls with each level.
-use Prim.Native.Nat.{ℕ, ◌+◌, ◌*◌, ◌-◌, ◌<◌}
-use native.Mathlib.Omega.{arith}
-use mathlib.Core.Path.{◌≡◌, refl, ap, sym, ◌∙◌}
-use lib.Dec.{eqb}
-use lib.ListN.{length, take}
-use Rattle.layout.specs.Bytes.{Octets}
-use Rattle.layout.specs.Parts.{name_in, nth_part}
-use Rattle.layout.proofs.Words.{octets_of}
-use Rattle.layout.proofs.Pieces.{same_part}
-use Rattle.layout.proofs.Carries.{part_start, part_on}
-use Rattle.layout.proofs.Patches.{length_patch}
-use Rattle.builders.specs.Search.{bound, least}
-use Rattle.builders.specs.declared.search.Found.TheVariants.{Nothing, At}
-use Rattle.builders.specs.declared.search.Kept.TheVariants.{NonNull}
-use Rattle.edits.specs.Stripping.{Prepared}
-use Rattle.edits.proofs.Aheads.{searched}
-use Rattle.edits.proofs.Standings.{fewer_on}
-use Rattle.edits.proofs.Stripped.{NestedItem, item_asked, item_repeats, item_short, item_stripped, item_as_is, member_stripped}
-use Rattle.edits.proofs.Stripped.{no_scalar, no_refusal, handed_asks, handed_back}
-use Rattle.edits.proofs.StripItems.{ArrayAt, array_at, Storing, storing_starts, storing_room, ItemNext, item_asks}
-use Rattle.edits.proofs.StripItems.{storing_repeats, storing_len, storing_on, storing_ends}
-use Rattle.edits.proofs.StripMembers.{ObjectStripped, object_stripped, handed_near, handed_members}
-use Rattle.edits.proofs.StripMembers.{sizes_measured, sizes_fit, setting_of, all_places, found_among}
-use Rattle.edits.proofs.StripMembers.{StoringMembers, members_starts, members_room, members_few, members_asks}
-use Rattle.edits.proofs.StripMembers.{members_repeats, past_room, members_on, members_ends}
-use Rattle.edits.proofs.StripRising.{StoringRising, rising_starts, RisingNext, rising_found, rising_asks, rising_on, rising_passed, rising_ends}
-use borrow.Author.Rules.{rules}
-use Rattle.edits.proofs.strip.+put_item_stripped_put_items_stripped_put_member_stripped_put_members_stripped_put_rising_stripped_put_sorted_stripped_put_stripped.Lts-put_item_stripped
-use Rattle.edits.proofs.strip.+put_item_stripped_put_items_stripped_put_member_stripped_put_members_stripped_put_rising_stripped_put_sorted_stripped_put_stripped.Lts-put_items_stripped
-use Rattle.edits.proofs.strip.+put_item_stripped_put_items_stripped_put_member_stripped_put_members_stripped_put_rising_stripped_put_sorted_stripped_put_stripped.Lts-put_member_stripped
-use Rattle.edits.proofs.strip.+put_item_stripped_put_items_stripped_put_member_stripped_put_members_stripped_put_rising_stripped_put_sorted_stripped_put_stripped.Lts-put_members_stripped
-use Rattle.edits.proofs.strip.+put_item_stripped_put_items_stripped_put_member_stripped_put_members_stripped_put_rising_stripped_put_sorted_stripped_put_stripped.Lts-put_rising_stripped
-use Rattle.edits.proofs.strip.+put_item_stripped_put_items_stripped_put_member_stripped_put_members_stripped_put_rising_stripped_put_sorted_stripped_put_stripped.Lts-put_sorted_stripped
-use Rattle.edits.proofs.strip.+put_item_stripped_put_items_stripped_put_member_stripped_put_members_stripped_put_rising_stripped_put_sorted_stripped_put_stripped.Lts-put_stripped
+use Prim.Native.Nat.{◌+◌, ◌*◌, ◌-◌}
+use mathlib.Core.Path.{◌≡◌}
+use Rattle.layout.specs.Parts.{nth_part}
+use Rattle.edits.proofs.StripItems.{ArrayAt, Storing}
+use Rattle.edits.proofs.StripMembers.{StoringMembers}
+use Rattle.edits.proofs.StripRising.{StoringRising}
 use Rattle.edits.proofs.strip.+put_item_stripped_put_items_stripped_put_member_stripped_put_members_stripped_put_rising_stripped_put_sorted_stripped_put_stripped.Given as goal
 
 abbrev pub decreases-put_item_stripped : goal.decreases-put_item_stripped
