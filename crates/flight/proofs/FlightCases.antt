@@ -5,7 +5,7 @@ use mathlib.Core.Path.{◌≡◌, refl}
 use mathlib.Core.List.{List, [], ◌∷◌, ◌++◌}
 use lib.ListN.{length, replicate}
 use Rattle.layout.specs.Bytes.{Bytes, be32}
-use Rattle.layout.specs.Tree.{Tree, null, array, object, none, item, empty, member}
+use Rattle.layout.specs.Tree.{Tree, array, object, none, item, empty, member}
 use Rattle.layout.specs.Encode.{encode}
 use Rattle.layout.specs.Order.{order, before, same_bytes}
 use Rattle.layout.specs.Check.{checked}

@@ -7,7 +7,7 @@ use mathlib.Core.Option.{none as nothing, some}
 use native.Mathlib.Omega.{arith}
 use lib.ListN.{length}
 use Rattle.layout.specs.Bytes.{Bytes}
-use Rattle.layout.specs.Answer.{gives, refused, ◌>>=◌, require}
+use Rattle.layout.specs.Answer.{gives, refused}
 use Rattle.layout.specs.Tree.{Tree}
 use Rattle.layout.specs.Read.{header, nested, read}
 use Rattle.layout.specs.Check.{checked}

@@ -1,9 +1,9 @@
 -- How names and places are written as a pointer, and that it finds them: RFC 6901, sections 3 and 4, the other way round.
-use Prim.Native.Nat.{ℕ, zero, suc, ◌+◌, ◌*◌, ◌-◌, ◌/◌, ◌%◌, ◌^◌, ◌<◌, ◌≤◌}
+use Prim.Native.Nat.{ℕ, zero, suc, ◌+◌, ◌*◌, ◌-◌, ◌/◌, ◌%◌, ◌^◌, ◌<◌}
 use native.Mathlib.Omega.{arith}
 use native.Mathlib.Decide.{dec_lt}
 use mathlib.Core.Path.{◌≡◌, refl, ap, sym, ◌∙◌}
-use mathlib.Core.Bool.{Bool, true, false, cond, ◌&&◌}
+use mathlib.Core.Bool.{Bool, true, false, cond}
 use mathlib.Core.List.{List, [], ◌∷◌, ◌++◌}
 use mathlib.Core.Option.{some}
 use lib.Dec.{eqb, leb}
@@ -18,7 +18,7 @@ use Rattle.layout.proofs.Decimals.{decimal_one, decimal_more}
 use Rattle.layout.proofs.Places.{and_both}
 use Rattle.layout.proofs.Texts.{text_rest, rest_first, rest_tail}
 use Rattle.edits.proofs.Deletes.{false_true}
-use Rattle.pointers.specs.Pointer.{has_slash, escape_good, escaped, is_pointer, put_front, split, undo, undo_all, tokens}
+use Rattle.pointers.specs.Pointer.{has_slash, escape_good, escaped, is_pointer, split, undo, undo_all, tokens}
 use Rattle.pointers.specs.Pointer.{digits, digits_value, index_of}
 use Rattle.pointers.specs.Token.{unescape}
 use Rattle.pointers.proofs.Tokens.{undo_once, front_plain}

@@ -78,14 +78,14 @@ delete_is target path room = on_path_is delete_by target path room ∙ by_reads 
 delete_foretold : (target path : Bytes) → Octets target → Foretold (sender ++ (6 ∷ 7 ∷ [])) (on_path delete_by target path)
 delete_foretold target path o =
     let P = OneOf (sender ++ (6 ∷ 7 ∷ [])) in
-    foretold _ (on_path delete_by target path) (deleted target path) (delete_is target path) (λ room. delete_limited target path room o)
+    foretold (sender ++ (6 ∷ 7 ∷ [])) (on_path delete_by target path) (deleted target path) (delete_is target path) (λ room. delete_limited target path room o)
     (by_bind P (read target) _ (read_by P (sent (6 ∷ 7 ∷ [])) target) λ t.
     by_bind P (path_of path) _ (path_by P tt path) λ p. by_bind P (deletable t) _ (deletable_by P tt t) λ u. tt)
 
 strip_foretold : (target : Bytes) → Octets target → Foretold (sender ++ (8 ∷ [])) (on_one strip target)
 strip_foretold target o =
     let P = OneOf (sender ++ (8 ∷ [])) in
-    foretold _ (on_one strip target) (read target >>= strip) (on_one_is strip target) (λ room. strip_limited target room o)
+    foretold (sender ++ (8 ∷ [])) (on_one strip target) (read target >>= strip) (on_one_is strip target) (λ room. strip_limited target room o)
     (by_bind P (read target) strip (read_by P (sent (8 ∷ [])) target) (strip_by P tt))
 
 -- An edit of two records has the numbers of reading, its own, and 9.
@@ -95,7 +95,7 @@ module _ (more : List ℕ) (nine : OneOf (sender ++ more) Result) (edit : Tree �
       → Foretold (sender ++ more) (on_two edit left right)
   two_foretold left right limited =
       let P = OneOf (sender ++ more) in
-      foretold _ (on_two edit left right) (read left >>= λ t. read right >>= λ u. edit t u >>= λ v. within v) (on_two_is edit left right) limited
+      foretold (sender ++ more) (on_two edit left right) (read left >>= λ t. read right >>= λ u. edit t u >>= λ v. within v) (on_two_is edit left right) limited
       (by_bind P (read left) _ (read_by P (sent more) left) λ t.
       by_bind P (read right) _ (read_by P (sent more) right) λ u. by_bind P (edit t u) _ (own t u) λ v. within_by P nine v)
 
@@ -103,8 +103,8 @@ pub previews : Previews
 previews =
     record {
       of_delete = delete_foretold;
-      of_concat = λ l r ol or. two_foretold _ tt concat (concat_by _ tt) l r (λ room. concat_limited l r room ol or);
+      of_concat = λ l r ol or. two_foretold (8 ∷ 9 ∷ []) tt concat (concat_by _ tt) l r (λ room. concat_limited l r room ol or);
       of_strip = strip_foretold;
-      of_append = λ a i oa oi. two_foretold _ tt append (append_by _ tt) a i (λ room. append_limited a i room oa oi);
-      of_build = λ n v on ov. two_foretold _ tt build (build_by _ tt tt) n v (λ room. build_limited n v room on ov);
+      of_append = λ a i oa oi. two_foretold (7 ∷ 9 ∷ []) tt append (append_by _ tt) a i (λ room. append_limited a i room oa oi);
+      of_build = λ n v on ov. two_foretold (7 ∷ 8 ∷ 9 ∷ []) tt build (build_by _ tt tt) n v (λ room. build_limited n v room on ov);
     }

@@ -1,6 +1,6 @@
 -- Equal values of members, by what each name finds: where no name stands twice on either side, members have equal values exactly where
 -- each name finds equal values.
-use mathlib.Core.Path.{◌≡◌, refl, ap, sym, ◌∙◌, subst₂}
+use mathlib.Core.Path.{◌≡◌, refl, ap, sym, subst, ◌∙◌, subst₂}
 use mathlib.Core.Logic.{⊎_elim}
 use mathlib.Core.Bool.{true}
 use mathlib.Core.Option.{Option, none as nothing, some}
@@ -16,6 +16,7 @@ use Rattle.builders.proofs.InOrders.{in_order_rising, rising_distinct, find_in_o
 use Rattle.builders.proofs.Proper.{same_distinct}
 use Rattle.edits.specs.Delete.{change_member}
 use Rattle.edits.proofs.Deletes.{equal_or_not, find_first, find_later, not_in, find_other, find_gone, change_distinct, change_taken}
+use Rattle.runs.proofs.SameNames.{find_same}
 
 -- Equal values found, or nothing on both sides.
 abbrev pub SameFound : Option Tree → Option Tree → Type 0
@@ -50,7 +51,7 @@ taken_find n u empty r k d = absurd k
 taken_find n u (member m v ns) r k d =
     let c = distinct_cons m (names ns) d in
     ⊎_elim
-    (λ e. rw (e.0, e.1) (find_first m v ns))
+    (λ e. find_same n m v ns e.0 ∙ ap some (sym e.1))
     (λ e.
     find_later n m v ns (λ (q : n ≡ m). has_not m (names ns) c.0 (rw q at (taken_in n u ns e.0 e.2)))
     ∙ taken_find n u ns e.0 e.2 c.1)
@@ -69,7 +70,9 @@ finds_same empty ns h d x = rw h tt
 finds_same (member n t ms) ns h d x =
     let e = same_distinct ns (member n t ms) (same_members_sym (member n t ms) ns h) d in
     ⊎_elim
-    (λ (q : x ≡ n). rw (q, find_first n t ms, taken_find n h.0 ns h.1 h.2 e) h.3)
+    (λ (q : x ≡ n).
+    subst (λ (y : Bytes). SameFound (find y (member n t ms)) (find y ns)) (sym q)
+    (rw (find_first n t ms, taken_find n h.0 ns h.1 h.2 e) h.3))
     (λ k.
     rw (find_later x n t ms k, taken_other n h.0 ns h.1 h.2 x k)
     (finds_same ms h.1 h.4 (distinct_cons n (names ms) d).1 x))

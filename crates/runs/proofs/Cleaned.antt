@@ -1,5 +1,5 @@
 -- Strip on values: the plain strip of a value, and strip of a tree of equal value, give equal values.
-use mathlib.Core.Path.{◌≡◌, refl, ◌∙◌}
+use mathlib.Core.Path.{◌≡◌, refl, sym, subst, ◌∙◌}
 use mathlib.Core.Logic.{inl, inr, ⊎_elim}
 use mathlib.Core.Bool.{Bool, true, false, cond}
 use mathlib.Core.Option.{Option, none as nothing, some}
@@ -19,6 +19,7 @@ use Rattle.edits.proofs.Strips.{strip_finds, strip_given}
 use Rattle.runs.specs.Plain.{is_null, plain_strip, strip_items, strip_members}
 use Rattle.runs.proofs.Named.{by_test}
 use Rattle.runs.proofs.Alikes.{SameFound, same_some, finds_same, same_finds}
+use Rattle.runs.proofs.SameNames.{find_same}
 
 -- ---- what a name finds
 
@@ -39,9 +40,9 @@ find_cleaned x empty d = refl
 find_cleaned x (member n t ms) d =
     let c = distinct_cons n (names ms) d in
     ⊎_elim
-    (λ (e : x ≡ n). rw (e, find_first n t ms)
+    (λ (e : x ≡ n). subst (λ (y : Bytes). find y (strip_members (member n t ms)) ≡ left_of (find y (member n t ms))) (sym e) (rw (find_first n t ms)
     (here (is_null t) (not_in n (strip_members ms)
-    (λ i. has_not n (names ms) c.0 (fewer_in (names (strip_members ms)) (names ms) (strip_fewer ms) n i)))))
+    (λ i. has_not n (names ms) c.0 (fewer_in (names (strip_members ms)) (names ms) (strip_fewer ms) n i))))))
     (λ h. rw (find_later x n t ms h) (there (is_null t) h ∙ find_cleaned x ms c.1))
     (equal_or_not x n)
   where
@@ -104,7 +105,7 @@ mutual
   stripped_found x (member n t ms) o h p =
       ⊎_elim
       (λ (e : x ≡ n).
-      let found : find x (member n t ms) ≡ some t = rw e (find_first n t ms) in
+      let found : find x (member n t ms) ≡ some t = find_same x n t ms e in
       let w = same_some t o (rw found at h) in
       rw (found, w.1, null_same t w.0 w.2)
       (one_kept (is_null t) (plain_strip t) (stripped w.0) (stripped_same t w.0 w.2 p.1)))

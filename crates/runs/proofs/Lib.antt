@@ -1,4 +1,5 @@
 -- The laws of runs.
+pub mod SameNames
 pub mod Named
 pub mod Onces
 pub mod Alikes

@@ -11,8 +11,9 @@ use Rattle.layout.specs.Tree.{Tree, Members, empty, member, names}
 use Rattle.layout.specs.Order.{same_bytes}
 use Rattle.layout.proofs.Orders.{alike_bytes, unlike_bytes}
 use Rattle.builders.specs.Order.{find, has, distinct}
-use Rattle.edits.proofs.Deletes.{nothing_some, equal_or_not, find_first, find_later}
+use Rattle.edits.proofs.Deletes.{nothing_some, equal_or_not, find_later}
 use Rattle.runs.specs.Plain.{equal, has_name, repeats, named}
+use Rattle.runs.proofs.SameNames.{find_same}
 
 equal_refl : (a : Bytes) → equal a a ≡ true
 equal_refl [] = refl
@@ -45,7 +46,7 @@ pub named_find : (n : Bytes) (ms : Members) → named n ms ≡ find n ms
 named_find n empty = refl
 named_find n (member m t ms) =
     by_name n m (λ (o : Option Tree). o ≡ find n (member m t ms)) _ _
-    (λ e. rw e (sym (find_first m t ms)))
+    (λ e. sym (find_same n m t ms e))
     (λ h. named_find n ms ∙ sym (find_later n m t ms h))
 
 -- The account's test of equal names is the layout's.
@@ -63,7 +64,7 @@ pub missing_name : (n : Bytes) (ms : Members) → find n ms ≡ nothing → has_
 missing_name n empty e = refl
 missing_name n (member m t ms) e =
     ⊎_elim
-    (λ (q : n ≡ m). nothing_some {x = t} (sym e ∙ rw q (find_first m t ms)))
+    (λ (q : n ≡ m). nothing_some {x = t} (sym e ∙ find_same n m t ms q))
     (λ h. rw (equal_not n m h) (missing_name n ms (sym (find_later n m t ms h) ∙ e)))
     (equal_or_not n m)
 

@@ -15,11 +15,12 @@ use Rattle.builders.specs.Build.{join, append}
 use Rattle.builders.proofs.InOrders.{or_else, has_not, distinct_cons}
 use Rattle.builders.proofs.Proper.{Proper, ProperItems, ProperMembers, distinct_with, same_distinct, Fewer, fewer_distinct}
 use Rattle.edits.specs.Concat.{as_items, members_in, concat}
-use Rattle.edits.proofs.Deletes.{false_true, find_first, find_later, equal_or_not, nothing_some}
+use Rattle.edits.proofs.Deletes.{false_true, find_later, equal_or_not, nothing_some}
 use Rattle.edits.proofs.Concats.{find_follow, concat_given, concat_items}
 use Rattle.runs.specs.Plain.{has_name, together, lacked, items_then, giving, members_of, objects_or, plain_concat, plain_append}
 use Rattle.runs.proofs.Named.{by_test, has_named, missing_name}
 use Rattle.runs.proofs.Alikes.{SameFound, SameAnswer, finds_same, anew_same}
+use Rattle.runs.proofs.SameNames.{find_same}
 
 -- ---- two objects
 
@@ -36,7 +37,7 @@ find_lacked x rs (member n t ls) h =
     (λ b. find_lacked x rs ls h ∙ sym (find_later x n t ls (λ (e : x ≡ n). false_true (sym (missing_name n rs (rw e at h)) ∙ b))))
     (λ _.
     ⊎_elim
-    (λ (e : x ≡ n). rw (e, find_first n t (lacked rs ls), find_first n t ls))
+    (λ (e : x ≡ n). find_same x n t (lacked rs ls) e ∙ sym (find_same x n t ls e))
     (λ k. rw (find_later x n t (lacked rs ls) k, find_later x n t ls k) (find_lacked x rs ls h))
     (equal_or_not x n))
 

@@ -16,13 +16,14 @@ use Rattle.builders.proofs.Proper.{Proper, ProperItems, ProperMembers, same_dist
 use Rattle.edits.specs.Keypath.{Step}
 use Rattle.edits.specs.Find.{◌then◌, step_place, step_name, item_at, step_into, look_up}
 use Rattle.edits.specs.Delete.{kept_item, change_item, change_member, anew, remains, or_same, delete}
-use Rattle.edits.proofs.Deletes.{some_inj, nothing_some, then_some, equal_or_not, find_first, find_later, not_in, find_other, find_changed, find_gone}
+use Rattle.edits.proofs.Deletes.{some_inj, nothing_some, then_some, equal_or_not, find_later, not_in, find_other, find_changed, find_gone}
 use Rattle.edits.proofs.Meanings.{deleted_missing, deleted_found}
 use Rattle.runs.specs.Plain.{member_name, item_number, how_many, numbered, taken, inward, plain_look_up}
 use Rattle.runs.specs.Plain.{left_member, left_item, leave_named, leave_numbered, leave, rest, plain_delete}
 use Rattle.runs.proofs.Named.{by_name, named_find}
 use Rattle.runs.proofs.Alikes.{SameFound, some_same, none_same, finds_same, anew_same}
 use Rattle.runs.proofs.Looks.{count_same, place_number, same_name, ProperFound, taken_proper, step_same, look_up_same}
+use Rattle.runs.proofs.SameNames.{find_same}
 
 -- ---- members
 
@@ -42,7 +43,7 @@ leave_other f n x (member m t ms) h =
     there : find x (leave_named f n ms) ≡ find x ms → find x (member m t (leave_named f n ms)) ≡ find x (member m t ms)
     there e =
         ⊎_elim
-        (λ (q : x ≡ m). rw q (find_first m t (leave_named f n ms) ∙ sym (find_first m t ms)))
+        (λ (q : x ≡ m). find_same x m t (leave_named f n ms) q ∙ sym (find_same x m t ms q))
         (λ k. find_later x m t (leave_named f n ms) k ∙ e ∙ sym (find_later x m t ms k))
         (equal_or_not x m)
 
@@ -51,7 +52,7 @@ leave_missing : (f : Tree → Option Tree) (n : Bytes) (ms : Members) → find n
 leave_missing f n empty e = refl
 leave_missing f n (member m t ms) e =
     by_name n m (λ (a : Members). a ≡ member m t ms) _ _
-    (λ q. nothing_some {x = t} (sym e ∙ rw q (find_first m t ms)))
+    (λ q. nothing_some {x = t} (sym e ∙ find_same n m t ms q))
     (λ k. ap (member m t) (leave_missing f n ms (sym (find_later n m t ms k) ∙ e)))
 
 -- The name itself finds what is left.
@@ -62,14 +63,14 @@ leave_here f n (member m t ms) c d e =
     let k = distinct_cons m (names ms) d in
     by_name n m (λ (a : Members). find n a ≡ f c) _ _
     (λ (q : n ≡ m).
-    let same : t ≡ c = some_inj (sym (find_first m t ms) ∙ (rw q at e)) in
+    let same : t ≡ c = some_inj (sym (find_same n m t ms q) ∙ e) in
     let gone : find n ms ≡ nothing = not_in n ms (λ i. has_not m (names ms) k.0 (rw q at i)) in
     rw (leave_missing f n ms gone, ← same) (here (f t) q gone))
     (λ h. find_later n m t (leave_named f n ms) h ∙ leave_here f n ms c k.1 (sym (find_later n m t ms h) ∙ e))
   where
     here : (o : Option Tree) → n ≡ m → find n ms ≡ nothing → find n (left_member m o ms) ≡ o
     here nothing q g = g
-    here (some u) q g = rw q (find_first m u ms)
+    here (some u) q g = find_same n m u ms q
 
 -- What is left as it is leaves all.
 leave_kept : (f : Tree → Option Tree) (n : Bytes) (ms : Members) (c : Tree) → distinct (names ms) ≡ true → find n ms ≡ some c → f c ≡ some c
@@ -79,7 +80,7 @@ leave_kept f n (member m t ms) c d e g =
     let k = distinct_cons m (names ms) d in
     by_name n m (λ (a : Members). a ≡ member m t ms) _ _
     (λ (q : n ≡ m).
-    let same : t ≡ c = some_inj (sym (find_first m t ms) ∙ (rw q at e)) in
+    let same : t ≡ c = some_inj (sym (find_same n m t ms q) ∙ e) in
     let gone : find n ms ≡ nothing = not_in n ms (λ i. has_not m (names ms) k.0 (rw q at i)) in
     rw (leave_missing f n ms gone, same, g))
     (λ h. ap (member m t) (leave_kept f n ms c k.1 (sym (find_later n m t ms h) ∙ e) g))

@@ -1,0 +1,44 @@
+-- `flight::edit::flight_concat` meets its contract.
+use native.Mathlib.Omega.{arith}
+use mathlib.Core.Path.{◌≡◌, ap₂, sym, ◌∙◌}
+use Rattle.layout.specs.Bytes.{Octets}
+use Rattle.layout.specs.Read.{header, read}
+use Rattle.layout.proofs.Words.{octets_of}
+use Rattle.flight.specs.Profile.{profile_in, both_in, beside}
+use Rattle.flight.proofs.Ends.{ended_refused, ended_same, few_levels, beside_unread, beside_inside}
+use Rattle.flight.proofs.edit.flight_concat.Goals.{After-profile_of_both, After-slice_known-1}
+use Rattle.flight.proofs.edit.flight_concat.Goals as goal
+
+left_octets : (c : After-slice_known-1) → Octets c.args.left.now
+left_octets c = octets_of c.args.left.now (λ i. omega (arith, c.type_inv.left i))
+
+right_octets : (c : After-slice_known-1) → Octets c.args.right.now
+right_octets c = octets_of c.args.right.now (λ i. omega (arith, c.type_inv.right i))
+
+beside_told : (c : After-profile_of_both) → c.profile_of_both.result ≡ both_in (beside c.args.left.now c.args.right.now) (beside c.args.right.now c.args.left.now)
+beside_told c =
+    c.profile_of_both.ensures
+    ∙ ap₂ (λ a b. both_in (profile_in a (read c.args.left.now)) (profile_in b (read c.args.right.now)))
+    c.levels_beside-left_levels.ensures
+    c.levels_beside-right_levels.ensures
+
+pub profile_of_both-requires : goal.profile_of_both-requires
+profile_of_both-requires c =
+    let h = header c.args.left.now in
+    let k = header c.args.right.now in
+    omega (arith, few_levels h k, few_levels k h, c.levels_beside-left_levels.ensures, c.levels_beside-right_levels.ensures)
+
+pub refuse_overlay-requires : goal.refuse_overlay-requires
+refuse_overlay-requires c = sym (beside_told (goal.at.refuse_overlay-requires c).After-profile_of_both) ∙ c.in-Outside.is
+
+pub returns-in-Refused : goal.returns-in-Refused
+returns-in-Refused c = ended_refused _ _ _ (beside_unread _ _ _ _ _ (sym c.profile_of_both.ensures ∙ c.in-Refused.is) _)
+
+pub returns-in-Outside : goal.returns-in-Outside
+returns-in-Outside c = c.refuse_overlay.ensures
+
+pub returns-in-Inside : goal.returns-in-Inside
+returns-in-Inside c =
+    ended_same _ _
+    (beside_inside _ _ (left_octets (goal.at.returns-in-Inside c).After-slice_known-1) (right_octets (goal.at.returns-in-Inside c).After-slice_known-1) (sym (beside_told (goal.at.returns-in-Inside c).After-profile_of_both) ∙ c.in-Inside.is) _)
+    c.concat.ensures
