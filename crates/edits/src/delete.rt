@@ -194,7 +194,7 @@ fn way_behind(path: &[u8], way: Way) -> Way
 }
 
 // Stores a container with one of its parts written anew, and gives its length.
-#[cycle(put_deleted_put_member_anew_put_part_anew_put_sorted_anew)]
+#[cycle(deletions)]
 fn put_part_anew(
     s: &[u8],
     total: usize,
@@ -238,7 +238,7 @@ fn put_part_anew(
 }
 
 // Stores a member, its value written anew where it has this name, and gives the places behind it.
-#[cycle(put_deleted_put_member_anew_put_part_anew_put_sorted_anew)]
+#[cycle(deletions)]
 fn put_member_anew(
     s: &[u8],
     member: MemberAt,
@@ -279,7 +279,7 @@ fn put_member_anew(
 }
 
 // Stores an object of n members in byte order of the names, with one value written anew, and gives its length.
-#[cycle(put_deleted_put_member_anew_put_part_anew_put_sorted_anew)]
+#[cycle(deletions)]
 fn put_sorted_anew(
     s: &[u8],
     n: usize,
@@ -314,7 +314,7 @@ fn put_sorted_anew(
 }
 
 // Stores a container without the item that the rest of a path finds in it, and gives its length.
-#[cycle(put_deleted_put_member_anew_put_part_anew_put_sorted_anew)]
+#[cycle(deletions)]
 fn put_deleted(s: &[u8], path: &[u8], way: Way, out: &mut [u8], at: usize, allowance: u32) -> usize
     requires { Cuts s.now path.now way allowance × (at ≤ 65536 * (64 - allowance)) }
     ensures { Stores result out.old out.new at (remains_of s.now (steps_from path.now way)) }

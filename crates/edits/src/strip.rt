@@ -37,7 +37,7 @@ pub enum Stripped {
 }
 
 // Stores an item, a container stripped and anything else as it is, and gives the length of its payload.
-#[cycle(put_item_stripped_put_items_stripped_put_member_stripped_put_members_stripped_put_rising_stripped_put_sorted_stripped_put_stripped)]
+#[cycle(stripping)]
 fn put_item_stripped(s: &[u8], item: ItemAt, out: &mut [u8], at: Cursor, allowance: u32) -> Stripped
     requires { (code_of item.jentry ≡ 5 → Strippable (bytes_at s.now item) allowance)
         × (at.jentry + 4 ≤ at.place) × (at.place ≤ 65536 * (64 - allowance)) }
@@ -58,7 +58,7 @@ fn put_item_stripped(s: &[u8], item: ItemAt, out: &mut [u8], at: Cursor, allowan
 }
 
 // Stores a member with its value stripped, and gives the length of the value.
-#[cycle(put_item_stripped_put_items_stripped_put_member_stripped_put_members_stripped_put_rising_stripped_put_sorted_stripped_put_stripped)]
+#[cycle(stripping)]
 fn put_member_stripped(
     s: &[u8],
     member: MemberAt,
@@ -83,7 +83,7 @@ fn put_member_stripped(
 }
 
 // Stores an array of n items, each stripped, and gives its length.
-#[cycle(put_item_stripped_put_items_stripped_put_member_stripped_put_members_stripped_put_rising_stripped_put_sorted_stripped_put_stripped)]
+#[cycle(stripping)]
 fn put_items_stripped(s: &[u8], n: usize, out: &mut [u8], at: usize, allowance: u32) -> Stripped
     requires { Strippable s.now allowance × (header s.now ≡ Header.Array n) × (at ≤ 65536 * (64 - allowance)) }
     ensures { Strips result (unrepeated_of s.now) (stripped_of s.now) out.new
@@ -114,7 +114,7 @@ fn put_items_stripped(s: &[u8], n: usize, out: &mut [u8], at: usize, allowance: 
 
 // Stores an object whose names do not rise: of the members that are kept, each is searched for in byte order. Where fewer names are
 // found than members are kept, one is repeated.
-#[cycle(put_item_stripped_put_items_stripped_put_member_stripped_put_members_stripped_put_rising_stripped_put_sorted_stripped_put_stripped)]
+#[cycle(stripping)]
 fn put_sorted_stripped(
     s: &[u8],
     ahead: Ahead,
@@ -154,7 +154,7 @@ fn put_sorted_stripped(
 }
 
 // Stores an object whose names rise: the members that are kept are stored as they stand, and no name of theirs is repeated.
-#[cycle(put_item_stripped_put_items_stripped_put_member_stripped_put_members_stripped_put_rising_stripped_put_sorted_stripped_put_stripped)]
+#[cycle(stripping)]
 fn put_rising_stripped(
     s: &[u8],
     ahead: Ahead,
@@ -187,7 +187,7 @@ fn put_rising_stripped(
 // Stores an object of n members without those whose value is null, the others stripped and in byte order of their names, and gives
 // its length. A slice that is handed on as it came is copied by one move of 16 bytes, which waits for the two stores of 8 bytes
 // before it; so here and in `put_stripped` slices are handed on as `&s[0..]`.
-#[cycle(put_item_stripped_put_items_stripped_put_member_stripped_put_members_stripped_put_rising_stripped_put_sorted_stripped_put_stripped)]
+#[cycle(stripping)]
 fn put_members_stripped(s: &[u8], n: usize, out: &mut [u8], at: usize, allowance: u32) -> Stripped
     requires { Strippable s.now allowance × (header s.now ≡ Header.Object n) × (at ≤ 65536 * (64 - allowance)) }
     ensures { Strips result (unrepeated_of s.now) (stripped_of s.now) out.new
@@ -202,7 +202,7 @@ fn put_members_stripped(s: &[u8], n: usize, out: &mut [u8], at: usize, allowance
 }
 
 // Stores a container stripped, and gives its length. What is no container is not met here.
-#[cycle(put_item_stripped_put_items_stripped_put_member_stripped_put_members_stripped_put_rising_stripped_put_sorted_stripped_put_stripped)]
+#[cycle(stripping)]
 fn put_stripped(s: &[u8], out: &mut [u8], at: usize, allowance: u32) -> Stripped
     requires { Strippable s.now allowance × (at ≤ 65536 * (64 - allowance)) }
     ensures { Strips result (unrepeated_of s.now) (stripped_of s.now) out.new

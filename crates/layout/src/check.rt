@@ -62,7 +62,7 @@ fn is_table(s: &[u8], n: usize, names: usize) -> bool
 }
 
 // Rules 5 and 6 for one item: its entry, and its payload.
-#[cycle(check_body_check_item_check_items_check_nested_check_parts)]
+#[cycle(checks)]
 fn check_item(entry: u32, payload: &[u8], allowance: u32) -> Check
     requires { length payload.now ≤ 65536 }
     ensures { result ≡ item_checked (nested allowance) entry payload.now }
@@ -130,7 +130,7 @@ fn names_end(s: &[u8], names: usize, start: usize) -> NamesEnd
 
 // Rules 5 and 6 for the items from entry `from` on, the first of them at `start`: each in turn, its entry and its payload, down to
 // its leaves. Which of the rules is broken first is not told: `refuse_payload` puts them in order.
-#[cycle(check_body_check_item_check_items_check_nested_check_parts)]
+#[cycle(checks)]
 fn check_items(s: &[u8], n: usize, from: usize, start: usize, allowance: u32) -> Check
     requires { (n ≤ 2 ^ 30) × (length s.now ≤ 65536) × (start ≤ length s.now) }
     ensures { result ≡ items_checked (nested allowance) s.now from start (n - from) }
@@ -158,7 +158,7 @@ fn check_items(s: &[u8], n: usize, from: usize, start: usize, allowance: u32) ->
 // Rules 5 and 6 for all items. Names whose bytes are all ASCII are UTF-8 each, and are passed over.
 // `&s[0..]`, here and below: a slice that is handed on as it came is copied whole by a 16-byte move, which waits for the two 8-byte
 // stores before it, some 5 ns each time.
-#[cycle(check_body_check_item_check_items_check_nested_check_parts)]
+#[cycle(checks)]
 fn check_parts(s: &[u8], n: usize, names: usize, start: usize, end: usize, allowance: u32) -> Check
     requires { (n ≤ 2 ^ 30) × (length s.now ≤ 65536) × (names ≤ n) × (names_end s.now 0 start names ≡ At end) }
     ensures { result ≡ items_checked (nested allowance) s.now 0 start n }
@@ -170,7 +170,7 @@ fn check_parts(s: &[u8], n: usize, names: usize, start: usize, end: usize, allow
 }
 
 // Rules 4 to 6 behind the depth, for a container of n entries, the first `names` of them names.
-#[cycle(check_body_check_item_check_items_check_nested_check_parts)]
+#[cycle(checks)]
 fn check_body(s: &[u8], n: usize, names: usize, allowance: u32) -> Check
     requires { (4 ≤ length s.now) × (length s.now ≤ 65536) × (n < 2 ^ 30) × (names ≤ n) }
     ensures { result ≡ checked (body (nested allowance) n names (drop 4 s.now)) }
@@ -189,7 +189,7 @@ fn check_body(s: &[u8], n: usize, names: usize, allowance: u32) -> Check
 }
 
 // A nested container, where `allowance` levels are left.
-#[cycle(check_body_check_item_check_items_check_nested_check_parts)]
+#[cycle(checks)]
 pub fn check_nested(s: &[u8], allowance: u32) -> Check
     requires { length s.now ≤ 65536 }
     ensures { result ≡ checked (nested allowance s.now) }

@@ -86,7 +86,7 @@ fn names_pass(question: Question, s: &[u8], n: usize, start: usize) -> bool
 }
 
 // What is asked of an item, and of what a container holds, down to `allowance` levels.
-#[cycle(part_passes_parts_pass_passes)]
+#[cycle(questions)]
 fn part_passes(question: Question, code: u32, payload: &[u8], allowance: u32) -> bool
     ensures { result ≡ every_part (ask_of question) (every_at (ask_of question) allowance) (kind_of code) payload.now }
 {
@@ -99,7 +99,7 @@ fn part_passes(question: Question, code: u32, payload: &[u8], allowance: u32) ->
 }
 
 // The same of n items, the payload of the first at `start`.
-#[cycle(part_passes_parts_pass_passes)]
+#[cycle(questions)]
 fn parts_pass(question: Question, s: &[u8], n: usize, start: usize, allowance: u32) -> bool
     requires { (n < 2 ^ 30) × (start < 2 ^ 33) }
     ensures { result ≡ every_parts (ask_of question) (every_at (ask_of question) allowance) (parts_at s.now 0 start n) }
@@ -121,7 +121,7 @@ fn parts_pass(question: Question, s: &[u8], n: usize, start: usize, allowance: u
 
 // The same of a record: where it is readable and nests at most `allowance` levels deep, whether everything in it passes. Of other
 // bytes it says true unless it meets something that does not, so that nothing may be taken from it without the check.
-#[cycle(part_passes_parts_pass_passes)]
+#[cycle(questions)]
 pub fn passes(question: Question, s: &[u8], allowance: u32) -> bool
     ensures { result ≡ every_at (ask_of question) allowance s.now }
 {

@@ -53,7 +53,7 @@ fn is_same_kind(code: u32, other: u32) -> bool
 
 // Whether two parts have equal values: they are of one kind, and their payloads are equal bytes or, in containers, equal values.
 // Containers are gone through down to `allowance` levels.
-#[cycle(are_same_items_are_same_members_count_like_is_like_is_same_item_is_same_nested)]
+#[cycle(likeness)]
 fn is_same_item(a: &[u8], part: PartAt, b: &[u8], other: PartAt, allowance: u32) -> bool
     requires { (part.index ≤ 2 ^ 30) × (other.index ≤ 2 ^ 30) }
     ensures { result ≡ same_part (same_at allowance) (part_in a.now part) (part_in b.now other) }
@@ -71,7 +71,7 @@ fn is_same_item(a: &[u8], part: PartAt, b: &[u8], other: PartAt, allowance: u32)
 }
 
 // Whether two records have equal items in turn: n of them, the payload of the first at `start` in both.
-#[cycle(are_same_items_are_same_members_count_like_is_like_is_same_item_is_same_nested)]
+#[cycle(likeness)]
 fn are_same_items(a: &[u8], b: &[u8], n: usize, start: usize, allowance: u32) -> bool
     requires { (n < 2 ^ 29) × (start < 2 ^ 33) }
     ensures { result ≡ same_parts (same_at allowance) (parts_at a.now 0 start n) (parts_at b.now 0 start n) }
@@ -119,7 +119,7 @@ fn next_member(s: &[u8], at: PairAt) -> PairAt
 }
 
 // Whether two members are alike: equal names, and equal values. Values are only looked at where the names are equal.
-#[cycle(are_same_items_are_same_members_count_like_is_like_is_same_item_is_same_nested)]
+#[cycle(likeness)]
 fn is_like(a: &[u8], member: PairAt, b: &[u8], other: PairAt, allowance: u32) -> bool
     requires { (member.key.index < 2 ^ 29) × Near member × (other.key.index < 2 ^ 29) × Near other }
     ensures { result ≡ like (same_at allowance) (member_at a.now member) (member_at b.now other) }
@@ -133,7 +133,7 @@ fn is_like(a: &[u8], member: PairAt, b: &[u8], other: PairAt, allowance: u32) ->
 
 // How many of the n members of `b`, from the one at `from` on, are like a member of `a`; `limit` where there are as many or more,
 // so that no more are looked for.
-#[cycle(are_same_items_are_same_members_count_like_is_like_is_same_item_is_same_nested)]
+#[cycle(likeness)]
 fn count_like(
     a: &[u8],
     member: PairAt,
@@ -162,7 +162,7 @@ fn count_like(
 // Whether two objects of n members have equal values: each member of the one has fewer like it behind it than there are in the
 // other. As the counts are equal, no member of the other is then left over. No member is compared with itself, which would double
 // the work at each level.
-#[cycle(are_same_items_are_same_members_count_like_is_like_is_same_item_is_same_nested)]
+#[cycle(likeness)]
 fn are_same_members(a: &[u8], b: &[u8], n: usize, allowance: u32) -> bool
     requires { n < 2 ^ 29 }
     ensures { result ≡ same_members (same_at allowance) (members a.now n) (members b.now n) }
@@ -183,7 +183,7 @@ fn are_same_members(a: &[u8], b: &[u8], n: usize, allowance: u32) -> bool
 
 // Whether two records have equal values, where the first is readable and nests at most `allowance` levels deep, and the other is
 // readable. Equal headers are of one sort and count.
-#[cycle(are_same_items_are_same_members_count_like_is_like_is_same_item_is_same_nested)]
+#[cycle(likeness)]
 pub(crate) fn is_same_nested(a: &[u8], b: &[u8], allowance: u32) -> bool
     ensures { result ≡ same_at allowance a.now b.now }
 {

@@ -53,7 +53,8 @@ pub overflow_cast-n : goal.overflow_cast-n
 overflow_cast-n c = omega (arith, bounds (goal.at.overflow_cast-n c).After-slice_known-1)
 
 pub put_members-requires : goal.put_members-requires
-put_members-requires c = record { count_bound = omega (arith, bounds (goal.at.put_members-requires c).After-slice_known-1); key_jentry_bound = omega (arith, bounds (goal.at.put_members-requires c).After-slice_known-1) }
+put_members-requires c =
+    record { count_bound = omega (arith, bounds (goal.at.put_members-requires c).After-slice_known-1); key_jentry_bound = omega (arith, bounds (goal.at.put_members-requires c).After-slice_known-1) }
 
 pub returns : goal.returns
 returns c =

@@ -41,7 +41,15 @@ pub overflow_cast-n : goal.overflow_cast-n
 overflow_cast-n c = omega (arith, known (goal.at.overflow_cast-n c).After-shared_slice_known-1)
 
 pub put_run-keys-requires : goal.put_run-keys-requires
-put_run-keys-requires c = omega (arith, known (goal.at.put_run-keys-requires c).After-shared_slice_known-1, c.requires, same_part c.first_part-first.ensures, same_part (nth_is _ _ _ _ _ c.first_part-first.ensures c.place_after.ensures))
+put_run-keys-requires c =
+    omega (
+      arith,
+      known (goal.at.put_run-keys-requires c).After-shared_slice_known-1,
+      c.requires,
+      same_part c.first_part-first.ensures,
+      same_part
+          (nth_is _ _ _ _ _ c.first_part-first.ensures c.place_after.ensures),
+    )
 
 pub part_behind-requires : goal.part_behind-requires
 part_behind-requires c = omega (arith, known (goal.at.part_behind-requires c).After-shared_slice_known-1, c.requires, same_part (nth_is _ _ _ _ _ c.first_part-first.ensures c.place_after.ensures))

@@ -25,7 +25,8 @@ an_object c = manner_search c.args.s.now _ _ (sym c.in-Unsorted.is ∙ c.manner_
 
 pub put_array_without-requires : goal.put_array_without-requires
 put_array_without-requires c =
-    let r = array_led c.args.s.now _ c.args.part c.requires.2.0 (octets (goal.at.put_array_without-requires c).After-manner_of) c.requires.0 c.requires.1 (an_array (goal.at.put_array_without-requires c).In-Items) c.requires.2.1 in
+    let r = array_led c.args.s.now _ c.args.part c.requires.2.0 (octets (goal.at.put_array_without-requires c).After-manner_of) c.requires.0 c.requires.1
+    (an_array (goal.at.put_array_without-requires c).In-Items) c.requires.2.1 in
     (r.0.table, r.0.inside, c.requires.3)
 
 pub put_object_without-requires : goal.put_object_without-requires

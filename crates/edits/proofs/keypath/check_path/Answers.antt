@@ -9,13 +9,19 @@ pub returns-in-Refused : goal.returns-in-Refused
 returns-in-Refused c = count_unreadable c.args.path.now _ c.check_record.ensures _ c.in-Refused.is
 
 pub returns-in_default-read_header : goal.returns-in_default-read_header
-returns-in_default-read_header c = count_no_array c.args.path.now _ c.check_record.ensures (octets_of c.args.path.now (λ i. omega (arith, c.type_inv.path i))) c.in_default.is _ c.read_header.ensures c.in_default-read_header.not-Array
+returns-in_default-read_header c =
+    count_no_array c.args.path.now _ c.check_record.ensures (octets_of c.args.path.now (λ i. omega (arith, c.type_inv.path i))) c.in_default.is _
+    c.read_header.ensures c.in_default-read_header.not-Array
 
 pub are_steps-requires : goal.are_steps-requires
 are_steps-requires c = (told_array _ _ c.read_header.ensures _ c.in-Array.is).1
 
 pub returns-then-are_steps : goal.returns-then-are_steps
-returns-then-are_steps c = count_steps c.args.path.now _ c.check_record.ensures (octets_of c.args.path.now (λ i. omega (arith, c.type_inv.path i))) c.in_default.is _ c.read_header.ensures _ c.in-Array.is _ c.are_steps.ensures c.if-are_steps.true
+returns-then-are_steps c =
+    count_steps c.args.path.now _ c.check_record.ensures (octets_of c.args.path.now (λ i. omega (arith, c.type_inv.path i))) c.in_default.is _
+    c.read_header.ensures _ c.in-Array.is _ c.are_steps.ensures c.if-are_steps.true
 
 pub returns : goal.returns
-returns c = count_no_steps c.args.path.now _ c.check_record.ensures (octets_of c.args.path.now (λ i. omega (arith, c.type_inv.path i))) c.in_default.is _ c.read_header.ensures _ c.in-Array.is _ c.are_steps.ensures c.if-are_steps.false
+returns c =
+    count_no_steps c.args.path.now _ c.check_record.ensures (octets_of c.args.path.now (λ i. omega (arith, c.type_inv.path i))) c.in_default.is _
+    c.read_header.ensures _ c.in-Array.is _ c.are_steps.ensures c.if-are_steps.false

@@ -27,11 +27,14 @@ overflow_cast-v-then-v-lt0 c = turned_cast (local (goal.at.overflow_cast-v-then-
 pub returns-then-v-lt0 : goal.returns-then-v-lt0
 returns-then-v-lt0 c =
     let all = text_negative (local (goal.at.returns-then-v-lt0 c).Start) c.args.i _ _ _ _ (local_is (goal.at.returns-then-v-lt0 c).Start) _ c.if-v-lt0.true
-    (turned_is (local (goal.at.returns-then-v-lt0 c).Start) _ (local_is (goal.at.returns-then-v-lt0 c).Start) c.ranges.i c.if-v-lt0.true) c.put.ensures (c.put_decimal.ensures.is, c.put_decimal.ensures.kept) in
+    (turned_is (local (goal.at.returns-then-v-lt0 c).Start) _ (local_is (goal.at.returns-then-v-lt0 c).Start) c.ranges.i c.if-v-lt0.true) c.put.ensures
+    (c.put_decimal.ensures.is, c.put_decimal.ensures.kept) in
     record { is = all.0; kept = all.1 }
 
 pub overflow_cast-v-2 : goal.overflow_cast-v-2
 overflow_cast-v-2 c = index_cast (local (goal.at.overflow_cast-v-2 c).Start) _ (local_is (goal.at.overflow_cast-v-2 c).Start) c.ranges.i c.if-v-lt0.false
 
 pub returns : goal.returns
-returns c = let all = text_positive (local (goal.at.returns c).Start) c.args.i _ _ _ _ (local_is (goal.at.returns c).Start) c.if-v-lt0.false refl (c.put_decimal-2.ensures.is, c.put_decimal-2.ensures.kept) in record { is = all.0; kept = all.1 }
+returns c =
+    let all = text_positive (local (goal.at.returns c).Start) c.args.i _ _ _ _ (local_is (goal.at.returns c).Start) c.if-v-lt0.false refl
+    (c.put_decimal-2.ensures.is, c.put_decimal-2.ensures.kept) in record { is = all.0; kept = all.1 }

@@ -76,7 +76,8 @@ loop-i-preserved c =
         goes_left c.args.left.now c.args.m c.args.right.now c.args.n c.args.out.now c.args.to
             c.loop-i.out c.loop-i.l c.loop-i.r c.loop-i.at c.loop-i.i c.loop-i.invariant.2
             _ c.turn_of.ensures _ _ _ _ _ _ _ w.out-is w.at-is _ _ _
-            w.in-Left.is w.payload_at-name.ensures (w.put_member-at.ensures.is, w.put_member-at.ensures.kept) (record { stands = w.next_in_order-l-in-Left.ensures.stands; searched = w.next_in_order-l-in-Left.ensures.searched }) w.l-is w.r-is,
+            w.in-Left.is w.payload_at-name.ensures (w.put_member-at.ensures.is, w.put_member-at.ensures.kept)
+            (record { stands = w.next_in_order-l-in-Left.ensures.stands; searched = w.next_in_order-l-in-Left.ensures.searched }) w.l-is w.r-is,
       )
       | in-Right w ↦ (
         omega arith,
@@ -84,7 +85,8 @@ loop-i-preserved c =
         goes_right c.args.left.now c.args.m c.args.right.now c.args.n c.args.out.now c.args.to
             c.loop-i.out c.loop-i.l c.loop-i.r c.loop-i.at c.loop-i.i c.loop-i.invariant.2
             _ c.turn_of.ensures _ _ _ _ _ _ _ w.out-is w.at-is _ _ _
-            w.in-Right.is w.payload_at-name-in-Right.ensures (w.put_member-at-in-Right.ensures.is, w.put_member-at-in-Right.ensures.kept) (record { stands = w.next_in_order-r-in-Right.ensures.stands; searched = w.next_in_order-r-in-Right.ensures.searched }) w.l-is w.r-is,
+            w.in-Right.is w.payload_at-name-in-Right.ensures (w.put_member-at-in-Right.ensures.is, w.put_member-at-in-Right.ensures.kept)
+            (record { stands = w.next_in_order-r-in-Right.ensures.stands; searched = w.next_in_order-r-in-Right.ensures.searched }) w.l-is w.r-is,
       )
       | in-Both w ↦ (
         omega arith,
@@ -92,7 +94,9 @@ loop-i-preserved c =
         goes_both c.args.left.now c.args.m c.args.right.now c.args.n c.args.out.now c.args.to
             c.loop-i.out c.loop-i.l c.loop-i.r c.loop-i.at c.loop-i.i c.loop-i.invariant.2
             _ c.turn_of.ensures _ _ _ _ _ _ _ w.out-is w.at-is _ _ _ _ _
-            w.in-Both.is w.payload_at-name-in-Both.ensures (w.put_member-at-in-Both.ensures.is, w.put_member-at-in-Both.ensures.kept) (record { stands = w.next_in_order-l-in-Both.ensures.stands; searched = w.next_in_order-l-in-Both.ensures.searched }) (record { stands = w.next_in_order-r-in-Both.ensures.stands; searched = w.next_in_order-r-in-Both.ensures.searched }) w.l-is w.r-is,
+            w.in-Both.is w.payload_at-name-in-Both.ensures (w.put_member-at-in-Both.ensures.is, w.put_member-at-in-Both.ensures.kept)
+            (record { stands = w.next_in_order-l-in-Both.ensures.stands; searched = w.next_in_order-l-in-Both.ensures.searched })
+            (record { stands = w.next_in_order-r-in-Both.ensures.stands; searched = w.next_in_order-r-in-Both.ensures.searched }) w.l-is w.r-is,
       )
     ]
 

@@ -55,7 +55,13 @@ pub members_of-r-requires : goal.members_of-r-requires
 members_of-r-requires c = omega (arith, few (goal.at.members_of-r-requires c).After-shared_slice_known-2-1)
 
 pub loop-i-init : goal.loop-i-init
-loop-i-init c = (few (goal.at.loop-i-init c).After-shared_slice_known-2-1, walking_starts _ _ _ _ _ _ (objects (goal.at.loop-i-init c).After-shared_slice_known-2-1) c.requires.1 c.requires.2 _ _ c.members_of-l.ensures c.members_of-r.ensures, c.members_of-l.ensures ∙ object_start _ _, c.members_of-r.ensures ∙ object_start _ _)
+loop-i-init c = (
+  few (goal.at.loop-i-init c).After-shared_slice_known-2-1,
+  walking_starts _ _ _ _ _ _ (objects (goal.at.loop-i-init c).After-shared_slice_known-2-1)
+      c.requires.1 c.requires.2 _ _ c.members_of-l.ensures c.members_of-r.ensures,
+  c.members_of-l.ensures ∙ object_start _ _,
+  c.members_of-r.ensures ∙ object_start _ _,
+)
 
 -- The left name is less.
 pub put_member-at-requires : goal.put_member-at-requires

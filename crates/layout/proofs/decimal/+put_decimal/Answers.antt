@@ -16,4 +16,5 @@ pub overflow_add-result-2 : goal.overflow_add-result-2
 overflow_add-result-2 t c = omega (arith, c.put_decimal-end.ensures.is.0, c.put_decimal-end.ensures.is.1)
 
 pub returns : goal.returns
-returns t c = let all = digits_more _ _ _ _ c.if-most-eq0.false _ _ _ c.if-v-lt10.false (c.put_decimal-end.ensures.is, c.put_decimal-end.ensures.kept) c.put-2.ensures in record { is = all.0; kept = all.1 }
+returns t c =
+    let all = digits_more _ _ _ _ c.if-most-eq0.false _ _ _ c.if-v-lt10.false (c.put_decimal-end.ensures.is, c.put_decimal-end.ensures.kept) c.put-2.ensures in record { is = all.0; kept = all.1 }

@@ -43,11 +43,13 @@ returns-in-Refused-check_record c =
 
 pub returns-then-is_same_bytes : goal.returns-then-is_same_bytes
 returns-then-is_same_bytes c =
-    graded_right (candidate (goal.at.returns-then-is_same_bytes c).In_default-check_record) (expected (goal.at.returns-then-is_same_bytes c).In_default) _ c.is_same_bytes.ensures c.if-is_same_bytes.true
+    graded_right (candidate (goal.at.returns-then-is_same_bytes c).In_default-check_record) (expected (goal.at.returns-then-is_same_bytes c).In_default)
+    _ c.is_same_bytes.ensures c.if-is_same_bytes.true
 
 pub returns-then-is_sound_where_readable : goal.returns-then-is_sound_where_readable
 returns-then-is_sound_where_readable c =
-    graded_sound (unequal (goal.at.returns-then-is_sound_where_readable c).Else-is_same_bytes) _ _ c.is_sound_where_readable.ensures c.is_sound_where_readable-2.ensures c.if-is_sound_where_readable.true
+    graded_sound (unequal (goal.at.returns-then-is_sound_where_readable c).Else-is_same_bytes) _ _ c.is_sound_where_readable.ensures
+    c.is_sound_where_readable-2.ensures c.if-is_sound_where_readable.true
 
 pub returns-then-is_same_nested : goal.returns-then-is_same_nested
 returns-then-is_same_nested c =

@@ -25,8 +25,14 @@ use Rattle.edits.proofs.Anews.{RunsAnew, Behind, here, down, child_cuts, child_s
 use Rattle.edits.proofs.Reweaves.{is_named, Named, value_cuts, value_short, named_stored, other_stored, stored_length}
 use Rattle.edits.proofs.SortedAnews.{SortedAnew, Measured, at_value, allows, anew_room, anew_count, anew_cuts}
 use Rattle.edits.proofs.SortedAnews.{value_anew_short, anew_remains}
-use Rattle.edits.proofs.delete.+put_deleted_put_member_anew_put_part_anew_put_sorted_anew.Goals.{put_deleted-After-find_step, put_deleted-After-shared_slice_known-1, put_deleted-After-slice_known-in-Items-1, put_deleted-After-slice_known-in-Rising-1, put_deleted-After-slice_known-in-Unsorted-1, put_deleted-After-slice_known-then-way-1, put_deleted-Else-way, put_deleted-In-At, put_member_anew-After-payload_at, put_member_anew-After-places_past, put_member_anew-After-slice_known-2-1, put_part_anew-After-put_deleted-len, put_part_anew-After-put_run-arg-2-1, put_part_anew-After-put_run-here, put_part_anew-After-shared_slice_known-1, put_part_anew-After-struct_known-4-1, put_part_anew-After-way_behind, put_sorted_anew-After-measure_members-sizes, put_sorted_anew-After-shared_slice_known-1, put_sorted_anew-After-struct_known-3-1, put_sorted_anew-After-struct_known-in_default-1}
-use Rattle.edits.proofs.delete.+put_deleted_put_member_anew_put_part_anew_put_sorted_anew.Goals as goal
+use Rattle.edits.proofs.delete.+deletions.Goals.{put_deleted-After-find_step, put_deleted-After-shared_slice_known-1, put_deleted-After-slice_known-in-Items-1}
+use Rattle.edits.proofs.delete.+deletions.Goals.{put_deleted-After-slice_known-in-Rising-1, put_deleted-After-slice_known-in-Unsorted-1, put_deleted-After-slice_known-then-way-1}
+use Rattle.edits.proofs.delete.+deletions.Goals.{put_deleted-Else-way, put_deleted-In-At, put_member_anew-After-payload_at, put_member_anew-After-places_past}
+use Rattle.edits.proofs.delete.+deletions.Goals.{put_member_anew-After-slice_known-2-1, put_part_anew-After-put_deleted-len, put_part_anew-After-put_run-arg-2-1}
+use Rattle.edits.proofs.delete.+deletions.Goals.{put_part_anew-After-put_run-here, put_part_anew-After-shared_slice_known-1, put_part_anew-After-struct_known-4-1}
+use Rattle.edits.proofs.delete.+deletions.Goals.{put_part_anew-After-way_behind, put_sorted_anew-After-measure_members-sizes, put_sorted_anew-After-shared_slice_known-1}
+use Rattle.edits.proofs.delete.+deletions.Goals.{put_sorted_anew-After-struct_known-3-1, put_sorted_anew-After-struct_known-in_default-1}
+use Rattle.edits.proofs.delete.+deletions.Goals as goal
 
 deleted_octets : (t : ℕ) (c : put_deleted-After-shared_slice_known-1 t) → Octets c.args.s.now
 deleted_octets t c = octets_of c.args.s.now (λ i. omega (arith, c.type_inv.s i))
@@ -67,7 +73,9 @@ pub put_deleted-jentry_at-jentry-requires : goal.put_deleted-jentry_at-jentry-re
 put_deleted-jentry_at-jentry-requires t c = omega (arith, c.requires.0)
 
 pub put_deleted-returns-in_default : goal.put_deleted-returns-in_default
-put_deleted-returns-in_default t c = leads_nowhere (deleted_octets t (goal.at.put_deleted-returns-in_default t c).After-shared_slice_known-1) c.requires.0 (sym (spot_is t (goal.at.put_deleted-returns-in_default t c).After-find_step) ∙ c.in_default.is)
+put_deleted-returns-in_default t c =
+    leads_nowhere (deleted_octets t (goal.at.put_deleted-returns-in_default t c).After-shared_slice_known-1) c.requires.0
+    (sym (spot_is t (goal.at.put_deleted-returns-in_default t c).After-find_step) ∙ c.in_default.is)
 
 pub put_deleted-overflow_add-way : goal.put_deleted-overflow_add-way
 put_deleted-overflow_add-way t c = omega (arith, c.requires.0)
@@ -163,7 +171,10 @@ named t c =
     }
 
 pub put_member_anew-put_deleted-len-requires : goal.put_member_anew-put_deleted-len-requires
-put_member_anew-put_deleted-len-requires t c = (omega (arith, c.decreases), (value_cuts (named t (goal.at.put_member_anew-put_deleted-len-requires t c).After-payload_at), (named t (goal.at.put_member_anew-put_deleted-len-requires t c).After-payload_at).near))
+put_member_anew-put_deleted-len-requires t c = (
+  omega (arith, c.decreases),
+  (value_cuts (named t (goal.at.put_member_anew-put_deleted-len-requires t c).After-payload_at), (named t (goal.at.put_member_anew-put_deleted-len-requires t c).After-payload_at).near),
+)
 
 pub put_member_anew-overflow_cast-len : goal.put_member_anew-overflow_cast-len
 put_member_anew-overflow_cast-len t c = omega (arith, value_short (named t (goal.at.put_member_anew-overflow_cast-len t c).After-payload_at) c.put_deleted-len.ensures)
@@ -188,7 +199,8 @@ put_member_anew-returns-then-is_same_bytes t c =
     record { is = all.0; kept = all.1 }
 
 pub put_member_anew-shape_of-out-then-is_same_bytes : goal.put_member_anew-shape_of-out-then-is_same_bytes
-put_member_anew-shape_of-out-then-is_same_bytes t c = stored_length _ _ _ _ _ _ _ _ _ _ (put_member_anew-returns-then-is_same_bytes t (goal.at.put_member_anew-shape_of-out-then-is_same_bytes t c).After-places_past).kept
+put_member_anew-shape_of-out-then-is_same_bytes t c =
+    stored_length _ _ _ _ _ _ _ _ _ _ (put_member_anew-returns-then-is_same_bytes t (goal.at.put_member_anew-shape_of-out-then-is_same_bytes t c).After-places_past).kept
 
 -- Where it has another name.
 pub put_member_anew-put_member-requires : goal.put_member_anew-put_member-requires
@@ -287,18 +299,35 @@ put_part_anew-put_deleted-len-requires t c =
       omega (arith, allowed, c.decreases),
       (
         child_cuts (runs_anew t (goal.at.put_part_anew-put_deleted-len-requires t c).After-shared_slice_known-1) (behind_part t (goal.at.put_part_anew-put_deleted-len-requires t c).After-way_behind),
-        omega (arith, allowed, known t (goal.at.put_part_anew-put_deleted-len-requires t c).After-shared_slice_known-1, c.requires, part_run t (goal.at.put_part_anew-put_deleted-len-requires t c).After-put_run-here),
+        omega (
+          arith,
+          allowed,
+          known t (goal.at.put_part_anew-put_deleted-len-requires t c).After-shared_slice_known-1,
+          c.requires,
+          part_run t
+              (goal.at.put_part_anew-put_deleted-len-requires t c).After-put_run-here,
+        ),
       ),
     )
 
 pub put_part_anew-overflow_cast-len : goal.put_part_anew-overflow_cast-len
-put_part_anew-overflow_cast-len t c = omega (arith, stored_short t (goal.at.put_part_anew-overflow_cast-len t c).After-put_deleted-len, known t (goal.at.put_part_anew-overflow_cast-len t c).After-shared_slice_known-1)
+put_part_anew-overflow_cast-len t c =
+    omega (arith, stored_short t (goal.at.put_part_anew-overflow_cast-len t c).After-put_deleted-len, known t (goal.at.put_part_anew-overflow_cast-len t c).After-shared_slice_known-1)
 
 pub put_part_anew-overflow_add-behind : goal.put_part_anew-overflow_add-behind
-put_part_anew-overflow_add-behind t c = omega (arith, known t (goal.at.put_part_anew-overflow_add-behind t c).After-shared_slice_known-1, c.requires, part_run t (goal.at.put_part_anew-overflow_add-behind t c).After-put_run-here)
+put_part_anew-overflow_add-behind t c =
+    omega (arith, known t (goal.at.put_part_anew-overflow_add-behind t c).After-shared_slice_known-1, c.requires, part_run t (goal.at.put_part_anew-overflow_add-behind t c).After-put_run-here)
 
 pub put_part_anew-overflow_add-behind-2 : goal.put_part_anew-overflow_add-behind-2
-put_part_anew-overflow_add-behind-2 t c = omega (arith, known t (goal.at.put_part_anew-overflow_add-behind-2 t c).After-shared_slice_known-1, c.requires, part_run t (goal.at.put_part_anew-overflow_add-behind-2 t c).After-put_run-here, stored_short t (goal.at.put_part_anew-overflow_add-behind-2 t c).After-put_deleted-len)
+put_part_anew-overflow_add-behind-2 t c =
+    omega (
+      arith,
+      known t (goal.at.put_part_anew-overflow_add-behind-2 t c).After-shared_slice_known-1,
+      c.requires,
+      part_run t
+          (goal.at.put_part_anew-overflow_add-behind-2 t c).After-put_run-here,
+      stored_short t (goal.at.put_part_anew-overflow_add-behind-2 t c).After-put_deleted-len,
+    )
 
 pub put_part_anew-put_run-end-requires : goal.put_part_anew-put_run-end-requires
 put_part_anew-put_run-end-requires t c =
@@ -372,13 +401,20 @@ pub put_sorted_anew-way_behind-next-requires : goal.put_sorted_anew-way_behind-n
 put_sorted_anew-way_behind-next-requires t c = omega (arith, c.requires.0)
 
 pub put_sorted_anew-measure_members-sizes-requires : goal.put_sorted_anew-measure_members-sizes-requires
-put_sorted_anew-measure_members-sizes-requires t c = omega (arith, at_value (sorted_anew t (goal.at.put_sorted_anew-measure_members-sizes-requires t c).After-shared_slice_known-1), same_places c.members_of-from.ensures)
+put_sorted_anew-measure_members-sizes-requires t c =
+    omega (arith, at_value (sorted_anew t (goal.at.put_sorted_anew-measure_members-sizes-requires t c).After-shared_slice_known-1), same_places c.members_of-from.ensures)
 
 pub put_sorted_anew-places_for-to-requires : goal.put_sorted_anew-places_for-to-requires
-put_sorted_anew-places_for-to-requires t c = omega (arith, anew_room (sorted_anew t (goal.at.put_sorted_anew-places_for-to-requires t c).After-shared_slice_known-1) (measured t c), c.requires.3, c.requires.0.allowed)
+put_sorted_anew-places_for-to-requires t c =
+    omega (arith, anew_room (sorted_anew t (goal.at.put_sorted_anew-places_for-to-requires t c).After-shared_slice_known-1) (measured t c), c.requires.3, c.requires.0.allowed)
 
 pub put_sorted_anew-overflow_cast-sizes : goal.put_sorted_anew-overflow_cast-sizes
-put_sorted_anew-overflow_cast-sizes t c = omega (arith, anew_room (sorted_anew t (goal.at.put_sorted_anew-overflow_cast-sizes t c).After-shared_slice_known-1) (measured t (goal.at.put_sorted_anew-overflow_cast-sizes t c).After-measure_members-sizes))
+put_sorted_anew-overflow_cast-sizes t c =
+    omega (
+      arith,
+      anew_room (sorted_anew t (goal.at.put_sorted_anew-overflow_cast-sizes t c).After-shared_slice_known-1)
+          (measured t (goal.at.put_sorted_anew-overflow_cast-sizes t c).After-measure_members-sizes),
+    )
 
 pub put_sorted_anew-loop-i-init : goal.put_sorted_anew-loop-i-init
 put_sorted_anew-loop-i-init t c = begins _ _ _ _ _ _ _
@@ -435,7 +471,8 @@ put_sorted_anew-loop-i-preserved t c =
     (c.put_member_anew-to.ensures.is, c.put_member_anew-to.ensures.kept)
     c.payload_at-last.ensures
     (bytes_short c.args.s.now c.in-At.member.key)
-    (value_anew_short (sorted_anew t (goal.at.put_sorted_anew-loop-i-preserved t c).After-shared_slice_known-1) (measured t (goal.at.put_sorted_anew-loop-i-preserved t c).After-measure_members-sizes) _ nth)
+    (value_anew_short (sorted_anew t (goal.at.put_sorted_anew-loop-i-preserved t c).After-shared_slice_known-1)
+    (measured t (goal.at.put_sorted_anew-loop-i-preserved t c).After-measure_members-sizes) _ nth)
 
 pub put_sorted_anew-overflow_sub-result-2 : goal.put_sorted_anew-overflow_sub-result-2
 put_sorted_anew-overflow_sub-result-2 t c = omega (arith, c.loop-i.invariant.val_on, same_places c.places_for-to.ensures)

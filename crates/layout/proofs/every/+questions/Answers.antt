@@ -9,8 +9,8 @@ use Rattle.layout.proofs.Checks.{told_array, told_object}
 use Rattle.layout.proofs.Asks.{every_number, every_container, every_extension, every_other, every_stop, every_more, every_end}
 use Rattle.layout.proofs.Asks.{every_none, every_refused, every_scalar, every_array, every_object, every_misnamed}
 use Rattle.layout.proofs.Carries.{carried_start, carried_on}
-use Rattle.layout.proofs.every.+part_passes_parts_pass_passes.Goals.{passes-In-Array, passes-In-Object}
-use Rattle.layout.proofs.every.+part_passes_parts_pass_passes.Goals as goal
+use Rattle.layout.proofs.every.+questions.Goals.{passes-In-Array, passes-In-Object}
+use Rattle.layout.proofs.every.+questions.Goals as goal
 
 pub part_passes-returns-in-2 : goal.part_passes-returns-in-2
 part_passes-returns-in-2 t c = every_number _ _ _ _ _ c.in-2.is c.number_passes.ensures
@@ -22,7 +22,8 @@ pub part_passes-returns-in-6 : goal.part_passes-returns-in-6
 part_passes-returns-in-6 t c = every_extension _ _ _ _ _ c.in-6.is c.extension_passes.ensures
 
 pub part_passes-returns-in_default : goal.part_passes-returns-in_default
-part_passes-returns-in_default t c = every_other _ _ _ _ c.in_default.in_default-own.rest.0.1 (λ q. absurd (c.in_default.in_default-own.rest.0.0.1 q)) (λ q. absurd (c.in_default.in_default-own.rest.1 q))
+part_passes-returns-in_default t c =
+    every_other _ _ _ _ c.in_default.in_default-own.rest.0.1 (λ q. absurd (c.in_default.in_default-own.rest.0.0.1 q)) (λ q. absurd (c.in_default.in_default-own.rest.1 q))
 
 pub parts_pass-loop-i-init : goal.parts_pass-loop-i-init
 parts_pass-loop-i-init t c = (omega arith, rw sub-zero, carried_start _ _ _)

@@ -5,7 +5,7 @@ use Rattle.layout.specs.Parts.{nth_part}
 use Rattle.edits.proofs.StripItems.{ArrayAt, Storing}
 use Rattle.edits.proofs.StripMembers.{StoringMembers}
 use Rattle.edits.proofs.StripRising.{StoringRising}
-use Rattle.edits.proofs.strip.+put_item_stripped_put_items_stripped_put_member_stripped_put_members_stripped_put_rising_stripped_put_sorted_stripped_put_stripped.Given as goal
+use Rattle.edits.proofs.strip.+stripping.Given as goal
 
 abbrev pub decreases-put_item_stripped : goal.decreases-put_item_stripped
 decreases-put_item_stripped l = 5 * l.allowance + 4

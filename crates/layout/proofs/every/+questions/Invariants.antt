@@ -6,7 +6,7 @@ use mathlib.Core.Path.{◌≡◌}
 use Rattle.layout.specs.Place.{parts_at}
 use Rattle.layout.specs.Table.{Carried}
 use Rattle.layout.specs.EveryAt.{ask_of, every_parts, every_at}
-use Rattle.layout.proofs.every.+part_passes_parts_pass_passes.Given as goal
+use Rattle.layout.proofs.every.+questions.Given as goal
 
 abbrev pub decreases-part_passes : goal.decreases-part_passes
 decreases-part_passes l = 3 * l.allowance + 1

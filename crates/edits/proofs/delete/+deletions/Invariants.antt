@@ -6,7 +6,7 @@ use Rattle.builders.specs.declared.search.Kept.TheVariants.{All}
 use Rattle.builders.proofs.Storing.{Stored}
 use Rattle.edits.specs.Way.{steps_from}
 use Rattle.edits.specs.Cut.{anew_value, anew_entry}
-use Rattle.edits.proofs.delete.+put_deleted_put_member_anew_put_part_anew_put_sorted_anew.Given as goal
+use Rattle.edits.proofs.delete.+deletions.Given as goal
 
 abbrev pub decreases-put_deleted : goal.decreases-put_deleted
 decreases-put_deleted l = 4 * l.allowance + 2

@@ -11,7 +11,7 @@ use Rattle.layout.proofs.Checks.{item_top, item_text, item_no_text, item_number,
 use Rattle.layout.proofs.Checks.{body_short, told_array, told_object, nested_refused, nested_scalar, deep_array, deep_object, nested_array, nested_object}
 use Rattle.layout.proofs.Passes.{pass_long, pass_stop, pass_more, pass_end, pass_short, names_within, parts_behind, parts_all, body_no_names, body_passed, body_refused}
 use Rattle.layout.proofs.Carries.{carried_start, carried_on}
-use Rattle.layout.proofs.check.+check_body_check_item_check_items_check_nested_check_parts.Goals as goal
+use Rattle.layout.proofs.check.+checks.Goals as goal
 
 pub check_body-returns-then-s-start : goal.check_body-returns-then-s-start
 check_body-returns-then-s-start t c = body_short (nested c.args.allowance) c.args.s.now _ _ c.requires.0 c.if-s-start.true

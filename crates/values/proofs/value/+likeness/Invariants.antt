@@ -3,7 +3,7 @@
 use Prim.Native.Nat.{◌+◌, ◌*◌, ◌-◌}
 use Rattle.values.specs.Alike.{member_at, members_from, likes, same_at}
 use Rattle.values.proofs.Turns.{ItemsLeft, Counting, MembersLeft}
-use Rattle.values.proofs.value.+are_same_items_are_same_members_count_like_is_like_is_same_item_is_same_nested.Given as goal
+use Rattle.values.proofs.value.+likeness.Given as goal
 
 -- Items in turn.
 abbrev pub invariant-are_same_items-loop-part : goal.invariant-are_same_items-loop-part

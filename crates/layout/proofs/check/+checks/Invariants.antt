@@ -7,7 +7,7 @@ use lib.ListN.{length}
 use Rattle.layout.specs.Read.{nested}
 use Rattle.layout.specs.Pass.{items_checked}
 use Rattle.layout.specs.Table.{Carried}
-use Rattle.layout.proofs.check.+check_body_check_item_check_items_check_nested_check_parts.Given as goal
+use Rattle.layout.proofs.check.+checks.Given as goal
 
 abbrev pub decreases-check_body : goal.decreases-check_body
 decreases-check_body l = 5 * l.allowance + 4

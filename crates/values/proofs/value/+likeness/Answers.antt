@@ -12,15 +12,15 @@ use Rattle.values.proofs.Turns.{bit_most, count_start, count_full, count_more, c
 use Rattle.values.proofs.Turns.{MembersTurn, members_start, members_stop, members_more, members_end}
 use Rattle.values.proofs.Turns.{Headed, headed_by, same_none, same_unlike, same_refused, same_scalar, same_array, same_object}
 use Rattle.std.proofs.Common.{ap, not}
-use Rattle.values.proofs.value.+are_same_items_are_same_members_count_like_is_like_is_same_item_is_same_nested.Goals.{are_same_items-In-loop-part}
-use Rattle.values.proofs.value.+are_same_items_are_same_members_count_like_is_like_is_same_item_is_same_nested.Goals.{are_same_members-After-count_like-found}
-use Rattle.values.proofs.value.+are_same_items_are_same_members_count_like_is_like_is_same_item_is_same_nested.Goals.{are_same_members-After-first_member-start}
-use Rattle.values.proofs.value.+are_same_items_are_same_members_count_like_is_like_is_same_item_is_same_nested.Goals.{are_same_members-After-next_member-behind}
-use Rattle.values.proofs.value.+are_same_items_are_same_members_count_like_is_like_is_same_item_is_same_nested.Goals.{is_same_item-After-is_same_kind}
-use Rattle.values.proofs.value.+are_same_items_are_same_members_count_like_is_like_is_same_item_is_same_nested.Goals.{is_same_nested-After-read_header}
-use Rattle.values.proofs.value.+are_same_items_are_same_members_count_like_is_like_is_same_item_is_same_nested.Goals.{is_same_nested-In-Array}
-use Rattle.values.proofs.value.+are_same_items_are_same_members_count_like_is_like_is_same_item_is_same_nested.Goals.{is_same_nested-In-Object}
-use Rattle.values.proofs.value.+are_same_items_are_same_members_count_like_is_like_is_same_item_is_same_nested.Goals as goal
+use Rattle.values.proofs.value.+likeness.Goals.{are_same_items-In-loop-part}
+use Rattle.values.proofs.value.+likeness.Goals.{are_same_members-After-count_like-found}
+use Rattle.values.proofs.value.+likeness.Goals.{are_same_members-After-first_member-start}
+use Rattle.values.proofs.value.+likeness.Goals.{are_same_members-After-next_member-behind}
+use Rattle.values.proofs.value.+likeness.Goals.{is_same_item-After-is_same_kind}
+use Rattle.values.proofs.value.+likeness.Goals.{is_same_nested-After-read_header}
+use Rattle.values.proofs.value.+likeness.Goals.{is_same_nested-In-Array}
+use Rattle.values.proofs.value.+likeness.Goals.{is_same_nested-In-Object}
+use Rattle.values.proofs.value.+likeness.Goals as goal
 
 -- The numbers of both items are below the count, and their places are near.
 items_near : (t : ℕ) (c : are_same_items-In-loop-part t) → (c.loop-part.part.index < 2 ^ 29)

@@ -25,8 +25,12 @@ use Rattle.edits.proofs.StripMembers.{sizes_measured, sizes_fit, setting_of, all
 use Rattle.edits.proofs.StripMembers.{members_starts, members_room, members_few, members_asks}
 use Rattle.edits.proofs.StripMembers.{members_repeats, past_room, members_on, members_ends}
 use Rattle.edits.proofs.StripRising.{rising_starts, RisingNext, rising_found, rising_asks, rising_on, rising_passed, rising_ends}
-use Rattle.edits.proofs.strip.+put_item_stripped_put_items_stripped_put_member_stripped_put_members_stripped_put_rising_stripped_put_sorted_stripped_put_stripped.Goals.{put_item_stripped-Then-type_code-eq-CONTAINER_CODE, put_items_stripped-After-jentry_at, put_items_stripped-After-shared_slice_known-1, put_items_stripped-After-struct_known-2-1, put_members_stripped-After-measure_ahead-sizes, put_members_stripped-After-shared_slice_known-1, put_rising_stripped-After-is_kept, put_rising_stripped-After-shared_slice_known-1, put_rising_stripped-After-struct_known-2-1, put_rising_stripped-Then-is_kept, put_sorted_stripped-After-shared_slice_known-1, put_sorted_stripped-At-loop-i, put_sorted_stripped-In-At, put_stripped-After-read_header}
-use Rattle.edits.proofs.strip.+put_item_stripped_put_items_stripped_put_member_stripped_put_members_stripped_put_rising_stripped_put_sorted_stripped_put_stripped.Goals as goal
+use Rattle.edits.proofs.strip.+stripping.Goals.{put_item_stripped-Then-type_code-eq-CONTAINER_CODE, put_items_stripped-After-jentry_at, put_items_stripped-After-shared_slice_known-1}
+use Rattle.edits.proofs.strip.+stripping.Goals.{put_items_stripped-After-struct_known-2-1, put_members_stripped-After-measure_ahead-sizes, put_members_stripped-After-shared_slice_known-1}
+use Rattle.edits.proofs.strip.+stripping.Goals.{put_rising_stripped-After-is_kept, put_rising_stripped-After-shared_slice_known-1, put_rising_stripped-After-struct_known-2-1}
+use Rattle.edits.proofs.strip.+stripping.Goals.{put_rising_stripped-Then-is_kept, put_sorted_stripped-After-shared_slice_known-1, put_sorted_stripped-At-loop-i, put_sorted_stripped-In-At}
+use Rattle.edits.proofs.strip.+stripping.Goals.{put_stripped-After-read_header}
+use Rattle.edits.proofs.strip.+stripping.Goals as goal
 
 nested : (t : ℕ) (c : put_item_stripped-Then-type_code-eq-CONTAINER_CODE t) → NestedItem c.args.s.now c.args.item
     c.payload_at-payload.result.now c.args.allowance
@@ -74,7 +78,8 @@ item_next : (t : ℕ) (c : put_items_stripped-After-jentry_at t) → ItemNext c.
 item_next t c = record { more = c.loop-part-test.true; entry = c.jentry_at.ensures; place = refl }
 
 pub put_items_stripped-first_part-part-requires : goal.put_items_stripped-first_part-part-requires
-put_items_stripped-first_part-part-requires t c = let known = array_known t (goal.at.put_items_stripped-first_part-part-requires t c).After-shared_slice_known-1 in omega (arith, known.table, known.short)
+put_items_stripped-first_part-part-requires t c =
+    let known = array_known t (goal.at.put_items_stripped-first_part-part-requires t c).After-shared_slice_known-1 in omega (arith, known.table, known.short)
 
 pub put_items_stripped-overflow_add-here : goal.put_items_stripped-overflow_add-here
 put_items_stripped-overflow_add-here t c = omega (arith, c.requires.2)
@@ -90,7 +95,8 @@ put_items_stripped-overflow_cast-n t c =
     omega (arith, known.table, known.short)
 
 pub put_items_stripped-loop-part-init : goal.put_items_stripped-loop-part-init
-put_items_stripped-loop-part-init t c = (array_known t (goal.at.put_items_stripped-loop-part-init t c).After-shared_slice_known-1, storing_starts _ _ _ c.first_part-part.ensures, part_start _ _ _ c.first_part-part.ensures)
+put_items_stripped-loop-part-init t c =
+    (array_known t (goal.at.put_items_stripped-loop-part-init t c).After-shared_slice_known-1, storing_starts _ _ _ c.first_part-part.ensures, part_start _ _ _ c.first_part-part.ensures)
 
 pub put_items_stripped-jentry_at-requires : goal.put_items_stripped-jentry_at-requires
 put_items_stripped-jentry_at-requires t c = omega (arith, storing_room c.loop-part.invariant.1, c.loop-part-test.true)
@@ -110,7 +116,8 @@ put_items_stripped-put_item_stripped-requires t c =
     )
 
 pub put_items_stripped-returns-in_default : goal.put_items_stripped-returns-in_default
-put_items_stripped-returns-in_default t c = storing_repeats c.loop-part.invariant.1 (item_next t (goal.at.put_items_stripped-returns-in_default t c).After-jentry_at) _ _ c.put_item_stripped.ensures c.in_default.is
+put_items_stripped-returns-in_default t c =
+    storing_repeats c.loop-part.invariant.1 (item_next t (goal.at.put_items_stripped-returns-in_default t c).After-jentry_at) _ _ c.put_item_stripped.ensures c.in_default.is
 
 pub put_items_stripped-overflow_add-here-in-loop-part : goal.put_items_stripped-overflow_add-here-in-loop-part
 put_items_stripped-overflow_add-here-in-loop-part t c = omega (arith, storing_room c.loop-part.invariant.1, c.requires.2, c.loop-part-test.true)
@@ -174,10 +181,12 @@ put_members_stripped-members_ahead-ahead-requires t c =
     omega (arith, object.table, object.short)
 
 pub put_members_stripped-measure_ahead-sizes-requires : goal.put_members_stripped-measure_ahead-sizes-requires
-put_members_stripped-measure_ahead-sizes-requires t c = handed_near (object_known t (goal.at.put_members_stripped-measure_ahead-sizes-requires t c).After-shared_slice_known-1) c.members_ahead-ahead.ensures
+put_members_stripped-measure_ahead-sizes-requires t c =
+    handed_near (object_known t (goal.at.put_members_stripped-measure_ahead-sizes-requires t c).After-shared_slice_known-1) c.members_ahead-ahead.ensures
 
 pub put_members_stripped-put_rising_stripped-requires : goal.put_members_stripped-put_rising_stripped-requires
-put_members_stripped-put_rising_stripped-requires t c = (omega (arith, c.decreases), (prepared t (goal.at.put_members_stripped-put_rising_stripped-requires t c).After-measure_ahead-sizes, c.requires.2, c.if-ahead.true))
+put_members_stripped-put_rising_stripped-requires t c =
+    (omega (arith, c.decreases), (prepared t (goal.at.put_members_stripped-put_rising_stripped-requires t c).After-measure_ahead-sizes, c.requires.2, c.if-ahead.true))
 
 pub put_members_stripped-returns-then-ahead : goal.put_members_stripped-returns-then-ahead
 put_members_stripped-returns-then-ahead t c =
@@ -185,7 +194,8 @@ put_members_stripped-returns-then-ahead t c =
     c.put_rising_stripped.new.out c.args.at c.put_rising_stripped.ensures
 
 pub put_members_stripped-put_sorted_stripped-requires : goal.put_members_stripped-put_sorted_stripped-requires
-put_members_stripped-put_sorted_stripped-requires t c = (omega (arith, c.decreases), (prepared t (goal.at.put_members_stripped-put_sorted_stripped-requires t c).After-measure_ahead-sizes, c.requires.2))
+put_members_stripped-put_sorted_stripped-requires t c =
+    (omega (arith, c.decreases), (prepared t (goal.at.put_members_stripped-put_sorted_stripped-requires t c).After-measure_ahead-sizes, c.requires.2))
 
 pub put_members_stripped-returns : goal.put_members_stripped-returns
 put_members_stripped-returns t c =
@@ -220,13 +230,16 @@ rising_least t c =
     })) c.if-is_kept.true
 
 pub put_rising_stripped-places_for-to-requires : goal.put_rising_stripped-places_for-to-requires
-put_rising_stripped-places_for-to-requires t c = omega (arith, sizes_fit (rising_octets t (goal.at.put_rising_stripped-places_for-to-requires t c).After-shared_slice_known-1) c.requires.0, c.requires.1)
+put_rising_stripped-places_for-to-requires t c =
+    omega (arith, sizes_fit (rising_octets t (goal.at.put_rising_stripped-places_for-to-requires t c).After-shared_slice_known-1) c.requires.0, c.requires.1)
 
 pub put_rising_stripped-overflow_cast-sizes : goal.put_rising_stripped-overflow_cast-sizes
 put_rising_stripped-overflow_cast-sizes t c = omega (arith, sizes_fit (rising_octets t (goal.at.put_rising_stripped-overflow_cast-sizes t c).After-shared_slice_known-1) c.requires.0)
 
 pub put_rising_stripped-loop-here-init : goal.put_rising_stripped-loop-here-init
-put_rising_stripped-loop-here-init t c = rising_starts (setting_of (rising_octets t (goal.at.put_rising_stripped-loop-here-init t c).After-shared_slice_known-1) c.requires.0 c.requires.1 c.places_for-to.ensures) c.requires.0.all c.requires.2
+put_rising_stripped-loop-here-init t c =
+    rising_starts (setting_of (rising_octets t (goal.at.put_rising_stripped-loop-here-init t c).After-shared_slice_known-1) c.requires.0 c.requires.1 c.places_for-to.ensures)
+    c.requires.0.all c.requires.2
 
 pub put_rising_stripped-ahead_behind-next-requires : goal.put_rising_stripped-ahead_behind-next-requires
 put_rising_stripped-ahead_behind-next-requires t c = (c.loop-here.invariant.rest.near, c.loop-here-test.true)
@@ -274,7 +287,9 @@ pub put_rising_stripped-overflow_sub-result : goal.put_rising_stripped-overflow_
 put_rising_stripped-overflow_sub-result t c = omega (arith, members_room c.loop-here.invariant.storing)
 
 pub put_rising_stripped-returns : goal.put_rising_stripped-returns
-put_rising_stripped-returns t c = rising_ends c.loop-here.invariant _ c.loop-here-test.false (sizes_measured (rising_octets t (goal.at.put_rising_stripped-returns t c).After-shared_slice_known-1) c.requires.0) refl c.put_u32.ensures
+put_rising_stripped-returns t c =
+    rising_ends c.loop-here.invariant _ c.loop-here-test.false (sizes_measured (rising_octets t (goal.at.put_rising_stripped-returns t c).After-shared_slice_known-1) c.requires.0)
+    refl c.put_u32.ensures
 
 pub put_rising_stripped-shape_of-out : goal.put_rising_stripped-shape_of-out
 put_rising_stripped-shape_of-out t c = ap length (put_rising_stripped-returns t (goal.at.put_rising_stripped-shape_of-out t c).After-struct_known-2-1).2 ∙ length_patch _ _ _
@@ -293,13 +308,15 @@ sorted_least : (t : ℕ) (c : put_sorted_stripped-In-At t) → At c.in-At.member
 sorted_least t c = sym c.in-At.is ∙ found_among ((octets_of c.args.s.now (λ i. omega (arith, c.type_inv.s i)))) c.requires.0 _ c.next_member.ensures
 
 pub put_sorted_stripped-places_for-to-requires : goal.put_sorted_stripped-places_for-to-requires
-put_sorted_stripped-places_for-to-requires t c = omega (arith, sizes_fit (sorted_octets t (goal.at.put_sorted_stripped-places_for-to-requires t c).After-shared_slice_known-1) c.requires.0, c.requires.1)
+put_sorted_stripped-places_for-to-requires t c =
+    omega (arith, sizes_fit (sorted_octets t (goal.at.put_sorted_stripped-places_for-to-requires t c).After-shared_slice_known-1) c.requires.0, c.requires.1)
 
 pub put_sorted_stripped-overflow_cast-sizes : goal.put_sorted_stripped-overflow_cast-sizes
 put_sorted_stripped-overflow_cast-sizes t c = omega (arith, sizes_fit (sorted_octets t (goal.at.put_sorted_stripped-overflow_cast-sizes t c).After-shared_slice_known-1) c.requires.0)
 
 pub put_sorted_stripped-loop-i-init : goal.put_sorted_stripped-loop-i-init
-put_sorted_stripped-loop-i-init t c = members_starts (setting_of (sorted_octets t (goal.at.put_sorted_stripped-loop-i-init t c).After-shared_slice_known-1) c.requires.0 c.requires.1 c.places_for-to.ensures) _ _
+put_sorted_stripped-loop-i-init t c =
+    members_starts (setting_of (sorted_octets t (goal.at.put_sorted_stripped-loop-i-init t c).After-shared_slice_known-1) c.requires.0 c.requires.1 c.places_for-to.ensures) _ _
 
 pub put_sorted_stripped-next_member-requires : goal.put_sorted_stripped-next_member-requires
 put_sorted_stripped-next_member-requires t c = all_places (sorted_octets t (goal.at.put_sorted_stripped-next_member-requires t c).After-shared_slice_known-1) c.requires.0
@@ -323,7 +340,9 @@ put_sorted_stripped-put_member_stripped-requires t c = (
 )
 
 pub put_sorted_stripped-returns-in_default-put_member_stripped : goal.put_sorted_stripped-returns-in_default-put_member_stripped
-put_sorted_stripped-returns-in_default-put_member_stripped t c = members_repeats c.loop-i.invariant (sorted_least t (goal.at.put_sorted_stripped-returns-in_default-put_member_stripped t c).In-At) _ _ c.put_member_stripped.ensures c.in_default-put_member_stripped.is
+put_sorted_stripped-returns-in_default-put_member_stripped t c =
+    members_repeats c.loop-i.invariant (sorted_least t (goal.at.put_sorted_stripped-returns-in_default-put_member_stripped t c).In-At) _ _
+    c.put_member_stripped.ensures c.in_default-put_member_stripped.is
 
 pub put_sorted_stripped-places_past-to-requires : goal.put_sorted_stripped-places_past-to-requires
 put_sorted_stripped-places_past-to-requires t c =
