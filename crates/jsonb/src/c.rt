@@ -1,4 +1,5 @@
-// The functions for the flight computer's C code; include/jsonb.h is for its programmers. A slice is a pointer and a length there.
+// The functions for the flight computer's C code, which crate jsonb_c exports under these names; include/jsonb.h is for its
+// programmers. A slice is a pointer and a length there.
 ghost use Rattle.std.specs.Prelude.{◌≡◌, ◌+◌, ◌-◌, ◌^◌, min, length};
 ghost use Rattle.layout.specs.Read.{read};
 ghost use Rattle.layout.specs.Check.{checked, text_checked};
@@ -62,8 +63,7 @@ fn c_ending(ending: Ending) -> u64
 }
 
 // Checks a record.
-#[unsafe(no_mangle)]
-pub extern "C" fn jsonb_check(s: &[u8]) -> u64
+pub fn jsonb_check(s: &[u8]) -> u64
     ensures { result ≡ c_check (checked (read s.now)) }
 {
     c_check(check_record(s))
@@ -80,8 +80,7 @@ fn c_count(count: usize) -> u64
 }
 
 // Checks a text, and counts its code points.
-#[unsafe(no_mangle)]
-pub extern "C" fn jsonb_check_text(s: &[u8]) -> u64
+pub fn jsonb_check_text(s: &[u8]) -> u64
     ensures { result ≡ c_text (text_checked (code_points s.now)) }
 {
     match check_text(s) {
@@ -91,8 +90,7 @@ pub extern "C" fn jsonb_check_text(s: &[u8]) -> u64
 }
 
 // Looks up what a path finds in a record.
-#[unsafe(no_mangle)]
-pub extern "C" fn jsonb_get_by_keypath(target: &[u8], path: &[u8], out: &mut [u8]) -> u64
+pub fn jsonb_get_by_keypath(target: &[u8], path: &[u8], out: &mut [u8]) -> u64
     ensures { EndedC result out.old out.new
         (on_path get_by target.now path.now (length out.old)) }
 {
@@ -100,8 +98,7 @@ pub extern "C" fn jsonb_get_by_keypath(target: &[u8], path: &[u8], out: &mut [u8
 }
 
 // Looks up what a pointer finds in a record.
-#[unsafe(no_mangle)]
-pub extern "C" fn jsonb_get_by_pointer(target: &[u8], pointer: &[u8], out: &mut [u8]) -> u64
+pub fn jsonb_get_by_pointer(target: &[u8], pointer: &[u8], out: &mut [u8]) -> u64
     ensures { EndedC result out.old out.new
         (on_pointer target.now pointer.now (length out.old)) }
 {
@@ -109,8 +106,7 @@ pub extern "C" fn jsonb_get_by_pointer(target: &[u8], pointer: &[u8], out: &mut 
 }
 
 // Deletes what a path finds in a record.
-#[unsafe(no_mangle)]
-pub extern "C" fn jsonb_delete_by_keypath(target: &[u8], path: &[u8], out: &mut [u8]) -> u64
+pub fn jsonb_delete_by_keypath(target: &[u8], path: &[u8], out: &mut [u8]) -> u64
     ensures { EndedC result out.old out.new
         (on_path delete_by target.now path.now (length out.old)) }
 {
@@ -118,8 +114,7 @@ pub extern "C" fn jsonb_delete_by_keypath(target: &[u8], path: &[u8], out: &mut 
 }
 
 // Overlays a record with another: two objects become one, anything else an array.
-#[unsafe(no_mangle)]
-pub extern "C" fn jsonb_concat(left: &[u8], right: &[u8], out: &mut [u8]) -> u64
+pub fn jsonb_concat(left: &[u8], right: &[u8], out: &mut [u8]) -> u64
     ensures { EndedC result out.old out.new
         (on_two concatOf left.now right.now (length out.old)) }
 {
@@ -127,8 +122,7 @@ pub extern "C" fn jsonb_concat(left: &[u8], right: &[u8], out: &mut [u8]) -> u64
 }
 
 // Takes the members whose value is null out of a record, at every level.
-#[unsafe(no_mangle)]
-pub extern "C" fn jsonb_strip_nulls(target: &[u8], out: &mut [u8]) -> u64
+pub fn jsonb_strip_nulls(target: &[u8], out: &mut [u8]) -> u64
     ensures { EndedC result out.old out.new
         (on_one strip target.now (length out.old)) }
 {
@@ -136,8 +130,7 @@ pub extern "C" fn jsonb_strip_nulls(target: &[u8], out: &mut [u8]) -> u64
 }
 
 // Puts a record, as one item, at the end of an array record.
-#[unsafe(no_mangle)]
-pub extern "C" fn jsonb_append(array: &[u8], item: &[u8], out: &mut [u8]) -> u64
+pub fn jsonb_append(array: &[u8], item: &[u8], out: &mut [u8]) -> u64
     ensures { EndedC result out.old out.new
         (on_two appendOf array.now item.now (length out.old)) }
 {
@@ -145,8 +138,7 @@ pub extern "C" fn jsonb_append(array: &[u8], item: &[u8], out: &mut [u8]) -> u64
 }
 
 // Builds an object from an array of names and an array of values.
-#[unsafe(no_mangle)]
-pub extern "C" fn jsonb_build_object(names: &[u8], values: &[u8], out: &mut [u8]) -> u64
+pub fn jsonb_build_object(names: &[u8], values: &[u8], out: &mut [u8]) -> u64
     ensures { EndedC result out.old out.new
         (on_two build names.now values.now (length out.old)) }
 {
@@ -154,56 +146,49 @@ pub extern "C" fn jsonb_build_object(names: &[u8], values: &[u8], out: &mut [u8]
 }
 
 // How long a record without what a path finds in it would be, or the number.
-#[unsafe(no_mangle)]
-pub extern "C" fn jsonb_preview_delete(target: &[u8], path: &[u8]) -> u64
+pub fn jsonb_preview_delete(target: &[u8], path: &[u8]) -> u64
     ensures { result ≡ c_ending (previewed (on_path delete_by target.now path.now)) }
 {
     c_ending(preview_delete(target, path))
 }
 
 // How long a record overlaid with another would be, or the number.
-#[unsafe(no_mangle)]
-pub extern "C" fn jsonb_preview_concat(left: &[u8], right: &[u8]) -> u64
+pub fn jsonb_preview_concat(left: &[u8], right: &[u8]) -> u64
     ensures { result ≡ c_ending (previewed (on_two concatOf left.now right.now)) }
 {
     c_ending(preview_concat(left, right))
 }
 
 // How long a record without its null members would be, or the number.
-#[unsafe(no_mangle)]
-pub extern "C" fn jsonb_preview_strip(target: &[u8]) -> u64
+pub fn jsonb_preview_strip(target: &[u8]) -> u64
     ensures { result ≡ c_ending (previewed (on_one strip target.now)) }
 {
     c_ending(preview_strip(target))
 }
 
 // How long an array with a record as one more item would be, or the number.
-#[unsafe(no_mangle)]
-pub extern "C" fn jsonb_preview_append(array: &[u8], item: &[u8]) -> u64
+pub fn jsonb_preview_append(array: &[u8], item: &[u8]) -> u64
     ensures { result ≡ c_ending (previewed (on_two appendOf array.now item.now)) }
 {
     c_ending(preview_append(array, item))
 }
 
 // How long the object of an array of names and an array of values would be, or the number.
-#[unsafe(no_mangle)]
-pub extern "C" fn jsonb_preview_build(names: &[u8], values: &[u8]) -> u64
+pub fn jsonb_preview_build(names: &[u8], values: &[u8]) -> u64
     ensures { result ≡ c_ending (previewed (on_two build names.now values.now)) }
 {
     c_ending(preview_build(names, values))
 }
 
 // Checks a record for the board's loader, which takes flight records.
-#[unsafe(no_mangle)]
-pub extern "C" fn jsonb_flight_check(s: &[u8]) -> u64
+pub fn jsonb_flight_check(s: &[u8]) -> u64
     ensures { result ≡ c_check (checked (flight s.now)) }
 {
     c_check(check_flight(s))
 }
 
 // Deletes what a path finds in a flight record.
-#[unsafe(no_mangle)]
-pub extern "C" fn jsonb_flight_delete(target: &[u8], path: &[u8], out: &mut [u8]) -> u64
+pub fn jsonb_flight_delete(target: &[u8], path: &[u8], out: &mut [u8]) -> u64
     ensures { EndedC result out.old out.new
         (on_path flight_delete_by target.now path.now (length out.old)) }
 {
@@ -211,8 +196,7 @@ pub extern "C" fn jsonb_flight_delete(target: &[u8], path: &[u8], out: &mut [u8]
 }
 
 // Overlays a flight record with another: two objects become one, anything else an array.
-#[unsafe(no_mangle)]
-pub extern "C" fn jsonb_flight_concat(left: &[u8], right: &[u8], out: &mut [u8]) -> u64
+pub fn jsonb_flight_concat(left: &[u8], right: &[u8], out: &mut [u8]) -> u64
     ensures { EndedC result out.old out.new
         (on_flights left.now right.now (length out.old)) }
 {
@@ -220,8 +204,7 @@ pub extern "C" fn jsonb_flight_concat(left: &[u8], right: &[u8], out: &mut [u8])
 }
 
 // Takes the members whose value is null out of a flight record, at every level.
-#[unsafe(no_mangle)]
-pub extern "C" fn jsonb_flight_strip(target: &[u8], out: &mut [u8]) -> u64
+pub fn jsonb_flight_strip(target: &[u8], out: &mut [u8]) -> u64
     ensures { EndedC result out.old out.new
         (on_one flight_strip target.now (length out.old)) }
 {
