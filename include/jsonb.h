@@ -30,8 +30,7 @@
  *   above JSONB_ABSENT      refused, with one of the numbers below. No byte is changed.
  *
  * Of several faults the first in this order is told: that of the first record, that of the second, that of the path or of the
- * JSON Pointer (6, 11), 12 of a record, 7, an absence, 8, 9, 12 of a result, 10. Which of the numbers each function can answer, and
- * that it answers no others, is crates/card/specs/Card.antt; docs/CARD.md is the table.
+ * JSON Pointer (6, 11), 12 of a record, 7, an absence, 8, 9, 12 of a result, 10.
  */
 #ifndef JSONB_H
 #define JSONB_H
@@ -180,8 +179,7 @@ uint64_t jsonb_preview_build(const uint8_t *names, size_t names_length, const ui
  * Flight records: the board's loader takes less than the layout allows. In a flight record the names of every object rise strictly in
  * byte order and have 1 to 32 characters each, that is code points; it is at most 8 levels deep, of which a scalar has none; and it
  * holds no extension, float, decimal, NaN or infinity. The edits below take flight records and give flight records: a result has the
- * bytes that the plain edit gives. The numbers that there are stand beside each, in their order; there is no absence, and never 8: where
- * names rise, none is repeated.
+ * bytes that the plain edit gives. The numbers that there are stand beside each, in their order; there is no absence.
  */
 
 /* Checks a record for the loader: JSONB_READABLE where it is a flight record, or refused with 1 to 5, and then 12. */

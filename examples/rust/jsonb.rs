@@ -250,79 +250,28 @@ pub fn preview_build(names: &[u8], values: &[u8]) -> Result<usize, Refusal> {
 
 /// Flight records, which are what the board's loader takes: at most 8 levels deep, with names that rise and have 1 to 32 characters,
 /// and without extensions, floats, decimals, NaN and infinities. The edits take flight records and give flight records, with the bytes
-/// of the plain edits; what is readable and no flight record is refused with 12, outside the flight profile.
+/// of the plain edits; what is readable and no flight record is [`Refusal::Profile`].
 pub mod flight {
-    use super::{c, edit_always, edit_one, pass, REFUSALS};
-
-    /// Why [`concat`] and [`strip`] are refused: one of the numbers of [`super::Refusal`], under the same name. No name is repeated in a
-    /// flight record, so that there is no 8.
-    #[derive(Clone, Copy, PartialEq, Eq, Debug)]
-    pub enum Refusal {
-        Short = 1,
-        Layout = 2,
-        Text = 3,
-        Number = 4,
-        Limit = 5,
-        Result = 9,
-        Buffer = 10,
-        Profile = 12,
-    }
-
-    impl Refusal {
-        pub fn number(self) -> u32 {
-            self as u32
-        }
-    }
-
-    impl From<Refusal> for super::Refusal {
-        fn from(refusal: Refusal) -> super::Refusal {
-            REFUSALS[refusal.number() as usize - 1]
-        }
-    }
-
-    impl std::fmt::Display for Refusal {
-        fn fmt(&self, f: &mut std::fmt::Formatter) -> std::fmt::Result {
-            std::fmt::Display::fmt(&super::Refusal::from(*self), f)
-        }
-    }
-
-    impl std::error::Error for Refusal {}
-
-    const ALL: [Refusal; 8] = [
-        Refusal::Short,
-        Refusal::Layout,
-        Refusal::Text,
-        Refusal::Number,
-        Refusal::Limit,
-        Refusal::Result,
-        Refusal::Buffer,
-        Refusal::Profile,
-    ];
-
-    /// The refusal of a concat or a strip, which is proved to be one of these.
-    fn aboard(refusal: super::Refusal) -> Refusal {
-        let own = ALL.into_iter().find(|own| own.number() == refusal.number());
-        own.expect("a flight concat or strip has no other refusal")
-    }
+    use super::{c, edit_always, edit_one, pass, Refusal};
 
     /// Whether a record is a flight record, or why it is not.
-    pub fn check(record: &[u8]) -> Result<(), super::Refusal> {
+    pub fn check(record: &[u8]) -> Result<(), Refusal> {
         pass(c::jsonb_flight_check, record)
     }
 
     /// [`delete_by_keypath`](super::delete_by_keypath) of a flight record.
-    pub fn delete<'a>(target: &[u8], path: &[u8], out: &'a mut [u8]) -> Result<&'a [u8], super::Refusal> {
+    pub fn delete<'a>(target: &[u8], path: &[u8], out: &'a mut [u8]) -> Result<&'a [u8], Refusal> {
         edit_always(c::jsonb_flight_delete, target, path, out)
     }
 
     /// [`concat`](super::concat) of two flight records. The result is no flight record, so that this is refused, where an object of 8
     /// levels stands beside a record that is no object.
     pub fn concat<'a>(left: &[u8], right: &[u8], out: &'a mut [u8]) -> Result<&'a [u8], Refusal> {
-        edit_always(c::jsonb_flight_concat, left, right, out).map_err(aboard)
+        edit_always(c::jsonb_flight_concat, left, right, out)
     }
 
     /// [`strip_nulls`](super::strip_nulls) of a flight record.
     pub fn strip<'a>(target: &[u8], out: &'a mut [u8]) -> Result<&'a [u8], Refusal> {
-        edit_one(c::jsonb_flight_strip, target, out).map_err(aboard)
+        edit_one(c::jsonb_flight_strip, target, out)
     }
 }

@@ -1,4 +1,4 @@
-// Flight records: document 02 §5 and §6. The Rust has none: a flight edit must give the bytes that the plain edit gives, where it takes and
+// Flight records: document 02 §5. The Rust has none: a flight edit must give the bytes that the plain edit gives, where it takes and
 // gives flight records, and 12 where not. Which those are is told here by the document's sentences, apart from the port.
 use jsonb::Edit;
 
@@ -15,8 +15,8 @@ pub const LONGEST: usize = 32;
 pub fn flight_of<'a>(edit: Edit, first: &[u8], second: &[u8], out: &'a mut [u8]) -> Result<Option<&'a [u8]>, Refusal> {
     match edit {
         Edit::Delete => flight::delete(first, second, out).map(Some),
-        Edit::Concat => flight::concat(first, second, out).map(Some).map_err(Refusal::from),
-        Edit::Strip => flight::strip(first, out).map(Some).map_err(Refusal::from),
+        Edit::Concat => flight::concat(first, second, out).map(Some),
+        Edit::Strip => flight::strip(first, out).map(Some),
         Edit::Get | Edit::Append | Edit::Build => Ok(None),
     }
 }
