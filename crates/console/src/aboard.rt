@@ -13,21 +13,24 @@ use crate::text::{Fault, Taken, argument, trim, word_end};
 use crate::writing::{Writing, answer_strip, answer_two};
 use layout::util::slice;
 use runs::call::Edit;
+use std::io;
+use std::io::Write;
 
-fn say_none() {
+fn say_none<W: Write>(out: &mut W) -> io::Result<()> {
     say(
+        out,
         b"? flight takes a record in hexadecimal, or an edit: there are delete, concat and strip\n",
-    );
+    )
 }
 
-fn edit_aboard(edit: Edit, text: &[u8]) {
+fn edit_aboard<W: Write>(out: &mut W, edit: Edit, text: &[u8]) -> io::Result<()> {
     match edit {
-        Edit::Get => say_none(),
-        Edit::Delete => answer_two(Writing::FlightDelete, text),
-        Edit::Concat => answer_two(Writing::FlightConcat, text),
-        Edit::Strip => answer_strip(Writing::FlightStrip, text),
-        Edit::Append => say_none(),
-        Edit::Build => say_none(),
+        Edit::Get => say_none(out),
+        Edit::Delete => answer_two(out, Writing::FlightDelete, text),
+        Edit::Concat => answer_two(out, Writing::FlightConcat, text),
+        Edit::Strip => answer_strip(out, Writing::FlightStrip, text),
+        Edit::Append => say_none(out),
+        Edit::Build => say_none(out),
     }
 }
 
@@ -44,19 +47,19 @@ fn is_hexadecimal(text: &[u8]) -> bool {
 }
 
 // Takes the record, where it is no word that stands there.
-fn check_aboard(text: &[u8]) {
+fn check_aboard<W: Write>(out: &mut W, text: &[u8]) -> io::Result<()> {
     if is_hexadecimal(argument(text, 0)) {
-        return answer_one(Call::Flight, text);
+        return answer_one(out, Call::Flight, text);
     }
-    say_none();
+    say_none(out)
 }
 
 // Takes a record, or an edit's word and what the edit takes.
-pub(crate) fn answer_aboard(text: &[u8]) {
+pub(crate) fn answer_aboard<W: Write>(out: &mut W, text: &[u8]) -> io::Result<()> {
     let call = trim(text);
     let end = word_end(call);
     match edit_of(slice(call, 0, end)) {
-        Word::Edit(edit) => edit_aboard(edit, slice(call, end, call.len() - end)),
-        Word::Other => check_aboard(call),
+        Word::Edit(edit) => edit_aboard(out, edit, slice(call, end, call.len() - end)),
+        Word::Other => check_aboard(out, call),
     }
 }

@@ -2,40 +2,46 @@
 use crate::say::{say, say_refused, say_words};
 use layout::check::{Check, check_record};
 use layout::refusal::Refusal;
+use std::io;
+use std::io::Write;
 use values::grade::{Grade, grade_record};
 use values::value::is_same_value;
 
-fn say_damaged(refusal: Refusal) {
-    say(b"damaged ");
-    say_words(refusal.number());
-    say(b"\n");
+fn say_damaged<W: Write>(out: &mut W, refusal: Refusal) -> io::Result<()> {
+    say(out, b"damaged ")?;
+    say_words(out, refusal.number())?;
+    say(out, b"\n")
 }
 
 // Against a record that is not readable nothing can be graded: then the line is at fault, and not the candidate.
-fn say_ungraded(refusal: Refusal) {
-    say(b"? the expected record is ");
-    say_refused(refusal);
+fn say_ungraded<W: Write>(out: &mut W, refusal: Refusal) -> io::Result<()> {
+    say(out, b"? the expected record is ")?;
+    say_refused(out, refusal)
 }
 
-pub(crate) fn say_grade(candidate: &[u8], expected: &[u8]) {
+pub(crate) fn say_grade<W: Write>(
+    out: &mut W,
+    candidate: &[u8],
+    expected: &[u8],
+) -> io::Result<()> {
     match grade_record(candidate, expected) {
-        Grade::Right => say(b"right\n"),
-        Grade::SameValue => say(b"other bytes, same value\n"),
-        Grade::OtherValue => say(b"other value\n"),
-        Grade::Damaged(refusal) => say_damaged(refusal),
-        Grade::Ungraded(refusal) => say_ungraded(refusal),
+        Grade::Right => say(out, b"right\n"),
+        Grade::SameValue => say(out, b"other bytes, same value\n"),
+        Grade::OtherValue => say(out, b"other value\n"),
+        Grade::Damaged(refusal) => say_damaged(out, refusal),
+        Grade::Ungraded(refusal) => say_ungraded(out, refusal),
     }
 }
 
-pub(crate) fn say_same(left: &[u8], right: &[u8]) {
+pub(crate) fn say_same<W: Write>(out: &mut W, left: &[u8], right: &[u8]) -> io::Result<()> {
     if let Check::Refused(refusal) = check_record(left) {
-        return say_refused(refusal);
+        return say_refused(out, refusal);
     }
     if let Check::Refused(refusal) = check_record(right) {
-        return say_refused(refusal);
+        return say_refused(out, refusal);
     }
     if is_same_value(left, right) {
-        return say(b"same\n");
+        return say(out, b"same\n");
     }
-    say(b"other\n");
+    say(out, b"other\n")
 }

@@ -41,7 +41,9 @@
 // slice; spaces in it are ignored, and an empty one is -. Behind the arguments of a call that gives a result may stand one more, as
 // in `append A ; R ; 100`: the length of the result's buffer in decimal; where it is left out, one that serves, of 65,536 bytes at
 // most. An empty line and a line that starts with # are copied. A line that is none of these gets `? WHY`, and the next one is
-// answered as ever.
+// answered as ever. A read or a write that fails ends the program with its error.
+#![tactic(auto)]
+
 mod aboard;
 mod calls;
 mod chars;
@@ -61,11 +63,13 @@ mod step;
 mod text;
 mod writing;
 
-ghost use Rattle.std.specs.Prelude.{◌+◌, ◌≤◌, length};
+ghost use Rattle.std.specs.Prelude.{◌+◌, ◌≤◌, IfOk, length};
 
 use calls::answer;
 use layout::util::slice;
 use say::say;
+use std::io;
+use std::io::{Read, Write};
 use text::line_end;
 
 // The longest line, its end included: two records with spaces between their groups have less.
@@ -82,19 +86,19 @@ struct Held {
 }
 
 // Answers each whole line; gives how many bytes they took.
-fn answer_lines(text: &[u8]) -> usize
-    ensures { result ≤ length text.now }
+fn answer_lines<W: Write>(out: &mut W, text: &[u8]) -> io::Result<usize>
+    ensures { IfOk result (λ n. n ≤ length text.now) }
 {
     let mut start = 0;
     let mut i = 0;
     while i < text.len() {
         if text[i] == b'\n' {
-            answer(slice(text, start, i - start));
+            answer(out, slice(text, start, i - start))?;
             start = i + 1;
         }
         i += 1;
     }
-    start
+    Ok(start)
 }
 
 // Moves what stands from `start` to `end` to the front; gives its length.
@@ -112,86 +116,88 @@ fn move_down(text: &mut [u8], start: usize, end: usize) -> usize
 }
 
 // Answers the whole lines among the first `end` bytes, and keeps the beginning of the next one.
-fn take_lines(line: &mut [u8], end: usize) -> Held
+fn take_lines<W: Write>(out: &mut W, line: &mut [u8], end: usize) -> io::Result<Held>
     requires { end ≤ length line.old }
-    ensures { result.bytes ≤ length line.old }
+    ensures { IfOk result (λ held. held.bytes ≤ length line.old) }
 {
-    let taken = answer_lines(&line[..end]);
+    let taken = answer_lines(out, &line[..end])?;
     let held = move_down(line, taken, end);
     if held == line.len() {
-        say(b"? the line is too long\n");
-        return Held {
+        say(out, b"? the line is too long\n")?;
+        return Ok(Held {
             bytes: 0,
             skip: true,
-        };
+        });
     }
-    Held {
+    Ok(Held {
         bytes: held,
         skip: false,
-    }
+    })
 }
 
 // The same, where the first line is the rest of one that was too long.
-fn skip_line(line: &mut [u8], end: usize) -> Held
+fn skip_line<W: Write>(out: &mut W, line: &mut [u8], end: usize) -> io::Result<Held>
     requires { end ≤ length line.old }
-    ensures { result.bytes ≤ length line.old }
+    ensures { IfOk result (λ held. held.bytes ≤ length line.old) }
 {
     let start = line_end(&line[..end]);
     if start == 0 {
-        return Held {
+        return Ok(Held {
             bytes: 0,
             skip: true,
-        };
+        });
     }
     let held = move_down(line, start, end);
-    take_lines(line, held)
+    take_lines(out, line, held)
 }
 
-fn take_input(line: &mut [u8], end: usize, skip: bool) -> Held
+fn take_input<W: Write>(out: &mut W, line: &mut [u8], end: usize, skip: bool) -> io::Result<Held>
     requires { end ≤ length line.old }
-    ensures { result.bytes ≤ length line.old }
+    ensures { IfOk result (λ held. held.bytes ≤ length line.old) }
 {
     if skip {
-        return skip_line(line, end);
+        return skip_line(out, line, end);
     }
-    take_lines(line, end)
+    take_lines(out, line, end)
 }
 
 // Reads more of the input behind the bytes held; gives how many came, none at its end.
-fn read_more(line: &mut [u8], held: usize) -> usize
+fn read_more<R: Read>(input: &mut R, line: &mut [u8], held: usize) -> io::Result<usize>
     requires { held ≤ length line.old }
-    ensures { held + result ≤ length line.old }
+    ensures { IfOk result (λ n. held + n ≤ length line.old) }
 {
-    let rest = &mut line[held..];
-    let got = libc::read(0, rest);
-    io::count(got, rest)
+    input.read(&mut line[held..])
 }
 
 // The last line, where the input does not end with a line's end.
-fn answer_last(line: &[u8]) {
+fn answer_last<W: Write>(out: &mut W, line: &[u8]) -> io::Result<()> {
     if line.len() != 0 {
-        answer(line);
+        return answer(out, line);
     }
+    Ok(())
 }
 
 // Answers the input line by line, through a buffer that holds the line at hand.
-fn answer_input(line: &mut [u8]) {
+fn answer_input<R: Read, W: Write>(input: &mut R, out: &mut W, line: &mut [u8]) -> io::Result<()> {
     let mut held: usize = 0;
     let mut skip = false;
     let mut reads: u64 = 0;
     while reads < READS {
-        let got = read_more(line, held);
+        let got = read_more(input, line, held)?;
         if got == 0 {
-            return answer_last(slice(line, 0, held));
+            return answer_last(out, slice(line, 0, held));
         }
-        let next = take_input(line, held + got, skip);
+        let next = take_input(out, line, held + got, skip)?;
         held = next.bytes;
         skip = next.skip;
         reads += 1;
     }
+    Ok(())
 }
 
-fn main() {
+fn main(rt: HostRuntime) -> io::Result<()> {
     let mut line = [0u8; LINE_LIMIT];
-    answer_input(&mut line);
+    let mut input = rt.reader();
+    let mut out = io::writer(&rt);
+    answer_input(&mut input, &mut out, &mut line)
 }

@@ -12,6 +12,8 @@ use layout::ending::Ending;
 use layout::number::{Number, encode_decimal64, encode_float64, encode_int64, encode_uint64};
 use layout::order::is_same_bytes;
 use layout::util::{read_u32, slice};
+use std::io;
+use std::io::Write;
 
 // The longest payload that is made, a decimal's: its first byte, eight of the value and the scale.
 const MADE_ROOM: usize = 10;
@@ -147,87 +149,90 @@ fn encode_number(making: Making, out: &mut [u8]) -> Ending {
     }
 }
 
-fn answer_lent(making: Making, length: usize) {
+fn answer_lent<W: Write>(out: &mut W, making: Making, length: usize) -> io::Result<()> {
     let mut room = [0u8; MADE_ROOM];
     let ending = encode_number(making, lent(&mut room, length));
-    say_ending(ending, &room);
+    say_ending(out, ending, &room)
 }
 
 // Takes the buffer's length behind what is to be made.
-fn answer_making(making: Making, text: &[u8]) {
+fn answer_making<W: Write>(out: &mut W, making: Making, text: &[u8]) -> io::Result<()> {
     match take_length(text, 1) {
-        Taken::Length(n) => answer_lent(making, n),
-        Taken::Wrong(fault) => say_fault(fault),
+        Taken::Length(n) => answer_lent(out, making, n),
+        Taken::Wrong(fault) => say_fault(out, fault),
     }
 }
 
-pub(crate) fn answer_make(text: &[u8]) {
+pub(crate) fn answer_make<W: Write>(out: &mut W, text: &[u8]) -> io::Result<()> {
     if 2 < count_arguments(text) {
-        return say_fault(Fault::NoMaker);
+        return say_fault(out, Fault::NoMaker);
     }
     match ask(argument(text, 0)) {
-        Asked::Making(making) => answer_making(making, text),
-        Asked::Wrong(fault) => say_fault(fault),
+        Asked::Making(making) => answer_making(out, making, text),
+        Asked::Wrong(fault) => say_fault(out, fault),
     }
 }
 
 // ---- reading back
 
-fn say_int(v: i64) {
-    say(b"signed ");
-    say_signed(v);
-    say(b"\n");
+fn say_int<W: Write>(out: &mut W, v: i64) -> io::Result<()> {
+    say(out, b"signed ")?;
+    say_signed(out, v)?;
+    say(out, b"\n")
 }
 
-fn say_uint(v: u64) {
-    say(b"unsigned ");
-    say_decimal(v);
-    say(b"\n");
+fn say_uint<W: Write>(out: &mut W, v: u64) -> io::Result<()> {
+    say(out, b"unsigned ")?;
+    say_decimal(out, v)?;
+    say(out, b"\n")
 }
 
 // Of a float the bits, as layout hands them out.
-fn say_float(bits: u64) {
-    say(b"float ");
-    say_bits(bits);
-    say(b"\n");
+fn say_float<W: Write>(out: &mut W, bits: u64) -> io::Result<()> {
+    say(out, b"float ")?;
+    say_bits(out, bits)?;
+    say(out, b"\n")
 }
 
-fn say_scaled(value: i64, scale: u8) {
-    say(b"decimal ");
-    say_signed(value);
-    say(b" ");
-    say_decimal(scale as u64);
-    say(b"\n");
+fn say_scaled<W: Write>(out: &mut W, value: i64, scale: u8) -> io::Result<()> {
+    say(out, b"decimal ")?;
+    say_signed(out, value)?;
+    say(out, b" ")?;
+    say_decimal(out, scale as u64)?;
+    say(out, b"\n")
 }
 
 // Of a decimal that is wider than 64 bits the bytes behind the first are counted.
-fn say_wide(bytes: usize) {
-    say(b"wide ");
-    say_decimal(bytes as u64);
-    say(b"\n");
+fn say_wide<W: Write>(out: &mut W, bytes: usize) -> io::Result<()> {
+    say(out, b"wide ")?;
+    say_decimal(out, bytes as u64)?;
+    say(out, b"\n")
 }
 
-fn say_decoded(number: Number) {
+fn say_decoded<W: Write>(out: &mut W, number: Number) -> io::Result<()> {
     match number {
-        Number::Nan => say(b"nan\n"),
-        Number::Infinity => say(b"infinity\n"),
-        Number::NegInfinity => say(b"-infinity\n"),
-        Number::Int64(v) => say_int(v),
-        Number::UInt64(v) => say_uint(v),
-        Number::Float64(bits) => say_float(bits),
-        Number::Decimal64(value, scale) => say_scaled(value, scale),
-        Number::WideDecimal(bytes) => say_wide(bytes),
-        Number::Refused(refusal) => say_refused(refusal),
+        Number::Nan => say(out, b"nan\n"),
+        Number::Infinity => say(out, b"infinity\n"),
+        Number::NegInfinity => say(out, b"-infinity\n"),
+        Number::Int64(v) => say_int(out, v),
+        Number::UInt64(v) => say_uint(out, v),
+        Number::Float64(bits) => say_float(out, bits),
+        Number::Decimal64(value, scale) => say_scaled(out, value, scale),
+        Number::WideDecimal(bytes) => say_wide(out, bytes),
+        Number::Refused(refusal) => say_refused(out, refusal),
     }
 }
 
-pub(crate) fn answer_number(text: &[u8]) {
+pub(crate) fn answer_number<W: Write>(out: &mut W, text: &[u8]) -> io::Result<()> {
     if (count_arguments(text) != 1) | (trim(text).len() == 0) {
-        return say(b"? number takes one payload in hexadecimal; an empty one is -\n");
+        return say(
+            out,
+            b"? number takes one payload in hexadecimal; an empty one is -\n",
+        );
     }
     let mut payload = [0u8; RECORD_ROOM];
     match decode(text, &mut payload) {
-        Taken::Length(n) => say_decoded(Number::decode(slice(&payload, 0, n))),
-        Taken::Wrong(fault) => say_fault(fault),
+        Taken::Length(n) => say_decoded(out, Number::decode(slice(&payload, 0, n))),
+        Taken::Wrong(fault) => say_fault(out, fault),
     }
 }

@@ -10,28 +10,33 @@ use crate::say::say;
 use crate::text::{trim, word_end};
 use layout::util::slice;
 use runs::call::Edit;
+use std::io;
+use std::io::Write;
 
-fn say_none() {
-    say(b"? there is no such preview; there are delete, concat, strip, append and build\n");
+fn say_none<W: Write>(out: &mut W) -> io::Result<()> {
+    say(
+        out,
+        b"? there is no such preview; there are delete, concat, strip, append and build\n",
+    )
 }
 
-fn preview_edit(edit: Edit, text: &[u8]) {
+fn preview_edit<W: Write>(out: &mut W, edit: Edit, text: &[u8]) -> io::Result<()> {
     match edit {
-        Edit::Get => say_none(),
-        Edit::Delete => answer_pair(Pair::PreviewDelete, text),
-        Edit::Concat => answer_pair(Pair::PreviewConcat, text),
-        Edit::Strip => answer_one(Call::PreviewStrip, text),
-        Edit::Append => answer_pair(Pair::PreviewAppend, text),
-        Edit::Build => answer_pair(Pair::PreviewBuild, text),
+        Edit::Get => say_none(out),
+        Edit::Delete => answer_pair(out, Pair::PreviewDelete, text),
+        Edit::Concat => answer_pair(out, Pair::PreviewConcat, text),
+        Edit::Strip => answer_one(out, Call::PreviewStrip, text),
+        Edit::Append => answer_pair(out, Pair::PreviewAppend, text),
+        Edit::Build => answer_pair(out, Pair::PreviewBuild, text),
     }
 }
 
 // Takes the edit's word, and what the edit takes but for the buffer's length.
-pub(crate) fn answer_preview(text: &[u8]) {
+pub(crate) fn answer_preview<W: Write>(out: &mut W, text: &[u8]) -> io::Result<()> {
     let call = trim(text);
     let end = word_end(call);
     match edit_of(slice(call, 0, end)) {
-        Word::Edit(edit) => preview_edit(edit, slice(call, end, call.len() - end)),
-        Word::Other => say_none(),
+        Word::Edit(edit) => preview_edit(out, edit, slice(call, end, call.len() - end)),
+        Word::Other => say_none(out),
     }
 }

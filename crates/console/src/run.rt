@@ -17,6 +17,8 @@ use crate::writing::{Given, ONE_RECORD, TWO_RECORDS, given_of, lent};
 use layout::ending::Ending;
 use layout::util::slice;
 use runs::call::{Edit, make_edit};
+use std::io;
+use std::io::Write;
 
 // Room for how many calls.
 const CALLS: usize = 4_096;
@@ -261,32 +263,39 @@ fn run_calls(
 
 // ---- the answer
 
-fn say_noted(ending: u64) {
+fn say_noted<W: Write>(out: &mut W, ending: u64) -> io::Result<()> {
     if ending == ABSENT {
-        return say(b"absent");
+        return say(out, b"absent");
     }
     if ending < RESULT {
-        return say_number(ending);
+        return say_number(out, ending);
     }
-    say(b"result at ");
-    say_decimal(ending - RESULT);
+    say(out, b"result at ")?;
+    say_decimal(out, ending - RESULT)
 }
 
-fn say_endings(endings: &[u64], calls: usize) {
+fn say_endings<W: Write>(out: &mut W, endings: &[u64], calls: usize) -> io::Result<()> {
     let mut i = 0;
     while i < calls {
         if i < endings.len() {
-            say_noted(endings[i]);
+            say_noted(out, endings[i])?;
         }
-        say(b" : ");
+        say(out, b" : ")?;
         i += 1;
     }
+    Ok(())
 }
 
 // Makes the calls that a text has behind the starting shelf, if it has any, and says what came of them.
-fn answer_calls(text: &[u8], shelf: &mut [u8], ends: &mut [usize], first: usize) {
+fn answer_calls<W: Write>(
+    out: &mut W,
+    text: &[u8],
+    shelf: &mut [u8],
+    ends: &mut [usize],
+    first: usize,
+) -> io::Result<()> {
     if text.len() == 0 {
-        return say_shelf(shelf, ends, first);
+        return say_shelf(out, shelf, ends, first);
     }
     let mut endings = [0u64; CALLS];
     match run_calls(
@@ -297,26 +306,37 @@ fn answer_calls(text: &[u8], shelf: &mut [u8], ends: &mut [usize], first: usize)
         first,
     ) {
         Run::Made(records, calls) => {
-            say_endings(&endings, calls);
-            say_shelf(shelf, ends, records)
+            say_endings(out, &endings, calls)?;
+            say_shelf(out, shelf, ends, records)
         }
-        Run::Wrong(call, fault) => say_fault_at(b"call ", call, fault),
+        Run::Wrong(call, fault) => say_fault_at(out, b"call ", call, fault),
     }
 }
 
 // Takes the starting shelf, and then the calls.
-fn answer_shelf(text: &[u8], shelf: &mut [u8], ends: &mut [usize]) {
+fn answer_shelf<W: Write>(
+    out: &mut W,
+    text: &[u8],
+    shelf: &mut [u8],
+    ends: &mut [usize],
+) -> io::Result<()> {
     let end = part_end(text, 0, CALL_MARK);
     match take_shelf(slice(text, 0, end), shelf, ends) {
         Start::Records(records) => {
-            answer_calls(slice(text, end, text.len() - end), shelf, ends, records)
+            answer_calls(
+                out,
+                slice(text, end, text.len() - end),
+                shelf,
+                ends,
+                records,
+            )
         }
-        Start::Wrong(place, fault) => say_fault_at(b"place ", place, fault),
+        Start::Wrong(place, fault) => say_fault_at(out, b"place ", place, fault),
     }
 }
 
-pub(crate) fn answer_run(text: &[u8]) {
+pub(crate) fn answer_run<W: Write>(out: &mut W, text: &[u8]) -> io::Result<()> {
     let mut shelf = [0u8; SHELF_ROOM];
     let mut ends = [0usize; PLACES];
-    answer_shelf(text, &mut shelf, &mut ends);
+    answer_shelf(out, text, &mut shelf, &mut ends)
 }

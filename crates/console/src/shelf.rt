@@ -4,6 +4,8 @@ use crate::say::{say, say_bytes};
 use crate::text::{ARGUMENT_MARK, Fault, Taken, part_end};
 use layout::util::slice;
 use layout::writer::copy;
+use std::io;
+use std::io::Write;
 
 // Room for the bytes of the records, and for how many. The longest line has records of half of these bytes at most, so that there is
 // room for more.
@@ -115,15 +117,20 @@ pub(crate) fn take_shelf(text: &[u8], shelf: &mut [u8], ends: &mut [usize]) -> S
     }
 }
 
-pub(crate) fn say_shelf(shelf: &[u8], ends: &[usize], records: usize) {
-    say(b"shelf ");
+pub(crate) fn say_shelf<W: Write>(
+    out: &mut W,
+    shelf: &[u8],
+    ends: &[usize],
+    records: usize,
+) -> io::Result<()> {
+    say(out, b"shelf ")?;
     let mut i = 0;
     while i < records {
         if i != 0 {
-            say(b" ; ");
+            say(out, b" ; ")?;
         }
-        say_bytes(record_at(shelf, ends, i));
+        say_bytes(out, record_at(shelf, ends, i))?;
         i += 1;
     }
-    say(b"\n");
+    say(out, b"\n")
 }

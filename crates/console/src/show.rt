@@ -18,6 +18,8 @@ use layout::jentry::{kind_of, read_jentry, type_code};
 use layout::sound::is_rising;
 use layout::util::{Header, read_header, slice};
 use layout::writer::put;
+use std::io;
+use std::io::Write;
 
 // A line: where the columns of the place and of the length end, where the root's words start, how much further in those of each level
 // start, and where those of the deepest do.
@@ -51,129 +53,137 @@ fn put_decimal(out: &mut [u8], end: usize, n: usize) {
 }
 
 // What a line has in front of its words. The allowance starts at the depth limit and falls level by level, so that it tells the level.
-fn say_columns(place: usize, length: usize, allowance: u32)
+fn say_columns<W: Write>(out: &mut W, place: usize, length: usize, allowance: u32) -> io::Result<()>
     requires { allowance ≤ 64 }
 {
     let level = (DEPTH_LIMIT - allowance) as usize;
     let mut columns = [b' '; WORDS_LIMIT];
     put_decimal(&mut columns, PLACE_END, place);
     put_decimal(&mut columns, LENGTH_END, length);
-    say(slice(&columns, 0, WORDS_START + INDENT * level));
+    say(out, slice(&columns, 0, WORDS_START + INDENT * level))
 }
 
 // ---- words
 
-fn say_array(n: usize) {
-    say(b"array of ");
-    say_decimal(n as u64);
-    say(b"\n");
+fn say_array<W: Write>(out: &mut W, n: usize) -> io::Result<()> {
+    say(out, b"array of ")?;
+    say_decimal(out, n as u64)?;
+    say(out, b"\n")
 }
 
 // Names that do not rise are told at their own object, and not at the containers around it.
-fn say_object(s: &[u8], n: usize)
+fn say_object<W: Write>(out: &mut W, s: &[u8], n: usize) -> io::Result<()>
     requires { n < 2 ^ 29 }
 {
-    say(b"object of ");
-    say_decimal(n as u64);
+    say(out, b"object of ")?;
+    say_decimal(out, n as u64)?;
     if !is_rising(s, n, HEADER_SIZE + JENTRY_SIZE * (n + n)) {
-        say(b", names do not rise");
+        say(out, b", names do not rise")?;
     }
-    say(b"\n");
+    say(out, b"\n")
 }
 
-fn say_index(index: usize) {
-    say(b"[");
-    say_decimal(index as u64);
-    say(b"]: ");
+fn say_index<W: Write>(out: &mut W, index: usize) -> io::Result<()> {
+    say(out, b"[")?;
+    say_decimal(out, index as u64)?;
+    say(out, b"]: ")
 }
 
-fn say_name(name: &[u8]) {
-    say_text(name);
-    say(b": ");
+fn say_name<W: Write>(out: &mut W, name: &[u8]) -> io::Result<()> {
+    say_text(out, name)?;
+    say(out, b": ")
 }
 
 // ---- levels. The place is always that of the slice s in the whole record.
 
 // The words of an item, and below its line those of what stands in it.
-#[cycle(show_container_show_item_show_items_show_members)]
-fn show_item(s: &[u8], item: JsonbItem, place: usize, allowance: u32)
+#[cycle(showing)]
+fn show_item<W: Write>(
+    out: &mut W,
+    s: &[u8],
+    item: JsonbItem,
+    place: usize,
+    allowance: u32,
+) -> io::Result<()>
     requires { (place + length s.now ≤ 65536) × (item.place ≤ length s.now) × (allowance ≤ 64) }
 {
     let payload = slice(s, item.place, item.length);
     let kind = item.kind;
     if let Kind::Container = kind {
-        return show_container(payload, place + item.place, allowance);
+        return show_container(out, payload, place + item.place, allowance);
     }
-    say_leaf(kind, payload);
-    say(b"\n");
+    say_leaf(out, kind, payload)?;
+    say(out, b"\n")
 }
 
 // A line for each item of an array, and below it those of what stands in it. The walk ends when the items do; counting them shows that
 // the loop does.
-#[cycle(show_container_show_item_show_items_show_members)]
-fn show_items(s: &[u8], place: usize, allowance: u32)
+#[cycle(showing)]
+fn show_items<W: Write>(out: &mut W, s: &[u8], place: usize, allowance: u32) -> io::Result<()>
     requires { (place + length s.now ≤ 65536) × (allowance ≤ 64) }
 {
     let ArrayOpen::Opened(first) = ArrayIterator::new(s) else {
-        return;
+        return Ok(());
     };
     let count = first.remaining;
     let mut walk = first;
     let mut index = 0;
     while index < count {
         let ArrayStep::Item(item, next) = walk.next(s) else {
-            return;
+            return Ok(());
         };
-        say_columns(place + item.place, item.length, allowance);
-        say_index(index);
-        show_item(s, item, place, allowance);
+        say_columns(out, place + item.place, item.length, allowance)?;
+        say_index(out, index)?;
+        show_item(out, s, item, place, allowance)?;
         walk = next;
         index += 1;
     }
+    Ok(())
 }
 
 // The same for an object.
-#[cycle(show_container_show_item_show_items_show_members)]
-fn show_members(s: &[u8], place: usize, allowance: u32)
+#[cycle(showing)]
+fn show_members<W: Write>(out: &mut W, s: &[u8], place: usize, allowance: u32) -> io::Result<()>
     requires { (place + length s.now ≤ 65536) × (allowance ≤ 64) }
 {
     let ObjectOpen::Opened(first) = ObjectIterator::new(s) else {
-        return;
+        return Ok(());
     };
     let count = first.remaining;
     let mut walk = first;
     let mut i = 0;
     while i < count {
         let ObjectStep::Member(member, next) = walk.next(s) else {
-            return;
+            return Ok(());
         };
-        say_columns(place + member.val.place, member.val.length, allowance);
-        say_name(slice(s, member.key.place, member.key.length));
-        show_item(s, member.val, place, allowance);
+        say_columns(out, place + member.val.place, member.val.length, allowance)?;
+        say_name(out, slice(s, member.key.place, member.key.length))?;
+        show_item(out, s, member.val, place, allowance)?;
         walk = next;
         i += 1;
     }
+    Ok(())
 }
 
 // The words of a container, and below its line its items, one level further in. No readable record is deeper than the allowance, and
 // none has a scalar in it.
-#[cycle(show_container_show_item_show_items_show_members)]
-fn show_container(s: &[u8], place: usize, allowance: u32)
+#[cycle(showing)]
+fn show_container<W: Write>(out: &mut W, s: &[u8], place: usize, allowance: u32) -> io::Result<()>
     requires { (place + length s.now ≤ 65536) × (allowance ≤ 64) }
 {
     if allowance == 0 {
-        return;
+        return Ok(());
     }
     match read_header(s) {
-        Header::Refused(_) => {}
-        Header::Scalar(_) => {}
+        Header::Refused(_) => Ok(()),
+        Header::Scalar(_) => Ok(()),
         Header::Array(n) => {
-            say_array(n);
-            show_items(s, place, allowance - 1);
+            say_array(out, n)?;
+            show_items(out, s, place, allowance - 1)
         }
         Header::Object(n) => {
-            say_object(s, n);
-            show_members(s, place, allowance - 1);
+            say_object(out, s, n)?;
+            show_members(out, s, place, allowance - 1)
         }
     }
 }
@@ -181,26 +191,26 @@ fn show_container(s: &[u8], place: usize, allowance: u32)
 // ---- the root
 
 // A scalar record is its one item.
-fn show_scalar(s: &[u8]) {
+fn show_scalar<W: Write>(out: &mut W, s: &[u8]) -> io::Result<()> {
     let payload = slice(s, SCALAR_START, s.len());
-    say_columns(SCALAR_START, payload.len(), DEPTH_LIMIT);
-    say_leaf(kind_of(type_code(read_jentry(s, 0))), payload);
-    say(b"\n");
+    say_columns(out, SCALAR_START, payload.len(), DEPTH_LIMIT)?;
+    say_leaf(out, kind_of(type_code(read_jentry(s, 0))), payload)?;
+    say(out, b"\n")
 }
 
-fn show_root(s: &[u8])
+fn show_root<W: Write>(out: &mut W, s: &[u8]) -> io::Result<()>
     requires { length s.now ≤ 65536 }
 {
     if let Header::Scalar(_) = read_header(s) {
-        return show_scalar(s);
+        return show_scalar(out, s);
     }
-    say_columns(0, s.len(), DEPTH_LIMIT);
-    show_container(s, 0, DEPTH_LIMIT);
+    say_columns(out, 0, s.len(), DEPTH_LIMIT)?;
+    show_container(out, s, 0, DEPTH_LIMIT)
 }
 
-pub(crate) fn show_record(s: &[u8]) {
+pub(crate) fn show_record<W: Write>(out: &mut W, s: &[u8]) -> io::Result<()> {
     match check_record(s) {
-        Check::Readable => show_root(s),
-        Check::Refused(refusal) => say_refused(refusal),
+        Check::Readable => show_root(out, s),
+        Check::Refused(refusal) => say_refused(out, refusal),
     }
 }

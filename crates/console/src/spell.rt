@@ -3,6 +3,8 @@ use crate::say::{say, say_bits, say_bytes, say_decimal, say_hex};
 use layout::item::Kind;
 use layout::number::Number;
 use layout::util::slice;
+use std::io;
+use std::io::Write;
 
 // The control bytes are those below the space, and the last of ASCII.
 const SPACE: u8 = 0x20;
@@ -23,131 +25,131 @@ fn is_escaped(c: u8) -> bool {
 }
 
 // A control byte stands as \u00 and two digits, a quotation mark and a reverse solidus behind a reverse solidus.
-fn say_escaped(c: u8) {
+fn say_escaped<W: Write>(out: &mut W, c: u8) -> io::Result<()> {
     let letter = [c];
     if is_control(c) {
-        say(b"\\u00");
-        return say_hex(&letter);
+        say(out, b"\\u00")?;
+        return say_hex(out, &letter);
     }
-    say(b"\\");
-    say(&letter);
+    say(out, b"\\")?;
+    say(out, &letter)
 }
 
 // Text between quotation marks. The bytes between two that are escaped are written at once.
-pub(crate) fn say_text(text: &[u8]) {
-    say(b"\"");
+pub(crate) fn say_text<W: Write>(out: &mut W, text: &[u8]) -> io::Result<()> {
+    say(out, b"\"")?;
     let mut start = 0;
     let mut i = 0;
     while i < text.len() {
         let c = text[i];
         if is_escaped(c) {
-            say(slice(text, start, i - start));
-            say_escaped(c);
+            say(out, slice(text, start, i - start))?;
+            say_escaped(out, c)?;
             start = i + 1;
         }
         i += 1;
     }
-    say(slice(text, start, i - start));
-    say(b"\"");
+    say(out, slice(text, start, i - start))?;
+    say(out, b"\"")
 }
 
 // ---- numbers
 
 // The least number has no positive counterpart: a negative one is turned around at −1, and what that takes is added without a sign.
-pub(crate) fn say_signed(v: i64) {
+pub(crate) fn say_signed<W: Write>(out: &mut W, v: i64) -> io::Result<()> {
     if v < 0 {
-        say(b"-");
-        return say_decimal((-1 - v) as u64 + 1);
+        say(out, b"-")?;
+        return say_decimal(out, (-1 - v) as u64 + 1);
     }
-    say_decimal(v as u64);
+    say_decimal(out, v as u64)
 }
 
-fn say_int(v: i64) {
-    say_signed(v);
-    say(b" (signed)");
+fn say_int<W: Write>(out: &mut W, v: i64) -> io::Result<()> {
+    say_signed(out, v)?;
+    say(out, b" (signed)")
 }
 
-fn say_uint(v: u64, length: usize) {
-    say_decimal(v);
+fn say_uint<W: Write>(out: &mut W, v: u64, length: usize) -> io::Result<()> {
+    say_decimal(out, v)?;
     if length == ZERO_LENGTH {
-        return say(b" (zero)");
+        return say(out, b" (zero)");
     }
-    say(b" (unsigned)");
+    say(out, b" (unsigned)")
 }
 
 // Of a float the bits are shown, as layout hands them out.
-fn say_float(bits: u64) {
-    say(b"bits ");
-    say_bits(bits);
-    say(b" (float)");
+fn say_float<W: Write>(out: &mut W, bits: u64) -> io::Result<()> {
+    say(out, b"bits ")?;
+    say_bits(out, bits)?;
+    say(out, b" (float)")
 }
 
-fn say_decimal64(value: i64, scale: u8) {
-    say_signed(value);
-    say(b" scale ");
-    say_decimal(scale as u64);
-    say(b" (decimal)");
+fn say_decimal64<W: Write>(out: &mut W, value: i64, scale: u8) -> io::Result<()> {
+    say_signed(out, value)?;
+    say(out, b" scale ")?;
+    say_decimal(out, scale as u64)?;
+    say(out, b" (decimal)")
 }
 
-fn say_wide_decimal(bytes: usize) {
-    say(b"of ");
-    say_decimal(bytes as u64);
-    say(b" bytes (decimal)");
+fn say_wide_decimal<W: Write>(out: &mut W, bytes: usize) -> io::Result<()> {
+    say(out, b"of ")?;
+    say_decimal(out, bytes as u64)?;
+    say(out, b" bytes (decimal)")
 }
 
 // By layout's reading of the payload, which never refuses one of a readable record.
-fn say_number_item(payload: &[u8]) {
-    say(b" ");
+fn say_number_item<W: Write>(out: &mut W, payload: &[u8]) -> io::Result<()> {
+    say(out, b" ")?;
     match Number::decode(payload) {
-        Number::Nan => say(b"NaN"),
-        Number::Infinity => say(b"infinity"),
-        Number::NegInfinity => say(b"minus infinity"),
-        Number::Int64(v) => say_int(v),
-        Number::UInt64(v) => say_uint(v, payload.len()),
-        Number::Float64(bits) => say_float(bits),
-        Number::Decimal64(value, scale) => say_decimal64(value, scale),
-        Number::WideDecimal(bytes) => say_wide_decimal(bytes),
-        Number::Refused(_) => {}
+        Number::Nan => say(out, b"NaN"),
+        Number::Infinity => say(out, b"infinity"),
+        Number::NegInfinity => say(out, b"minus infinity"),
+        Number::Int64(v) => say_int(out, v),
+        Number::UInt64(v) => say_uint(out, v, payload.len()),
+        Number::Float64(bits) => say_float(out, bits),
+        Number::Decimal64(value, scale) => say_decimal64(out, value, scale),
+        Number::WideDecimal(bytes) => say_wide_decimal(out, bytes),
+        Number::Refused(_) => Ok(()),
     }
 }
 
 // ---- items
 
 // The word of each kind.
-pub(crate) fn say_kind(kind: Kind) {
+pub(crate) fn say_kind<W: Write>(out: &mut W, kind: Kind) -> io::Result<()> {
     match kind {
-        Kind::Null => say(b"null"),
-        Kind::String => say(b"string"),
-        Kind::Number => say(b"number"),
-        Kind::False => say(b"false"),
-        Kind::True => say(b"true"),
-        Kind::Container => say(b"container"),
-        Kind::Extension => say(b"extension"),
+        Kind::Null => say(out, b"null"),
+        Kind::String => say(out, b"string"),
+        Kind::Number => say(out, b"number"),
+        Kind::False => say(out, b"false"),
+        Kind::True => say(out, b"true"),
+        Kind::Container => say(out, b"container"),
+        Kind::Extension => say(out, b"extension"),
     }
 }
 
-fn say_string(payload: &[u8]) {
-    say(b" ");
-    say_text(payload);
+fn say_string<W: Write>(out: &mut W, payload: &[u8]) -> io::Result<()> {
+    say(out, b" ")?;
+    say_text(out, payload)
 }
 
-fn say_extension(payload: &[u8]) {
-    say(b" ");
-    say_bytes(payload);
+fn say_extension<W: Write>(out: &mut W, payload: &[u8]) -> io::Result<()> {
+    say(out, b" ")?;
+    say_bytes(out, payload)
 }
 
 // What stands behind the word of a kind that does not say all.
-fn say_payload(kind: Kind, payload: &[u8]) {
+fn say_payload<W: Write>(out: &mut W, kind: Kind, payload: &[u8]) -> io::Result<()> {
     match kind {
-        Kind::String => say_string(payload),
-        Kind::Number => say_number_item(payload),
-        Kind::Extension => say_extension(payload),
-        _ => {}
+        Kind::String => say_string(out, payload),
+        Kind::Number => say_number_item(out, payload),
+        Kind::Extension => say_extension(out, payload),
+        _ => Ok(()),
     }
 }
 
 // An item that is no container.
-pub(crate) fn say_leaf(kind: Kind, payload: &[u8]) {
-    say_kind(kind);
-    say_payload(kind, payload);
+pub(crate) fn say_leaf<W: Write>(out: &mut W, kind: Kind, payload: &[u8]) -> io::Result<()> {
+    say_kind(out, kind)?;
+    say_payload(out, kind, payload)
 }

@@ -13,6 +13,8 @@ use layout::item::{Characters, JsonbItem};
 use layout::iterator::{ArrayIterator, ArrayStep, ObjectIterator, ObjectMember, ObjectStep};
 use layout::order::is_same_bytes;
 use layout::util::slice;
+use std::io;
+use std::io::Write;
 
 // The numbers of a walk.
 const ARRAY_NUMBERS: usize = 3;
@@ -89,72 +91,77 @@ fn ask(text: &[u8]) -> Asked {
 // ---- the answer
 
 // A number behind another word.
-fn say_next(n: usize) {
-    say(b" ");
-    say_decimal(n as u64);
+fn say_next<W: Write>(out: &mut W, n: usize) -> io::Result<()> {
+    say(out, b" ")?;
+    say_decimal(out, n as u64)
 }
 
 // The place and the length of an item, and behind them, where it is a name or a string, how many characters it has.
-fn say_measures(item: JsonbItem) {
-    say_next(item.place);
-    say_next(item.length);
+fn say_measures<W: Write>(out: &mut W, item: JsonbItem) -> io::Result<()> {
+    say_next(out, item.place)?;
+    say_next(out, item.length)?;
     let characters = item.characters;
     if let Characters::Count(n) = characters {
-        say_next(n);
+        say_next(out, n)?;
     }
+    Ok(())
 }
 
-fn say_item(item: JsonbItem) {
+fn say_item<W: Write>(out: &mut W, item: JsonbItem) -> io::Result<()> {
     let kind = item.kind;
-    say_kind(kind);
-    say_measures(item);
+    say_kind(out, kind)?;
+    say_measures(out, item)
 }
 
-fn say_array_item(item: JsonbItem, next: ArrayIterator) {
-    say(b"item ");
-    say_item(item);
-    say(b" then");
-    say_next(next.jentry_offset);
-    say_next(next.item_offset);
-    say_next(next.remaining);
-    say(b"\n");
+fn say_array_item<W: Write>(out: &mut W, item: JsonbItem, next: ArrayIterator) -> io::Result<()> {
+    say(out, b"item ")?;
+    say_item(out, item)?;
+    say(out, b" then")?;
+    say_next(out, next.jentry_offset)?;
+    say_next(out, next.item_offset)?;
+    say_next(out, next.remaining)?;
+    say(out, b"\n")
 }
 
 // A name is a string in any case, so that its kind is not said.
-fn say_object_member(member: ObjectMember, next: ObjectIterator) {
-    say(b"member");
-    say_measures(member.key);
-    say(b" ");
-    say_item(member.val);
-    say(b" then");
-    say_next(next.key_jentry_offset);
-    say_next(next.val_jentry_offset);
-    say_next(next.key_offset);
-    say_next(next.val_offset);
-    say_next(next.remaining);
-    say(b"\n");
+fn say_object_member<W: Write>(
+    out: &mut W,
+    member: ObjectMember,
+    next: ObjectIterator,
+) -> io::Result<()> {
+    say(out, b"member")?;
+    say_measures(out, member.key)?;
+    say(out, b" ")?;
+    say_item(out, member.val)?;
+    say(out, b" then")?;
+    say_next(out, next.key_jentry_offset)?;
+    say_next(out, next.val_jentry_offset)?;
+    say_next(out, next.key_offset)?;
+    say_next(out, next.val_offset)?;
+    say_next(out, next.remaining)?;
+    say(out, b"\n")
 }
 
-fn step_array(walk: ArrayIterator, s: &[u8]) {
+fn step_array<W: Write>(out: &mut W, walk: ArrayIterator, s: &[u8]) -> io::Result<()> {
     match walk.next(s) {
-        ArrayStep::Item(item, next) => say_array_item(item, next),
-        ArrayStep::End => say(b"end\n"),
-        ArrayStep::Refused(refusal) => say_refused(refusal),
+        ArrayStep::Item(item, next) => say_array_item(out, item, next),
+        ArrayStep::End => say(out, b"end\n"),
+        ArrayStep::Refused(refusal) => say_refused(out, refusal),
     }
 }
 
-fn step_object(walk: ObjectIterator, s: &[u8]) {
+fn step_object<W: Write>(out: &mut W, walk: ObjectIterator, s: &[u8]) -> io::Result<()> {
     match walk.next(s) {
-        ObjectStep::Member(member, next) => say_object_member(member, next),
-        ObjectStep::End => say(b"end\n"),
-        ObjectStep::Refused(refusal) => say_refused(refusal),
+        ObjectStep::Member(member, next) => say_object_member(out, member, next),
+        ObjectStep::End => say(out, b"end\n"),
+        ObjectStep::Refused(refusal) => say_refused(out, refusal),
     }
 }
 
-fn step(walk: Walk, s: &[u8]) {
+fn step<W: Write>(out: &mut W, walk: Walk, s: &[u8]) -> io::Result<()> {
     match walk {
-        Walk::Array(walk) => step_array(walk, s),
-        Walk::Object(walk) => step_object(walk, s),
+        Walk::Array(walk) => step_array(out, walk, s),
+        Walk::Object(walk) => step_object(out, walk, s),
     }
 }
 
@@ -166,20 +173,20 @@ fn take_slice(text: &[u8], out: &mut [u8]) -> Taken {
 }
 
 // Takes the slice behind the walk.
-fn answer_walk(walk: Walk, text: &[u8]) {
+fn answer_walk<W: Write>(out: &mut W, walk: Walk, text: &[u8]) -> io::Result<()> {
     let mut bytes = [0u8; LINE_ROOM];
     match take_slice(argument(text, 1), &mut bytes) {
-        Taken::Length(n) => step(walk, slice(&bytes, 0, n)),
-        Taken::Wrong(fault) => say_fault(fault),
+        Taken::Length(n) => step(out, walk, slice(&bytes, 0, n)),
+        Taken::Wrong(fault) => say_fault(out, fault),
     }
 }
 
-pub(crate) fn answer_step(text: &[u8]) {
+pub(crate) fn answer_step<W: Write>(out: &mut W, text: &[u8]) -> io::Result<()> {
     if count_arguments(text) != 2 {
-        return say_fault(Fault::NoWalk);
+        return say_fault(out, Fault::NoWalk);
     }
     match ask(argument(text, 0)) {
-        Asked::Walk(walk) => answer_walk(walk, text),
-        Asked::Wrong(fault) => say_fault(fault),
+        Asked::Walk(walk) => answer_walk(out, walk, text),
+        Asked::Wrong(fault) => say_fault(out, fault),
     }
 }

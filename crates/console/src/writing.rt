@@ -8,6 +8,8 @@ use layout::ending::Ending;
 use layout::util::slice;
 use layout::writer::least;
 use runs::call::{Edit, make_edit};
+use std::io;
+use std::io::Write;
 
 // What a call makes: an edit, or one that takes flight records and gives flight records.
 #[derive(Drop)]
@@ -60,59 +62,97 @@ fn write(writing: Writing, first: &[u8], second: &[u8], out: &mut [u8]) -> Endin
 }
 
 // Makes it with a buffer of a length.
-fn answer_lent(writing: Writing, first: &[u8], second: &[u8], length: usize) {
+fn answer_lent<W: Write>(
+    out: &mut W,
+    writing: Writing,
+    first: &[u8],
+    second: &[u8],
+    length: usize,
+) -> io::Result<()> {
     let mut room = [0u8; RESULT_ROOM];
     let ending = write(writing, first, second, lent(&mut room, length));
-    say_ending(ending, &room);
+    say_ending(out, ending, &room)
 }
 
 // Takes the buffer's length behind so many records.
-fn answer_length(writing: Writing, first: &[u8], second: &[u8], text: &[u8], records: usize) {
+fn answer_length<W: Write>(
+    out: &mut W,
+    writing: Writing,
+    first: &[u8],
+    second: &[u8],
+    text: &[u8],
+    records: usize,
+) -> io::Result<()> {
     match take_length(text, records) {
-        Taken::Length(n) => answer_lent(writing, first, second, n),
-        Taken::Wrong(fault) => say_fault(fault),
+        Taken::Length(n) => answer_lent(out, writing, first, second, n),
+        Taken::Wrong(fault) => say_fault(out, fault),
     }
 }
 
 // Takes the second record.
-fn answer_second(writing: Writing, first: &[u8], text: &[u8]) {
+fn answer_second<W: Write>(
+    out: &mut W,
+    writing: Writing,
+    first: &[u8],
+    text: &[u8],
+) -> io::Result<()> {
     let mut record = [0u8; RECORD_ROOM];
     match decode(argument(text, 1), &mut record) {
-        Taken::Length(n) => answer_length(writing, first, slice(&record, 0, n), text, TWO_RECORDS),
-        Taken::Wrong(fault) => say_fault(fault),
+        Taken::Length(n) => answer_length(
+            out,
+            writing,
+            first,
+            slice(&record, 0, n),
+            text,
+            TWO_RECORDS,
+        ),
+        Taken::Wrong(fault) => say_fault(out, fault),
     }
 }
 
 // Takes the arguments of a call with two records, from the left, or says why one is none.
-pub(crate) fn answer_two(writing: Writing, text: &[u8]) {
+pub(crate) fn answer_two<W: Write>(out: &mut W, writing: Writing, text: &[u8]) -> io::Result<()> {
     let count = count_arguments(text);
     if (count != TWO_RECORDS) & (count != TWO_RECORDS + 1) {
-        return say(b"? this call takes two records, and the buffer's length if you like\n");
+        return say(
+            out,
+            b"? this call takes two records, and the buffer's length if you like\n",
+        );
     }
     let mut record = [0u8; RECORD_ROOM];
     match decode(argument(text, 0), &mut record) {
-        Taken::Length(n) => answer_second(writing, slice(&record, 0, n), text),
-        Taken::Wrong(fault) => say_fault(fault),
+        Taken::Length(n) => answer_second(out, writing, slice(&record, 0, n), text),
+        Taken::Wrong(fault) => say_fault(out, fault),
     }
 }
 
 // The same for strip, which takes one.
-pub(crate) fn answer_strip(writing: Writing, text: &[u8]) {
+pub(crate) fn answer_strip<W: Write>(out: &mut W, writing: Writing, text: &[u8]) -> io::Result<()> {
     let count = count_arguments(text);
     if (count != ONE_RECORD) & (count != ONE_RECORD + 1) {
-        return say(b"? this call takes one record, and the buffer's length if you like\n");
+        return say(
+            out,
+            b"? this call takes one record, and the buffer's length if you like\n",
+        );
     }
     let mut record = [0u8; RECORD_ROOM];
     match decode(argument(text, 0), &mut record) {
-        Taken::Length(n) => answer_length(writing, slice(&record, 0, n), b"", text, ONE_RECORD),
-        Taken::Wrong(fault) => say_fault(fault),
+        Taken::Length(n) => answer_length(
+            out,
+            writing,
+            slice(&record, 0, n),
+            b"",
+            text,
+            ONE_RECORD,
+        ),
+        Taken::Wrong(fault) => say_fault(out, fault),
     }
 }
 
-pub(crate) fn answer_edit(edit: Edit, text: &[u8]) {
+pub(crate) fn answer_edit<W: Write>(out: &mut W, edit: Edit, text: &[u8]) -> io::Result<()> {
     match given_of(edit) {
-        Given::Record => answer_strip(Writing::Plain(edit), text),
-        Given::RecordAndPath => answer_two(Writing::Plain(edit), text),
-        Given::TwoRecords => answer_two(Writing::Plain(edit), text),
+        Given::Record => answer_strip(out, Writing::Plain(edit), text),
+        Given::RecordAndPath => answer_two(out, Writing::Plain(edit), text),
+        Given::TwoRecords => answer_two(out, Writing::Plain(edit), text),
     }
 }
