@@ -4,4 +4,4 @@ use Rattle.std.proofs.lemmas.List.{length-replicate}
 use Rattle.console.proofs.main.Goals as goal
 
 pub slice_bounds-answer_input-end : goal.slice_bounds-answer_input-end
-slice_bounds-answer_input-end c = sym (length-replicate {0} {ℕ} 524288 0)
+slice_bounds-answer_input-end c = sym (length-replicate {0} {A = ℕ} 524288 0)

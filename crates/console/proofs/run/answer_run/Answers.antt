@@ -4,4 +4,4 @@ use Rattle.std.proofs.lemmas.List.{length-replicate}
 use Rattle.console.proofs.run.answer_run.Goals as goal
 
 pub slice_bounds-answer_shelf-end : goal.slice_bounds-answer_shelf-end
-slice_bounds-answer_shelf-end g c = sym (length-replicate {0} {ℕ} 524288 0)
+slice_bounds-answer_shelf-end g c = sym (length-replicate {0} {A = ℕ} 524288 0)

@@ -15,7 +15,7 @@ show_items-overflow_add-place g t c =
 pub show_items-show_item-requires : goal.show_items-show_item-requires
 show_items-show_item-requires g t c κs within =
     let inside : c.in-Item.item.place ≤ length c.args.s.now =
-        omega (arith, item_inside _ c.loop-index.walk _ _ _ c.next.ensures c.in-Item.is) in
+    omega (arith, item_inside _ c.loop-index.walk _ _ _ c.next.ensures c.in-Item.is) in
     search rules
 
 pub show_members-overflow_add-place : goal.show_members-overflow_add-place
@@ -25,5 +25,5 @@ show_members-overflow_add-place g t c =
 pub show_members-show_item-requires : goal.show_members-show_item-requires
 show_members-show_item-requires g t c κs within =
     let inside : c.in-Member.member.val.place ≤ length c.args.s.now =
-        omega (arith, value_inside _ c.loop-i.walk _ _ _ c.next.ensures c.in-Member.is) in
+    omega (arith, value_inside _ c.loop-i.walk _ _ _ c.next.ensures c.in-Member.is) in
     search rules
