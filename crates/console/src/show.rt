@@ -97,7 +97,7 @@ fn say_name<W: Write>(out: &mut W, name: &[u8]) -> io::Result<()> {
 // ---- levels. The place is always that of the slice s in the whole record.
 
 // The words of an item, and below its line those of what stands in it.
-#[cycle(showing)]
+#[cycle(outlines)]
 fn show_item<W: Write>(
     out: &mut W,
     s: &[u8],
@@ -118,7 +118,7 @@ fn show_item<W: Write>(
 
 // A line for each item of an array, and below it those of what stands in it. The walk ends when the items do; counting them shows that
 // the loop does.
-#[cycle(showing)]
+#[cycle(outlines)]
 fn show_items<W: Write>(out: &mut W, s: &[u8], place: usize, allowance: u32) -> io::Result<()>
     requires { (place + length s.now ≤ 65536) × (allowance ≤ 64) }
 {
@@ -142,7 +142,7 @@ fn show_items<W: Write>(out: &mut W, s: &[u8], place: usize, allowance: u32) -> 
 }
 
 // The same for an object.
-#[cycle(showing)]
+#[cycle(outlines)]
 fn show_members<W: Write>(out: &mut W, s: &[u8], place: usize, allowance: u32) -> io::Result<()>
     requires { (place + length s.now ≤ 65536) × (allowance ≤ 64) }
 {
@@ -167,7 +167,7 @@ fn show_members<W: Write>(out: &mut W, s: &[u8], place: usize, allowance: u32) -
 
 // The words of a container, and below its line its items, one level further in. No readable record is deeper than the allowance, and
 // none has a scalar in it.
-#[cycle(showing)]
+#[cycle(outlines)]
 fn show_container<W: Write>(out: &mut W, s: &[u8], place: usize, allowance: u32) -> io::Result<()>
     requires { (place + length s.now ≤ 65536) × (allowance ≤ 64) }
 {

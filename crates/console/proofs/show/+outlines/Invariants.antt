@@ -1,7 +1,7 @@
 -- `console::show::show_container`, `console::show::show_item`, `console::show::show_items` and `console::show::show_members` meet
 -- their contracts. They call each other; the number that falls is three times the allowance, and a place in the turn.
 use Rattle.std.proofs.Common.{◌+◌, ◌*◌, ◌-◌, ◌≤◌}
-use Rattle.console.proofs.show.+showing.Given as goal
+use Rattle.console.proofs.show.+outlines.Given as goal
 
 abbrev pub decreases-show_container : goal.decreases-show_container
 decreases-show_container g l = 3 * l.allowance

@@ -3,7 +3,7 @@
 use Rattle.std.proofs.Common.{◌≤◌, length, arith, rules}
 use Rattle.layout.proofs.Checks.{told_object}
 use Rattle.layout.proofs.Numbered.{item_inside, value_inside}
-use Rattle.console.proofs.show.+showing.Goals as goal
+use Rattle.console.proofs.show.+outlines.Goals as goal
 
 pub show_container-say_object-requires : goal.show_container-say_object-requires
 show_container-say_object-requires g t c = (told_object _ _ c.read_header.ensures _ c.in-Object.is).1
