@@ -41,5 +41,5 @@ pub returns-in-Inside : goal.returns-in-Inside
 returns-in-Inside c =
     ended_same _ _
     (beside_inside _ _ (left_octets (goal.at.returns-in-Inside c).After-slice_known-1) (right_octets (goal.at.returns-in-Inside c).After-slice_known-1)
-        (sym (beside_told (goal.at.returns-in-Inside c).After-profile_of_both) ∙ c.in-Inside.is) _)
+    (sym (beside_told (goal.at.returns-in-Inside c).After-profile_of_both) ∙ c.in-Inside.is) _)
     c.concat.ensures
