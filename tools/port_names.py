@@ -1,7 +1,7 @@
 #!/usr/bin/env python3
 """Brings the names of this repository's own definitions and lemmas to the spelling of today's Rattle: snake case, and facts in upper camel case.
 
-usage: python3 tools/port_names.py [FOLDER]      run once, at the top, after /opt/rattle/port/port.py
+usage: python3 tools/port_names.py [FOLDER]      run once, at the top, after the kit's port.py
 
 A name that a file of specs/ or proofs/ declares, or takes from src/ under another spelling, is respelled wherever it stands: in .antt and .rt
 files, in must-fail edits, and between backticks in comments and in pages. A dash becomes an underscore (`kind-of` is `kind_of`); in a fact,
@@ -60,6 +60,9 @@ def respelled(name):
 
 
 def main():
+    if any(os.path.basename(path) == "Answers.antt" for path in texts(".antt")):
+        print("it has run here already: the names of goals in Answers.antt have dashes of their own")
+        return 1
     names = {}
     for path in texts(".antt"):
         if "/proofs/" in path and os.path.basename(path) == "Proof.antt":
