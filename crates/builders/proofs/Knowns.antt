@@ -5,7 +5,8 @@ use native.Mathlib.Decide.{dec_le}
 use mathlib.Core.Path.{◌≡◌, refl, ap, sym, ◌∙◌}
 use mathlib.Core.Bool.{Bool, true, false, cond}
 use lib.Dec.{leb}
-use lib.ListN.{length}
+use lib.ListN.{length, get_or}
+use Rattle.std.proofs.Common.{Fits as FitsWord, w8}
 use borrow.Author.Tests.{le-leb, lt-leb}
 use Rattle.layout.specs.Bytes.{Bytes, Octets}
 use Rattle.layout.specs.Answer.{Answer, gives, refused}
@@ -21,6 +22,7 @@ use Rattle.layout.specs.declared.check.Nesting.{Nesting}
 use Rattle.layout.specs.declared.check.Nesting.TheVariants.{Fits, Deep, Refused as NotNested}
 use Rattle.layout.proofs.Decoding.{read_sound}
 use Rattle.layout.proofs.Nestings.{head_of, header_read}
+use Rattle.layout.proofs.Words.{slice_octets}
 use Rattle.builders.specs.Build.{items_of}
 
 -- A record that reads as `t`.
@@ -48,6 +50,9 @@ known s t o e =
 pub record BothOctets (l r : Bytes) : Type 0 where
   pub left : Octets l
   pub right : Octets r
+
+pub both_octets : (l r : Bytes) → ((i : ℕ) → FitsWord w8 (get_or l i 0)) → ((i : ℕ) → FitsWord w8 (get_or r i 0)) → BothOctets l r
+both_octets l r h k = record { left = slice_octets l h; right = slice_octets r k }
 
 -- A record by its header.
 pub no_array : (t : Tree) → ((n : ℕ) → head_of t ≡ Array n → ⊥) → items_of t ≡ refused Kind

@@ -138,9 +138,9 @@ pub fn put_members(
     out: &mut [u8],
     to: Places,
 )
-    requires count_bound { (count < 2 ^ 29)
+    requires from_near { (count < 2 ^ 29)
         × (from.key_jentry < 2 ^ 32) × (from.val_jentry < 2 ^ 32) × (from.key < 2 ^ 32) × (from.val < 2 ^ 32) }
-    requires key_jentry_bound { (to.key_jentry < 2 ^ 32) × (to.val_jentry < 2 ^ 32) × (to.key < 2 ^ 32) × (to.val < 2 ^ 32) }
+    requires to_near { (to.key_jentry < 2 ^ 32) × (to.val_jentry < 2 ^ 32) × (to.key < 2 ^ 32) × (to.val < 2 ^ 32) }
     ensures { out.new
         ≡ woven (name_in keys.now) (value_in vals.now) own_entry out.old
         to.key_jentry to.val_jentry to.key to.val

@@ -4,6 +4,7 @@ use native.Mathlib.Omega.{arith}
 use mathlib.Core.Path.{◌≡◌, refl, ap}
 use mathlib.Core.List.{[], ◌∷◌, ◌++◌}
 use lib.ListN.{length, take, drop, get_or}
+use Rattle.std.proofs.Common.{Fits, w8}
 use Rattle.layout.specs.Bytes.{Bytes, be32, word, Octets}
 
 -- The four bytes of a field, and the field of four bytes, written out.
@@ -70,7 +71,10 @@ pub octets_append : (a b : Bytes) → Octets a → Octets b → Octets (a ++ b)
 octets_append [] b o p = p
 octets_append (x ∷ a) b o p = (o.0, octets_append a b o.1 p)
 
--- From what a slice of `u8` gives.
+-- From numbers below 256, and from what a slice of `u8` is known to hold.
 pub octets_of : (b : Bytes) → ((i : ℕ) → get_or b i 0 < 256) → Octets b
 octets_of [] h = tt
 octets_of (x ∷ b) h = (h 0, octets_of b (λ i. h (suc i)))
+
+pub slice_octets : (b : Bytes) → ((i : ℕ) → Fits w8 (get_or b i 0)) → Octets b
+slice_octets b h = octets_of b (λ i. omega (arith, h i))

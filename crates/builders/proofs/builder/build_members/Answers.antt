@@ -1,7 +1,7 @@
 -- `builders::builder::build_members` meets its contract.
 use native.Mathlib.Omega.{arith}
 use mathlib.Core.Path.{sym, ◌∙◌}
-use Rattle.layout.proofs.Words.{octets_of}
+use Rattle.builders.proofs.Knowns.{both_octets}
 use Rattle.builders.proofs.Builds.{Bounds, Paired, pairs_bounds, pairs_lie, pairs_rising, pairs_repeated}
 use Rattle.builders.proofs.builder.build_members.Goals.{After-slice_known-1}
 use Rattle.builders.proofs.builder.build_members.Goals as goal
@@ -10,10 +10,7 @@ use Rattle.builders.proofs.builder.build_members.Goals as goal
 paired : (c : After-slice_known-1) → Paired c.args.names.now c.args.values.now c.args.n
 paired c =
     record {
-      octets = record {
-        left = octets_of c.args.names.now (λ i. omega (arith, c.type_inv.names i));
-        right = octets_of c.args.values.now (λ i. omega (arith, c.type_inv.values i));
-      };
+      octets = both_octets c.args.names.now c.args.values.now c.type_inv.names c.type_inv.values;
       pairs = c.requires;
     }
 

@@ -2,9 +2,8 @@
 use Prim.Native.Nat.{◌^◌, ◌<◌}
 use native.Mathlib.Omega.{arith}
 use mathlib.Core.Path.{sym, ◌∙◌}
-use Rattle.layout.proofs.Words.{octets_of}
 use Rattle.layout.proofs.Checks.{told_array}
-use Rattle.builders.proofs.Knowns.{BothOctets}
+use Rattle.builders.proofs.Knowns.{both_octets, BothOctets}
 use Rattle.builders.proofs.Appends.{ArrayRead, BothRead, Counted}
 use Rattle.builders.proofs.Appends.{append_left, append_right, append_kind, append_deep, append_lies, append_ends}
 use Rattle.builders.proofs.builder.write_appended.Goals.{After-shared_slice_known-2-1, In-Array, In_default, In_default-nesting}
@@ -12,56 +11,34 @@ use Rattle.builders.proofs.builder.write_appended.Goals as goal
 
 -- What is known past each test.
 octets : (c : After-shared_slice_known-2-1) → BothOctets c.args.array.now c.args.item.now
-octets c =
-    record {
-      left = octets_of c.args.array.now (λ i. omega (arith, c.type_inv.array i));
-      right = octets_of c.args.item.now (λ i. omega (arith, c.type_inv.item i));
-    }
+octets c = both_octets c.args.array.now c.args.item.now c.type_inv.array c.type_inv.item
 
 array_read : (c : In_default) → ArrayRead c.args.array.now c.args.item.now
-array_read c =
-    record {
-      octets = (
-          record {
-            left = octets_of c.args.array.now (λ i. omega (arith, c.type_inv.array i));
-            right = octets_of c.args.item.now (λ i. omega (arith, c.type_inv.item i));
-          });
-      array = sym c.check_record.ensures ∙ c.in_default.is;
-    }
+array_read c = record {
+  octets = both_octets c.args.array.now c.args.item.now c.type_inv.array c.type_inv.item;
+  array = sym c.check_record.ensures ∙ c.in_default.is;
+}
 
 both_read : (c : In_default-nesting) → BothRead c.args.array.now c.args.item.now
-both_read c =
-    record {
-      before = (
-          record {
-            octets = (
-                record {
-                  left = octets_of c.args.array.now (λ i. omega (arith, c.type_inv.array i));
-                  right = octets_of c.args.item.now (λ i. omega (arith, c.type_inv.item i));
-                });
-            array = sym c.check_record.ensures ∙ c.in_default.is;
-          });
-      item = λ x e. c.in_default-nesting.not-Refused x (c.check_nesting-nesting.ensures ∙ e);
-    }
+both_read c = record {
+  before = record {
+    octets = both_octets c.args.array.now c.args.item.now c.type_inv.array c.type_inv.item;
+    array = sym c.check_record.ensures ∙ c.in_default.is;
+  };
+  item = λ x e. c.in_default-nesting.not-Refused x (c.check_nesting-nesting.ensures ∙ e);
+}
 
 counted : (c : In-Array) → Counted c.args.array.now c.args.item.now c.in-Array.n
-counted c =
-    record {
-      before = (
-          record {
-            before = (
-                record {
-                  octets = (
-                      record {
-                        left = octets_of c.args.array.now (λ i. omega (arith, c.type_inv.array i));
-                        right = octets_of c.args.item.now (λ i. omega (arith, c.type_inv.item i));
-                      });
-                  array = sym c.check_record.ensures ∙ c.in_default.is;
-                });
-            item = λ x e. c.in_default-nesting.not-Refused x (c.check_nesting-nesting.ensures ∙ e);
-          });
-      count = sym c.read_header.ensures ∙ c.in-Array.is;
-    }
+counted c = record {
+  before = record {
+    before = record {
+      octets = both_octets c.args.array.now c.args.item.now c.type_inv.array c.type_inv.item;
+      array = sym c.check_record.ensures ∙ c.in_default.is;
+    };
+    item = λ x e. c.in_default-nesting.not-Refused x (c.check_nesting-nesting.ensures ∙ e);
+  };
+  count = sym c.read_header.ensures ∙ c.in-Array.is;
+}
 
 few : (c : In-Array) → c.in-Array.n < 2 ^ 29
 few c = (told_array _ _ c.read_header.ensures _ c.in-Array.is).1

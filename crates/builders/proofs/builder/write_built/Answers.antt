@@ -1,9 +1,7 @@
 -- `builders::builder::write_built` meets its contract.
-use native.Mathlib.Omega.{arith}
 use mathlib.Core.Path.{sym, ◌∙◌}
-use Rattle.layout.proofs.Words.{octets_of}
 use Rattle.layout.proofs.Checks.{told_array}
-use Rattle.builders.proofs.Knowns.{BothOctets}
+use Rattle.builders.proofs.Knowns.{both_octets, BothOctets}
 use Rattle.builders.proofs.Builds.{NamesRead, BothRead, NamesCounted, BothCounted}
 use Rattle.builders.proofs.Builds.{build_left, build_right, build_no_names, build_no_values, build_unequal, build_no_strings, build_pairs}
 use Rattle.builders.proofs.builder.write_built.Goals.{After-shared_slice_known-2-1, In-Array, In-Array-read_header, In_default, In_default-check_record}
@@ -11,79 +9,49 @@ use Rattle.builders.proofs.builder.write_built.Goals as goal
 
 -- What is known past each test.
 octets : (c : After-shared_slice_known-2-1) → BothOctets c.args.names.now c.args.values.now
-octets c =
-    record {
-      left = octets_of c.args.names.now (λ i. omega (arith, c.type_inv.names i));
-      right = octets_of c.args.values.now (λ i. omega (arith, c.type_inv.values i));
-    }
+octets c = both_octets c.args.names.now c.args.values.now c.type_inv.names c.type_inv.values
 
 names_read : (c : In_default) → NamesRead c.args.names.now c.args.values.now
-names_read c =
-    record {
-      octets = (
-          record {
-            left = octets_of c.args.names.now (λ i. omega (arith, c.type_inv.names i));
-            right = octets_of c.args.values.now (λ i. omega (arith, c.type_inv.values i));
-          });
-      names = sym c.check_record.ensures ∙ c.in_default.is;
-    }
+names_read c = record {
+  octets = both_octets c.args.names.now c.args.values.now c.type_inv.names c.type_inv.values;
+  names = sym c.check_record.ensures ∙ c.in_default.is;
+}
 
 both_read : (c : In_default-check_record) → BothRead c.args.names.now c.args.values.now
-both_read c =
-    record {
-      before = (
-          record {
-            octets = (
-                record {
-                  left = octets_of c.args.names.now (λ i. omega (arith, c.type_inv.names i));
-                  right = octets_of c.args.values.now (λ i. omega (arith, c.type_inv.values i));
-                });
-            names = sym c.check_record.ensures ∙ c.in_default.is;
-          });
-      values = sym c.check_record-2.ensures ∙ c.in_default-check_record.is;
-    }
+both_read c = record {
+  before = record {
+    octets = both_octets c.args.names.now c.args.values.now c.type_inv.names c.type_inv.values;
+    names = sym c.check_record.ensures ∙ c.in_default.is;
+  };
+  values = sym c.check_record-2.ensures ∙ c.in_default-check_record.is;
+}
 
 names_counted : (c : In-Array) → NamesCounted c.args.names.now c.args.values.now c.in-Array.n
-names_counted c =
-    record {
-      before = (
-          record {
-            before = (
-                record {
-                  octets = (
-                      record {
-                        left = octets_of c.args.names.now (λ i. omega (arith, c.type_inv.names i));
-                        right = octets_of c.args.values.now (λ i. omega (arith, c.type_inv.values i));
-                      });
-                  names = sym c.check_record.ensures ∙ c.in_default.is;
-                });
-            values = sym c.check_record-2.ensures ∙ c.in_default-check_record.is;
-          });
-      count = sym c.read_header.ensures ∙ c.in-Array.is;
-    }
+names_counted c = record {
+  before = record {
+    before = record {
+      octets = both_octets c.args.names.now c.args.values.now c.type_inv.names c.type_inv.values;
+      names = sym c.check_record.ensures ∙ c.in_default.is;
+    };
+    values = sym c.check_record-2.ensures ∙ c.in_default-check_record.is;
+  };
+  count = sym c.read_header.ensures ∙ c.in-Array.is;
+}
 
 both_counted : (c : In-Array-read_header) → BothCounted c.args.names.now c.args.values.now c.in-Array.n c.in-Array-read_header.count
-both_counted c =
-    record {
-      before = (
-          record {
-            before = (
-                record {
-                  before = (
-                      record {
-                        octets = (
-                            record {
-                              left = octets_of c.args.names.now (λ i. omega (arith, c.type_inv.names i));
-                              right = octets_of c.args.values.now (λ i. omega (arith, c.type_inv.values i));
-                            });
-                        names = sym c.check_record.ensures ∙ c.in_default.is;
-                      });
-                  values = sym c.check_record-2.ensures ∙ c.in_default-check_record.is;
-                });
-            count = sym c.read_header.ensures ∙ c.in-Array.is;
-          });
-      count = sym c.read_header-2.ensures ∙ c.in-Array-read_header.is;
-    }
+both_counted c = record {
+  before = record {
+    before = record {
+      before = record {
+        octets = both_octets c.args.names.now c.args.values.now c.type_inv.names c.type_inv.values;
+        names = sym c.check_record.ensures ∙ c.in_default.is;
+      };
+      values = sym c.check_record-2.ensures ∙ c.in_default-check_record.is;
+    };
+    count = sym c.read_header.ensures ∙ c.in-Array.is;
+  };
+  count = sym c.read_header-2.ensures ∙ c.in-Array-read_header.is;
+}
 
 pub returns-in-Refused : goal.returns-in-Refused
 returns-in-Refused c = build_left (octets (goal.at.returns-in-Refused c).After-shared_slice_known-2-1) _ c.check_record.ensures c.in-Refused.is

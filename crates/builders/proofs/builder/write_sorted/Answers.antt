@@ -1,7 +1,7 @@
 -- `builders::builder::write_sorted` meets its contract.
 use native.Mathlib.Omega.{arith}
 use mathlib.Core.Path.{refl}
-use Rattle.layout.proofs.Words.{octets_of}
+use Rattle.builders.proofs.Knowns.{both_octets}
 use Rattle.builders.proofs.Builds.{Bounds, Paired, pairs_bounds, pairs_refused, pairs_measured, pairs_done}
 use Rattle.builders.proofs.builder.write_sorted.Goals.{After-slice_known-1}
 use Rattle.builders.proofs.builder.write_sorted.Goals as goal
@@ -10,10 +10,7 @@ use Rattle.builders.proofs.builder.write_sorted.Goals as goal
 paired : (c : After-slice_known-1) → Paired c.args.names.now c.args.values.now c.args.n
 paired c =
     record {
-      octets = record {
-        left = octets_of c.args.names.now (λ i. omega (arith, c.type_inv.names i));
-        right = octets_of c.args.values.now (λ i. omega (arith, c.type_inv.values i));
-      };
+      octets = both_octets c.args.names.now c.args.values.now c.type_inv.names c.type_inv.values;
       pairs = c.requires.0;
     }
 
@@ -54,7 +51,7 @@ overflow_cast-n c = omega (arith, bounds (goal.at.overflow_cast-n c).After-slice
 
 pub put_members-requires : goal.put_members-requires
 put_members-requires c =
-    record { count_bound = omega (arith, bounds (goal.at.put_members-requires c).After-slice_known-1); key_jentry_bound = omega (arith, bounds (goal.at.put_members-requires c).After-slice_known-1) }
+    record { from_near = omega (arith, bounds (goal.at.put_members-requires c).After-slice_known-1); to_near = omega (arith, bounds (goal.at.put_members-requires c).After-slice_known-1) }
 
 pub returns : goal.returns
 returns c =

@@ -7,7 +7,7 @@ use mathlib.Core.Logic.{inl, inr}
 use Rattle.layout.specs.Bytes.{Octets}
 use Rattle.layout.specs.Read.{header}
 use Rattle.layout.specs.Parts.{name_in}
-use Rattle.layout.proofs.Words.{octets_of}
+use Rattle.layout.proofs.Words.{slice_octets}
 use Rattle.layout.proofs.Checks.{told_object}
 use Rattle.layout.proofs.Pieces.{same_part}
 use Rattle.builders.proofs.Searches.{bytes_short}
@@ -35,7 +35,7 @@ use Rattle.edits.proofs.delete.+deletions.Goals.{put_sorted_anew-After-struct_kn
 use Rattle.edits.proofs.delete.+deletions.Goals as goal
 
 deleted_octets : (t : ℕ) (c : put_deleted-After-shared_slice_known-1 t) → Octets c.args.s.now
-deleted_octets t c = octets_of c.args.s.now (λ i. omega (arith, c.type_inv.s i))
+deleted_octets t c = slice_octets c.args.s.now c.type_inv.s
 
 -- Where the next step leads: to a spot, and to a part.
 spot_is : (t : ℕ) (c : put_deleted-After-find_step t) → c.find_step.result ≡ next_spot c.args.s.now c.args.path.now c.args.way
@@ -48,26 +48,25 @@ spot_is t c =
 
 part_is : (t : ℕ) (c : put_deleted-In-At t) → next_spot c.args.s.now c.args.path.now c.args.way ≡ At c.in-At.part
 part_is t c =
-    sym ((
-    leads_is c.args.s.now c.args.path.now c.args.way _ _ _ _
+    sym (leads_is c.args.s.now c.args.path.now c.args.way _ _ _ _
     c.jentry_at-jentry.ensures
     c.payload_len.ensures
     c.slice-text.ensures
-    c.find_step.ensures)) ∙ c.in-At.is
+    c.find_step.ensures)
+    ∙ c.in-At.is
 
 onward : (t : ℕ) (c : put_deleted-Else-way t) → Onward c.args.s.now c.args.path.now c.args.way
     c.in-At.part
-onward t c =
-    record {
-      leads = (
-          sym ((
-          leads_is c.args.s.now c.args.path.now c.args.way _ _ _ _
-          c.jentry_at-jentry.ensures
-          c.payload_len.ensures
-          c.slice-text.ensures
-          c.find_step.ensures)) ∙ c.in-At.is);
-      more = omega (arith, c.if-way.false, c.requires.0);
-    }
+onward t c = record {
+  leads =
+      sym (leads_is c.args.s.now c.args.path.now c.args.way _ _ _ _
+      c.jentry_at-jentry.ensures
+      c.payload_len.ensures
+      c.slice-text.ensures
+      c.find_step.ensures)
+      ∙ c.in-At.is;
+  more = omega (arith, c.if-way.false, c.requires.0);
+}
 
 pub put_deleted-jentry_at-jentry-requires : goal.put_deleted-jentry_at-jentry-requires
 put_deleted-jentry_at-jentry-requires t c = omega (arith, c.requires.0)
@@ -160,7 +159,7 @@ named : (t : ℕ) (c : put_member_anew-After-payload_at t) → Named c.args.s.no
 named t c =
     let same = is_named c.args.s.now _ c.args.member c.payload_at-key.ensures c.is_same_bytes.ensures c.if-is_same_bytes.true in
     record {
-      octets = octets_of c.args.s.now (λ i. omega (arith, c.type_inv.s i));
+      octets = slice_octets c.args.s.now c.type_inv.s;
       key_is = c.payload_at-key.ensures;
       value_is = c.payload_at.ensures;
       same = same;
@@ -222,7 +221,7 @@ runs_anew : (t : ℕ) (c : put_part_anew-After-shared_slice_known-1 t) → RunsA
     c.args.allowance
 runs_anew t c =
     record {
-      octets = octets_of c.args.s.now (λ i. omega (arith, c.type_inv.s i));
+      octets = slice_octets c.args.s.now c.type_inv.s;
       cuts = c.requires.0;
       onward = c.requires.1;
       in_runs = c.requires.2;
@@ -237,13 +236,14 @@ behind_part t c = record { next_is = c.part_behind-next.ensures; way_is = c.way_
 
 stored_short : (t : ℕ) (c : put_part_anew-After-put_deleted-len t) → c.args.part.place + c.put_deleted-len.result ≤ length c.args.s.now
 stored_short t c =
-    child_short ((
+    child_short (
     record {
-      octets = octets_of c.args.s.now (λ i. omega (arith, c.type_inv.s i));
+      octets = slice_octets c.args.s.now c.type_inv.s;
       cuts = c.requires.0;
       onward = c.requires.1;
       in_runs = c.requires.2;
-    })) ((record { next_is = c.part_behind-next.ensures; way_is = c.way_behind.ensures })) c.put_deleted-len.ensures
+    }
+    ) (record { next_is = c.part_behind-next.ensures; way_is = c.way_behind.ensures }) c.put_deleted-len.ensures
 
 pub put_part_anew-first_part-first-requires : goal.put_part_anew-first_part-first-requires
 put_part_anew-first_part-first-requires t c = omega (arith, known t (goal.at.put_part_anew-first_part-first-requires t c).After-shared_slice_known-1)
@@ -265,7 +265,7 @@ part_run : (t : ℕ) (c : put_part_anew-After-put_run-here t) → (c.put_run-her
     × (c.put_run-here.result.place ≡ c.args.at + c.args.part.place)
 part_run t c =
     let runs : RunsAnew c.args.s.now c.args.path.now c.args.total c.args.part c.args.way c.args.allowance = record {
-      octets = octets_of c.args.s.now (λ i. omega (arith, c.type_inv.s i));
+      octets = slice_octets c.args.s.now c.type_inv.s;
       cuts = c.requires.0;
       onward = c.requires.1;
       in_runs = c.requires.2;
@@ -371,7 +371,7 @@ sorted_anew : (t : ℕ) (c : put_sorted_anew-After-shared_slice_known-1 t) → S
     c.args.allowance
 sorted_anew t c =
     record {
-      octets = octets_of c.args.s.now (λ i. omega (arith, c.type_inv.s i));
+      octets = slice_octets c.args.s.now c.type_inv.s;
       cuts = c.requires.0;
       onward = c.requires.1;
       is_object = c.requires.2;

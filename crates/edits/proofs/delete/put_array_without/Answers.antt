@@ -1,7 +1,7 @@
 -- `edits::delete::put_array_without` meets its contract.
 use native.Mathlib.Omega.{arith}
 use mathlib.Core.Path.{refl}
-use Rattle.layout.proofs.Words.{octets_of}
+use Rattle.layout.proofs.Words.{slice_octets}
 use Rattle.layout.proofs.Pieces.{same_part}
 use Rattle.edits.proofs.Tables.{parted}
 use Rattle.edits.proofs.Runs.{behind_run}
@@ -13,7 +13,7 @@ use Rattle.edits.proofs.delete.put_array_without.Goals as goal
 known : (c : After-shared_slice_known-1) → IsPartAt c.args.s.now c.args.n c.args.item
 known c =
     at_part c.args.s.now _ c.args.item
-    (parted _ _ (octets_of c.args.s.now (λ i. omega (arith, c.type_inv.s i))) c.requires.0)
+    (parted _ _ (slice_octets c.args.s.now c.type_inv.s) c.requires.0)
     c.requires.1
 
 pub first_part-first-requires : goal.first_part-first-requires

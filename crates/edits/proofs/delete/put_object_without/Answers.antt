@@ -2,7 +2,7 @@
 use Prim.Native.Nat.{◌+◌}
 use native.Mathlib.Omega.{arith}
 use mathlib.Core.Path.{refl}
-use Rattle.layout.proofs.Words.{octets_of}
+use Rattle.layout.proofs.Words.{slice_octets}
 use Rattle.layout.proofs.Pieces.{same_part, nth_is}
 use Rattle.edits.proofs.Tables.{Parted, parted}
 use Rattle.edits.proofs.Runs.{behind_run}
@@ -11,7 +11,7 @@ use Rattle.edits.proofs.delete.put_object_without.Goals.{After-put_run-arg-1, Af
 use Rattle.edits.proofs.delete.put_object_without.Goals as goal
 
 part : (c : After-shared_slice_known-1) → Parted c.args.s.now (c.args.n + c.args.n)
-part c = parted _ _ (octets_of c.args.s.now (λ i. omega (arith, c.type_inv.s i))) c.requires.0
+part c = parted _ _ (slice_octets c.args.s.now c.type_inv.s) c.requires.0
 
 known : (c : After-shared_slice_known-1) → Bounds c.args.s.now c.args.n (part c) c.args.val c.requires.1 c.requires.2
 known c = bounds _ _ (part c) _ c.requires.1 c.requires.2

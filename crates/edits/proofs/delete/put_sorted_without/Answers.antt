@@ -3,7 +3,7 @@ use Prim.Native.Nat.{◌+◌, ◌*◌, ◌≤◌}
 use native.Mathlib.Omega.{arith}
 use mathlib.Core.Path.{◌≡◌, refl}
 use Rattle.layout.specs.Read.{header}
-use Rattle.layout.proofs.Words.{octets_of}
+use Rattle.layout.proofs.Words.{slice_octets}
 use Rattle.edits.specs.Keypath.{Step}
 use Rattle.edits.specs.Spot.{spot}
 use Rattle.edits.specs.declared.find.Spot.TheVariants.{At}
@@ -15,7 +15,7 @@ use Rattle.edits.proofs.delete.put_sorted_without.Goals as goal
 found_by : (c : After-shared_slice_known-1) (p : Step)
     → spot (header c.args.s.now) c.args.s.now p ≡ At c.args.val
     → ValueAt c.args.s.now c.args.n c.args.val p
-found_by c p q = value_at c.args.s.now _ c.args.val p (octets_of c.args.s.now (λ i. omega (arith, c.type_inv.s i))) c.requires.0 c.requires.1 c.requires.2 q
+found_by c p q = value_at c.args.s.now _ c.args.val p (slice_octets c.args.s.now c.type_inv.s) c.requires.0 c.requires.1 c.requires.2 q
 
 -- By the step that led to it.
 found : (c : After-shared_slice_known-1) → ValueAt c.args.s.now c.args.n c.args.val c.requires.3.0
@@ -24,7 +24,7 @@ found c = found_by c c.requires.3.0 c.requires.3.1
 -- What is left is no longer than the object was.
 room : (c : After-measure_members-sizes) → 4 + 8 * c.measure_members-sizes.result.count + c.measure_members-sizes.result.keys + c.measure_members-sizes.result.vals ≤ 65536
 room c =
-    let v = value_at c.args.s.now _ c.args.val c.requires.3.0 (octets_of c.args.s.now (λ i. omega (arith, c.type_inv.s i)))
+    let v = value_at c.args.s.now _ c.args.val c.requires.3.0 (slice_octets c.args.s.now c.type_inv.s)
     c.requires.0 c.requires.1 c.requires.2 c.requires.3.1 in
     gone_room c.args.s.now _ _ _ v _ _ c.members_of-from.ensures c.measure_members-sizes.ensures
 
@@ -50,8 +50,8 @@ put_members-requires c =
     let v = found (goal.at.put_members-requires c).After-shared_slice_known-1 in
     let at = same_places c.members_of-from.ensures in
     let behind = same_places c.places_for-to.ensures in record {
-      count_bound = omega (arith, v.table, v.short, v.values, at);
-      key_jentry_bound = omega (arith, room (goal.at.put_members-requires c).After-measure_members-sizes, c.requires.4, behind);
+      from_near = omega (arith, v.table, v.short, v.values, at);
+      to_near = omega (arith, room (goal.at.put_members-requires c).After-measure_members-sizes, c.requires.4, behind);
     }
 
 pub overflow_add-result : goal.overflow_add-result

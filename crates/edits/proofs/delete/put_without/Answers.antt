@@ -1,18 +1,17 @@
 -- `edits::delete::put_without` meets its contract.
-use native.Mathlib.Omega.{arith}
 use mathlib.Core.Path.{◌≡◌, sym, ◌∙◌}
 use mathlib.Core.Bool.{true}
 use Rattle.layout.specs.Bytes.{Octets}
 use Rattle.layout.specs.Read.{header}
 use Rattle.layout.specs.Parts.{rises}
 use Rattle.layout.specs.declared.util.Header.TheVariants.{Array, Object}
-use Rattle.layout.proofs.Words.{octets_of}
+use Rattle.layout.proofs.Words.{slice_octets}
 use Rattle.edits.proofs.Leds.{manner_array, manner_object, manner_search, no_manner, array_led, rising_led, stores_as}
 use Rattle.edits.proofs.delete.put_without.Goals.{After-manner_of, In-Items, In-Rising, In-Unsorted}
 use Rattle.edits.proofs.delete.put_without.Goals as goal
 
 octets : (c : After-manner_of) → Octets c.args.s.now
-octets c = octets_of c.args.s.now (λ i. omega (arith, c.type_inv.s i))
+octets c = slice_octets c.args.s.now c.type_inv.s
 
 an_array : (c : In-Items) → header c.args.s.now ≡ Array c.in-Items.n
 an_array c = manner_array c.args.s.now _ _ (sym c.in-Items.is ∙ c.manner_of.ensures)

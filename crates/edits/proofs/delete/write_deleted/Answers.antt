@@ -2,7 +2,7 @@
 use native.Mathlib.Omega.{arith}
 use mathlib.Core.Path.{ap}
 use Rattle.layout.specs.declared.parts.PartAt.{PartAt}
-use Rattle.layout.proofs.Words.{octets_of}
+use Rattle.layout.proofs.Words.{slice_octets}
 use Rattle.edits.specs.declared.delete.Way.{Way}
 use Rattle.edits.proofs.Writes.{Deletion, whole_cuts, room_enough, no_room, has_room}
 use Rattle.edits.proofs.delete.write_deleted.Goals.{After-first_part}
@@ -14,7 +14,7 @@ way c = record { step = c.first_part.result; count = c.args.n }
 deletion : (c : After-first_part) → Deletion c.args.s.now c.args.path.now c.args.n (way c)
 deletion c =
     record {
-      octets = octets_of c.args.s.now (λ i. omega (arith, c.type_inv.s i));
+      octets = slice_octets c.args.s.now c.type_inv.s;
       readable = c.requires.0;
       short = c.requires.1;
       few = c.requires.2;

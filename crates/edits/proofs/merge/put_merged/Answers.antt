@@ -1,7 +1,7 @@
 -- `edits::merge::put_merged` meets its contract.
 use Prim.Native.Nat.{◌+◌, ◌^◌, ◌≤◌, ◌<◌}
 use native.Mathlib.Omega.{arith}
-use Rattle.layout.proofs.Words.{octets_of}
+use Rattle.layout.proofs.Words.{slice_octets}
 use Rattle.edits.proofs.Sorteds.{ObjectAt}
 use Rattle.edits.proofs.Merges.{objects_at, few_both, starts_ready, ready_left, ready_right, ready_both, goes_left, goes_right, goes_both}
 use Rattle.edits.proofs.Merges.{merging_starts, merging_near, merging_full, merging_end}
@@ -12,8 +12,8 @@ use Rattle.edits.proofs.merge.put_merged.Goals as goal
 -- The two objects, at the entry.
 objects : (c : After-slice_known-1) → ObjectAt c.args.left.now c.args.m × ObjectAt c.args.right.now c.args.n
 objects c =
-    objects_at _ _ _ _ (octets_of c.args.left.now (λ i. omega (arith, c.type_inv.left i)))
-    (octets_of c.args.right.now (λ i. omega (arith, c.type_inv.right i))) c.requires.0
+    objects_at _ _ _ _ (slice_octets c.args.left.now c.type_inv.left)
+    (slice_octets c.args.right.now c.type_inv.right) c.requires.0
 
 few : (c : After-slice_known-1) → c.args.m + c.args.n ≤ 16384
 few c = few_both c.args.left.now _ c.args.right.now _ (objects c)

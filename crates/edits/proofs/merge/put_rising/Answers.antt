@@ -7,7 +7,7 @@ use mathlib.Core.Path.{◌≡◌, ◌∙◌}
 use Rattle.layout.specs.Parts.{behind_member}
 use Rattle.layout.specs.Table.{nth_member}
 use Rattle.layout.specs.declared.parts.Places.{Places}
-use Rattle.layout.proofs.Words.{octets_of}
+use Rattle.layout.proofs.Words.{slice_octets}
 use Rattle.layout.proofs.Carries.{object_start, object_on}
 use Rattle.edits.proofs.Merges.{objects_at, few_both}
 use Rattle.edits.proofs.Sorteds.{ObjectAt}
@@ -19,8 +19,8 @@ use Rattle.edits.proofs.merge.put_rising.Goals as goal
 -- The two objects, at the entry.
 objects : (c : After-shared_slice_known-2-1) → ObjectAt c.args.left.now c.args.m × ObjectAt c.args.right.now c.args.n
 objects c =
-    objects_at _ _ _ _ (octets_of c.args.left.now (λ i. omega (arith, c.type_inv.left i)))
-    (octets_of c.args.right.now (λ i. omega (arith, c.type_inv.right i))) c.requires.0
+    objects_at _ _ _ _ (slice_octets c.args.left.now c.type_inv.left)
+    (slice_octets c.args.right.now c.type_inv.right) c.requires.0
 
 few : (c : After-shared_slice_known-2-1) → c.args.m + c.args.n ≤ 16384
 few c = few_both c.args.left.now _ c.args.right.now _ (objects c)

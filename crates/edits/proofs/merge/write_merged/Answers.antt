@@ -3,7 +3,7 @@ use Prim.Native.Nat.{◌+◌, ◌≤◌}
 use native.Mathlib.Omega.{arith}
 use mathlib.Core.Path.{refl, ap₂}
 use mathlib.Core.Bool.{◌&&◌}
-use Rattle.layout.proofs.Words.{octets_of}
+use Rattle.builders.proofs.Knowns.{both_octets}
 use Rattle.edits.proofs.Overlays.{Overlaid, length_by, few_members, measured_short, measured_near}
 use Rattle.edits.proofs.Overlays.{overlay_repeated, overlay_refused, overlay_measured, overlay_length, overlay_done}
 use borrow.Author.Rules.{rules}
@@ -14,10 +14,7 @@ use Rattle.edits.proofs.merge.write_merged.Goals as goal
 overlaid : (c : After-slice_known-1) → Overlaid c.args.left.now c.args.m c.args.right.now c.args.n
 overlaid c =
     record {
-      octets = record {
-        left = octets_of c.args.left.now (λ i. omega (arith, c.type_inv.left i));
-        right = octets_of c.args.right.now (λ i. omega (arith, c.type_inv.right i));
-      };
+      octets = both_octets c.args.left.now c.args.right.now c.type_inv.left c.type_inv.right;
       objects = c.requires;
     }
 
@@ -27,14 +24,9 @@ few c = few_members (overlaid c)
 -- What the measuring run shows.
 short : (c : After-put_both-end) → length_by c.put_both-end.result ≤ 131072
 short c =
-    measured_short ((
-    record {
-      octets = record {
-        left = octets_of c.args.left.now (λ i. omega (arith, c.type_inv.left i));
-        right = octets_of c.args.right.now (λ i. omega (arith, c.type_inv.right i));
-      };
-      objects = c.requires;
-    })) (c.put_both-end.ensures.is, c.put_both-end.ensures.kept)
+    measured_short
+    (record { octets = both_octets c.args.left.now c.args.right.now c.type_inv.left c.type_inv.right; objects = c.requires })
+    (c.put_both-end.ensures.is, c.put_both-end.ensures.kept)
 
 pub overflow_add-n : goal.overflow_add-n
 overflow_add-n c = omega (arith, few c)

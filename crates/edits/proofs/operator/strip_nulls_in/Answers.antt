@@ -1,7 +1,6 @@
 -- `edits::operator::strip_nulls_in` meets its contract.
-use native.Mathlib.Omega.{arith}
 use mathlib.Core.Path.{sym, ◌∙◌}
-use Rattle.layout.proofs.Words.{octets_of}
+use Rattle.layout.proofs.Words.{slice_octets}
 use Rattle.edits.proofs.Descents.{Passed}
 use Rattle.edits.proofs.StripWrites.{ContainerAt, strip_left, strip_scalar, strip_ready, strip_ends}
 use Rattle.edits.proofs.operator.strip_nulls_in.Goals.{In_default, In_default-read_header}
@@ -11,21 +10,18 @@ use Rattle.edits.proofs.operator.strip_nulls_in.Goals as goal
 passed : (c : In_default) → Passed c.args.target.now
 passed c =
     record {
-      octets = octets_of c.args.target.now (λ i. omega (arith, c.type_inv.target i));
+      octets = slice_octets c.args.target.now c.type_inv.target;
       readable = sym c.check_record.ensures ∙ c.in_default.is;
     }
 
 container_at : (c : In_default-read_header) → ContainerAt c.args.target.now
-container_at c =
-    record {
-      passed = (
-          record {
-            octets = octets_of c.args.target.now (λ i. omega (arith, c.type_inv.target i));
-            readable = sym c.check_record.ensures ∙ c.in_default.is;
-          });
-      container = λ m e.
-          c.in_default-read_header.not-Scalar m (c.read_header.ensures ∙ e);
-    }
+container_at c = record {
+  passed = record {
+    octets = slice_octets c.args.target.now c.type_inv.target;
+    readable = sym c.check_record.ensures ∙ c.in_default.is;
+  };
+  container = λ m e. c.in_default-read_header.not-Scalar m (c.read_header.ensures ∙ e);
+}
 
 pub returns-in-Refused : goal.returns-in-Refused
 returns-in-Refused c = strip_left _ _ _ c.check_record.ensures c.in-Refused.is

@@ -1,45 +1,28 @@
 -- `edits::operator::write_concat` meets its contract.
-use native.Mathlib.Omega.{arith}
 use mathlib.Core.Path.{sym, ◌∙◌}
-use Rattle.layout.proofs.Words.{octets_of}
-use Rattle.builders.proofs.Knowns.{BothOctets}
+use Rattle.builders.proofs.Knowns.{both_octets, BothOctets}
 use Rattle.edits.proofs.ConcatWrites.{LeftNests, BothNest, left_refused, right_refused, left_other, right_other, two_objects}
 use Rattle.edits.proofs.operator.write_concat.Goals.{After-shared_slice_known-2-1, In_default, In_default-right_nesting}
 use Rattle.edits.proofs.operator.write_concat.Goals as goal
 
 -- What is known past each check.
 octets : (c : After-shared_slice_known-2-1) → BothOctets c.args.left.now c.args.right.now
-octets c =
-    record {
-      left = octets_of c.args.left.now (λ i. omega (arith, c.type_inv.left i));
-      right = octets_of c.args.right.now (λ i. omega (arith, c.type_inv.right i));
-    }
+octets c = both_octets c.args.left.now c.args.right.now c.type_inv.left c.type_inv.right
 
 left_nests : (c : In_default) → LeftNests c.args.left.now c.args.right.now
-left_nests c =
-    record {
-      octets = (
-          record {
-            left = octets_of c.args.left.now (λ i. omega (arith, c.type_inv.left i));
-            right = octets_of c.args.right.now (λ i. omega (arith, c.type_inv.right i));
-          });
-      left = λ x e. c.in_default.not-Refused x (c.check_nesting-left_nesting.ensures ∙ e);
-    }
+left_nests c = record {
+  octets = both_octets c.args.left.now c.args.right.now c.type_inv.left c.type_inv.right;
+  left = λ x e. c.in_default.not-Refused x (c.check_nesting-left_nesting.ensures ∙ e);
+}
 
 both_nest : (c : In_default-right_nesting) → BothNest c.args.left.now c.args.right.now
-both_nest c =
-    record {
-      before = (
-          record {
-            octets = (
-                record {
-                  left = octets_of c.args.left.now (λ i. omega (arith, c.type_inv.left i));
-                  right = octets_of c.args.right.now (λ i. omega (arith, c.type_inv.right i));
-                });
-            left = λ x e. c.in_default.not-Refused x (c.check_nesting-left_nesting.ensures ∙ e);
-          });
-      right = λ x e. c.in_default-right_nesting.not-Refused x (c.check_nesting-right_nesting.ensures ∙ e);
-    }
+both_nest c = record {
+  before = record {
+    octets = both_octets c.args.left.now c.args.right.now c.type_inv.left c.type_inv.right;
+    left = λ x e. c.in_default.not-Refused x (c.check_nesting-left_nesting.ensures ∙ e);
+  };
+  right = λ x e. c.in_default-right_nesting.not-Refused x (c.check_nesting-right_nesting.ensures ∙ e);
+}
 
 pub returns-in-Refused : goal.returns-in-Refused
 returns-in-Refused c = left_refused (octets (goal.at.returns-in-Refused c).After-shared_slice_known-2-1) _ c.check_nesting-left_nesting.ensures c.in-Refused.is

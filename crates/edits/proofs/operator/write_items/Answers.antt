@@ -1,6 +1,6 @@
 -- `edits::operator::write_items` meets its contract.
 use native.Mathlib.Omega.{arith}
-use Rattle.layout.proofs.Words.{octets_of}
+use Rattle.builders.proofs.Knowns.{both_octets}
 use Rattle.edits.proofs.Joinings.{Apart, Offered, items_lie, few_items, left_deep, right_deep, items_end}
 use Rattle.edits.proofs.operator.write_items.Goals.{After-items_of-r, After-slice_known-1}
 use Rattle.edits.proofs.operator.write_items.Goals as goal
@@ -9,31 +9,23 @@ use Rattle.edits.proofs.operator.write_items.Goals as goal
 apart : (c : After-slice_known-1) → Apart c.args.left.now c.args.right.now
 apart c =
     record {
-      octets = record {
-        left = octets_of c.args.left.now (λ i. omega (arith, c.type_inv.left i));
-        right = octets_of c.args.right.now (λ i. omega (arith, c.type_inv.right i));
-      };
+      octets = both_octets c.args.left.now c.args.right.now c.type_inv.left c.type_inv.right;
       left = c.requires.0;
       right = c.requires.1;
       no_pair = c.requires.4;
     }
 
 offered : (c : After-items_of-r) → Offered c.args.left.now c.args.right.now c.items_of-l.result c.items_of-r.result
-offered c =
-    record {
-      before = (
-          record {
-            octets = record {
-              left = octets_of c.args.left.now (λ i. omega (arith, c.type_inv.left i));
-              right = octets_of c.args.right.now (λ i. omega (arith, c.type_inv.right i));
-            };
-            left = c.requires.0;
-            right = c.requires.1;
-            no_pair = c.requires.4;
-          });
-      left = c.items_of-l.ensures;
-      right = c.items_of-r.ensures;
-    }
+offered c = record {
+  before = record {
+    octets = both_octets c.args.left.now c.args.right.now c.type_inv.left c.type_inv.right;
+    left = c.requires.0;
+    right = c.requires.1;
+    no_pair = c.requires.4;
+  };
+  left = c.items_of-l.ensures;
+  right = c.items_of-r.ensures;
+}
 
 pub returns-then-is_deep : goal.returns-then-is_deep
 returns-then-is_deep c = left_deep (offered (goal.at.returns-then-is_deep c).After-items_of-r) c.requires.2 c.is_deep.ensures c.if-is_deep.true _

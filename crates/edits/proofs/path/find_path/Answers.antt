@@ -3,7 +3,7 @@ use native.Mathlib.Omega.{arith}
 use Prim.Native.Nat.{◌^◌, ◌<◌}
 use Rattle.layout.specs.Bytes.{Octets}
 use Rattle.layout.proofs.Fields.{length_lt}
-use Rattle.layout.proofs.Words.{octets_of}
+use Rattle.layout.proofs.Words.{slice_octets}
 use Rattle.layout.proofs.Pieces.{same_part}
 use Rattle.layout.proofs.Carries.{place_first, place_on}
 use Rattle.edits.specs.Find.{step_into}
@@ -17,7 +17,7 @@ near : (c : After-step_from) → c.payload_len-len.result < 2 ^ 28
 near c = omega (arith, c.payload_len-len.ensures, length_lt c.jentry_at-jentry.result)
 
 octets : (c : After-encoded) → Octets c.args.s.now
-octets c = octets_of c.args.s.now (λ i. omega (arith, c.type_inv.s i))
+octets c = slice_octets c.args.s.now c.type_inv.s
 
 pub overflow_cast-s : goal.overflow_cast-s
 overflow_cast-s c = omega (arith, c.requires.0)

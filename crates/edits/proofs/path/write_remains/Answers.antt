@@ -1,8 +1,7 @@
 -- `edits::path::write_remains` meets its contract.
 use native.Mathlib.Omega.{arith}
 use mathlib.Core.Path.{sym, ◌∙◌}
-use Rattle.layout.proofs.Words.{octets_of}
-use Rattle.builders.proofs.Knowns.{BothOctets}
+use Rattle.builders.proofs.Knowns.{both_octets, BothOctets}
 use Rattle.edits.proofs.Lookups.{TargetRead, StepsCounted, ContainerMet, Searched, search_ready}
 use Rattle.edits.proofs.Deletions.{delete_left, delete_path, delete_extension, delete_kind, delete_whole}
 use Rattle.edits.proofs.Deletions.{delete_none, delete_finds, delete_found}
@@ -11,82 +10,50 @@ use Rattle.edits.proofs.path.write_remains.Goals as goal
 
 -- What is known past each test.
 octets : (c : After-shared_slice_known-2-1) → BothOctets c.args.target.now c.args.path.now
-octets c =
-    record {
-      left = octets_of c.args.target.now (λ i. omega (arith, c.type_inv.target i));
-      right = octets_of c.args.path.now (λ i. omega (arith, c.type_inv.path i));
-    }
+octets c = both_octets c.args.target.now c.args.path.now c.type_inv.target c.type_inv.path
 
 target_read : (c : In_default) → TargetRead c.args.target.now c.args.path.now
-target_read c =
-    record {
-      octets = (
-          record {
-            left = octets_of c.args.target.now (λ i. omega (arith, c.type_inv.target i));
-            right = octets_of c.args.path.now (λ i. omega (arith, c.type_inv.path i));
-          });
-      readable = sym c.check_record.ensures ∙ c.in_default.is;
-    }
+target_read c = record {
+  octets = both_octets c.args.target.now c.args.path.now c.type_inv.target c.type_inv.path;
+  readable = sym c.check_record.ensures ∙ c.in_default.is;
+}
 
 steps_counted : (c : In-Count) → StepsCounted c.args.target.now c.args.path.now c.in-Count.n
-steps_counted c =
-    record {
-      before = (
-          record {
-            octets = (
-                record {
-                  left = octets_of c.args.target.now (λ i. omega (arith, c.type_inv.target i));
-                  right = octets_of c.args.path.now (λ i. omega (arith, c.type_inv.path i));
-                });
-            readable = sym c.check_record.ensures ∙ c.in_default.is;
-          });
-      count = sym c.in-Count.is ∙ c.check_path.ensures;
-    }
+steps_counted c = record {
+  before = record {
+    octets = both_octets c.args.target.now c.args.path.now c.type_inv.target c.type_inv.path;
+    readable = sym c.check_record.ensures ∙ c.in_default.is;
+  };
+  count = sym c.in-Count.is ∙ c.check_path.ensures;
+}
 
 container_met : (c : In_default-read_header) → ContainerMet c.args.target.now c.args.path.now c.in-Count.n
-container_met c =
-    record {
-      before = (
-          record {
-            before = (
-                record {
-                  octets = (
-                      record {
-                        left = octets_of c.args.target.now (λ i. omega (arith, c.type_inv.target i));
-                        right = octets_of c.args.path.now (λ i. omega (arith, c.type_inv.path i));
-                      });
-                  readable = sym c.check_record.ensures ∙ c.in_default.is;
-                });
-            count = sym c.in-Count.is ∙ c.check_path.ensures;
-          });
-      container = λ m e.
-          c.in_default-read_header.not-Scalar m (c.read_header.ensures ∙ e);
-    }
+container_met c = record {
+  before = record {
+    before = record {
+      octets = both_octets c.args.target.now c.args.path.now c.type_inv.target c.type_inv.path;
+      readable = sym c.check_record.ensures ∙ c.in_default.is;
+    };
+    count = sym c.in-Count.is ∙ c.check_path.ensures;
+  };
+  container = λ m e. c.in_default-read_header.not-Scalar m (c.read_header.ensures ∙ e);
+}
 
 searched : (c : After-find_path) → Searched c.args.target.now c.args.path.now
     c.in-Count.n c.find_path.result
-searched c =
-    record {
-      before = (
-          record {
-            before = (
-                record {
-                  before = (
-                      record {
-                        octets = (
-                            record {
-                              left = octets_of c.args.target.now (λ i. omega (arith, c.type_inv.target i));
-                              right = octets_of c.args.path.now (λ i. omega (arith, c.type_inv.path i));
-                            });
-                        readable = sym c.check_record.ensures ∙ c.in_default.is;
-                      });
-                  count = sym c.in-Count.is ∙ c.check_path.ensures;
-                });
-            container = λ m e.
-                c.in_default-read_header.not-Scalar m (c.read_header.ensures ∙ e);
-          });
-      finds = c.find_path.ensures;
-    }
+searched c = record {
+  before = record {
+    before = record {
+      before = record {
+        octets = both_octets c.args.target.now c.args.path.now c.type_inv.target c.type_inv.path;
+        readable = sym c.check_record.ensures ∙ c.in_default.is;
+      };
+      count = sym c.in-Count.is ∙ c.check_path.ensures;
+    };
+    container = λ m e. c.in_default-read_header.not-Scalar m (c.read_header.ensures ∙ e);
+  };
+  finds = c.find_path.ensures;
+}
 
 pub returns-in-Refused : goal.returns-in-Refused
 returns-in-Refused c = delete_left (octets (goal.at.returns-in-Refused c).After-shared_slice_known-2-1) _ c.check_record.ensures c.in-Refused.is

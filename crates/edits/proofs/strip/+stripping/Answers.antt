@@ -6,7 +6,7 @@ use lib.Dec.{eqb}
 use lib.ListN.{length, take}
 use Rattle.layout.specs.Bytes.{Octets}
 use Rattle.layout.specs.Parts.{name_in}
-use Rattle.layout.proofs.Words.{octets_of}
+use Rattle.layout.proofs.Words.{slice_octets}
 use Rattle.layout.proofs.Pieces.{same_part}
 use Rattle.layout.proofs.Carries.{part_start, part_on}
 use Rattle.layout.proofs.Patches.{length_patch}
@@ -36,7 +36,7 @@ nested : (t : ℕ) (c : put_item_stripped-Then-type_code-eq-CONTAINER_CODE t) �
     c.payload_at-payload.result.now c.args.allowance
 nested t c =
     record {
-      octets = octets_of c.args.s.now (λ i. omega (arith, c.type_inv.s i));
+      octets = slice_octets c.args.s.now c.type_inv.s;
       payload_is = c.payload_at-payload.ensures;
       is_container = sym c.type_code.ensures ∙ c.if-type_code-eq-CONTAINER_CODE.true;
       asked = c.requires.0;
@@ -71,7 +71,7 @@ put_item_stripped-returns t c =
 
 -- What is known at the entry, and of the item read.
 array_known : (t : ℕ) (c : put_items_stripped-After-shared_slice_known-1 t) → ArrayAt c.args.s.now c.args.n c.args.allowance
-array_known t c = array_at (octets_of c.args.s.now (λ i. omega (arith, c.type_inv.s i))) c.requires.0 c.requires.1
+array_known t c = array_at (slice_octets c.args.s.now c.type_inv.s) c.requires.0 c.requires.1
 
 item_next : (t : ℕ) (c : put_items_stripped-After-jentry_at t) → ItemNext c.args.s.now c.args.n c.loop-part.part
     (record { jentry = c.jentry_at.result; place = c.loop-part.part.place })
@@ -167,7 +167,7 @@ put_member_stripped-returns t c =
 
 object_known : (t : ℕ) (c : put_members_stripped-After-shared_slice_known-1 t) → ObjectStripped c.args.s.now c.args.n c.args.allowance
 object_known t c =
-    object_stripped (octets_of c.args.s.now (λ i. omega (arith, c.type_inv.s i)))
+    object_stripped (slice_octets c.args.s.now c.type_inv.s)
     c.requires.0
     c.requires.1
 
@@ -204,7 +204,7 @@ put_members_stripped-returns t c =
 
 -- What is known at the entry, of the member read, and of one that is kept.
 rising_octets : (t : ℕ) (c : put_rising_stripped-After-shared_slice_known-1 t) → Octets c.args.s.now
-rising_octets t c = octets_of c.args.s.now (λ i. omega (arith, c.type_inv.s i))
+rising_octets t c = slice_octets c.args.s.now c.type_inv.s
 
 rising_next : (t : ℕ) (c : put_rising_stripped-After-is_kept t) → RisingNext c.args.s.now c.loop-here.here c.read_member-member.result
     c.ahead_behind-next.result c.is_kept.result
@@ -221,13 +221,14 @@ rising_least : (t : ℕ) (c : put_rising_stripped-Then-is_kept t) → At c.read_
     (bound (eqb c.loop-here.invariant.count 0) c.loop-here.invariant.last) Nothing
     (searched c.args.s.now c.args.ahead.count NonNull)
 rising_least t c =
-    rising_found c.loop-here.invariant ((
+    rising_found c.loop-here.invariant (
     record {
       more = c.loop-here-test.true;
       member_is = c.read_member-member.ensures;
       behind = c.ahead_behind-next.ensures;
       kept_is = c.is_kept.ensures;
-    })) c.if-is_kept.true
+    }
+    ) c.if-is_kept.true
 
 pub put_rising_stripped-places_for-to-requires : goal.put_rising_stripped-places_for-to-requires
 put_rising_stripped-places_for-to-requires t c =
@@ -296,7 +297,7 @@ put_rising_stripped-shape_of-out t c = ap length (put_rising_stripped-returns t 
 
 -- What is known at the entry, at the loop, and of the member found.
 sorted_octets : (t : ℕ) (c : put_sorted_stripped-After-shared_slice_known-1 t) → Octets c.args.s.now
-sorted_octets t c = octets_of c.args.s.now (λ i. omega (arith, c.type_inv.s i))
+sorted_octets t c = slice_octets c.args.s.now c.type_inv.s
 
 sorted_long : (t : ℕ) (c : put_sorted_stripped-At-loop-i t) → length c.loop-i.out ≡ length c.args.out.now
 sorted_long t c = c.loop-i.invariant.stored.as_long ∙ ap length c.put_u32.ensures ∙ length_patch _ _ _
@@ -305,7 +306,7 @@ sorted_least : (t : ℕ) (c : put_sorted_stripped-In-At t) → At c.in-At.member
     ≡ least (name_in c.args.s.now)
     (bound (eqb c.loop-i.i 0) c.loop-i.last.now) Nothing
     (searched c.args.s.now c.args.ahead.count NonNull)
-sorted_least t c = sym c.in-At.is ∙ found_among ((octets_of c.args.s.now (λ i. omega (arith, c.type_inv.s i)))) c.requires.0 _ c.next_member.ensures
+sorted_least t c = sym c.in-At.is ∙ found_among (slice_octets c.args.s.now c.type_inv.s) c.requires.0 _ c.next_member.ensures
 
 pub put_sorted_stripped-places_for-to-requires : goal.put_sorted_stripped-places_for-to-requires
 put_sorted_stripped-places_for-to-requires t c =
@@ -375,7 +376,7 @@ pub put_sorted_stripped-returns : goal.put_sorted_stripped-returns
 put_sorted_stripped-returns t c = members_ends c.loop-i.invariant _ c.loop-i-test.false refl c.put_u32.ensures
 
 container_octets : (t : ℕ) (c : put_stripped-After-read_header t) → Octets c.args.s.now
-container_octets t c = octets_of c.args.s.now (λ i. omega (arith, c.type_inv.s i))
+container_octets t c = slice_octets c.args.s.now c.type_inv.s
 
 pub put_stripped-put_items_stripped-requires : goal.put_stripped-put_items_stripped-requires
 put_stripped-put_items_stripped-requires t c =

@@ -3,17 +3,17 @@ use native.Mathlib.Omega.{arith}
 use mathlib.Core.Path.{◌≡◌, ap₂, sym, ◌∙◌}
 use Rattle.layout.specs.Bytes.{Octets}
 use Rattle.layout.specs.Read.{header, read}
-use Rattle.layout.proofs.Words.{octets_of}
+use Rattle.layout.proofs.Words.{slice_octets}
 use Rattle.flight.specs.Profile.{profile_in, both_in, beside}
 use Rattle.flight.proofs.Ends.{ended_refused, ended_same, few_levels, beside_unread, beside_inside}
 use Rattle.flight.proofs.edit.flight_concat.Goals.{After-profile_of_both, After-slice_known-1}
 use Rattle.flight.proofs.edit.flight_concat.Goals as goal
 
 left_octets : (c : After-slice_known-1) → Octets c.args.left.now
-left_octets c = octets_of c.args.left.now (λ i. omega (arith, c.type_inv.left i))
+left_octets c = slice_octets c.args.left.now c.type_inv.left
 
 right_octets : (c : After-slice_known-1) → Octets c.args.right.now
-right_octets c = octets_of c.args.right.now (λ i. omega (arith, c.type_inv.right i))
+right_octets c = slice_octets c.args.right.now c.type_inv.right
 
 beside_told : (c : After-profile_of_both) → c.profile_of_both.result ≡ both_in (beside c.args.left.now c.args.right.now) (beside c.args.right.now c.args.left.now)
 beside_told c =

@@ -1,16 +1,15 @@
 -- `flight::edit::refuse_overlay` meets its contract.
-use native.Mathlib.Omega.{arith}
 use Rattle.layout.specs.Bytes.{Octets}
-use Rattle.layout.proofs.Words.{octets_of}
+use Rattle.layout.proofs.Words.{slice_octets}
 use Rattle.flight.proofs.Ends.{ended_refused, ended_unwritten, both_standing, beside_deep}
 use Rattle.flight.proofs.edit.refuse_overlay.Goals.{After-slice_known-1}
 use Rattle.flight.proofs.edit.refuse_overlay.Goals as goal
 
 left_octets : (c : After-slice_known-1) → Octets c.args.left.now
-left_octets c = octets_of c.args.left.now (λ i. omega (arith, c.type_inv.left i))
+left_octets c = slice_octets c.args.left.now c.type_inv.left
 
 right_octets : (c : After-slice_known-1) → Octets c.args.right.now
-right_octets c = octets_of c.args.right.now (λ i. omega (arith, c.type_inv.right i))
+right_octets c = slice_octets c.args.right.now c.type_inv.right
 
 pub returns-in-Refused : goal.returns-in-Refused
 returns-in-Refused c = ended_refused _ _ _ (both_standing _ _ _ _ c.profile_of_both.ensures c.in-Refused.is _)

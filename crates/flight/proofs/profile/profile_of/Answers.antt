@@ -1,14 +1,13 @@
 -- `flight::profile::profile_of` meets its contract.
-use native.Mathlib.Omega.{arith}
 use Rattle.layout.specs.Bytes.{Octets}
 use Rattle.layout.specs.Read.{read}
-use Rattle.layout.proofs.Words.{octets_of}
+use Rattle.layout.proofs.Words.{slice_octets}
 use Rattle.flight.proofs.Ends.{standing_refused, standing_deep, standing_inside, standing_outside}
 use Rattle.flight.proofs.profile.profile_of.Goals.{After-check_levels}
 use Rattle.flight.proofs.profile.profile_of.Goals as goal
 
 octets : (c : After-check_levels) → Octets c.args.s.now
-octets c = octets_of c.args.s.now (λ i. omega (arith, c.type_inv.s i))
+octets c = slice_octets c.args.s.now c.type_inv.s
 
 pub returns-then-passes : goal.returns-then-passes
 returns-then-passes c =

@@ -1,16 +1,15 @@
 -- `layout::check::check_levels` meets its contract.
-use native.Mathlib.Omega.{arith}
 use mathlib.Core.Path.{refl}
 use Rattle.layout.specs.Bytes.{Octets}
 use Rattle.layout.specs.Read.{read}
-use Rattle.layout.proofs.Words.{octets_of}
+use Rattle.layout.proofs.Words.{slice_octets}
 use Rattle.layout.proofs.Checks.{read_long}
 use Rattle.layout.proofs.Nestings.{nesting_refused, nesting_fits, nesting_scalar, nesting_deep}
 use Rattle.layout.proofs.check.check_levels.Goals.{After-check_nested}
 use Rattle.layout.proofs.check.check_levels.Goals as goal
 
 octets : (c : After-check_nested) → Octets c.args.s.now
-octets c = octets_of c.args.s.now (λ i. omega (arith, c.type_inv.s i))
+octets c = slice_octets c.args.s.now c.type_inv.s
 
 pub returns-then-s-gt-RECORD_LIMIT : goal.returns-then-s-gt-RECORD_LIMIT
 returns-then-s-gt-RECORD_LIMIT c = nesting_refused _ (read c.args.s.now) _ _ (read_long c.args.s.now c.if-s-gt-RECORD_LIMIT.true) refl

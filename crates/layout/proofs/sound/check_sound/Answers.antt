@@ -1,14 +1,13 @@
 -- `layout::sound::check_sound` meets its contract.
-use native.Mathlib.Omega.{arith}
 use Rattle.layout.specs.Bytes.{Octets}
 use Rattle.layout.specs.Read.{read}
-use Rattle.layout.proofs.Words.{octets_of}
+use Rattle.layout.proofs.Words.{slice_octets}
 use Rattle.layout.proofs.Sounds.{answer_refused, answer_sound, answer_unsound}
 use Rattle.layout.proofs.sound.check_sound.Goals.{After-check_record}
 use Rattle.layout.proofs.sound.check_sound.Goals as goal
 
 octets : (c : After-check_record) → Octets c.args.s.now
-octets c = octets_of c.args.s.now (λ i. omega (arith, c.type_inv.s i))
+octets c = slice_octets c.args.s.now c.type_inv.s
 
 pub returns-then-is_sound_where_readable : goal.returns-then-is_sound_where_readable
 returns-then-is_sound_where_readable c =

@@ -1,6 +1,6 @@
 -- `pointers::pointer::find_pointer` meets its contract.
 use native.Mathlib.Omega.{arith}
-use Rattle.layout.proofs.Words.{octets_of}
+use Rattle.layout.proofs.Words.{slice_octets}
 use Rattle.edits.proofs.Descents.{going_start, going_stop, going_on, going_end}
 use Rattle.pointers.specs.Pointer.{token_into}
 use Rattle.pointers.proofs.Steps.{tokens_left, left_first, left_none}
@@ -12,7 +12,7 @@ overflow_cast-s c = omega (arith, c.requires.0)
 pub loop-slash-init : goal.loop-slash-init
 loop-slash-init c = (
   omega arith,
-  going_start _ _ _ (octets_of c.args.s.now (λ i. omega (arith, c.type_inv.s i)))
+  going_start _ _ _ (slice_octets c.args.s.now c.type_inv.s)
       c.requires.0 c.requires.1 c.encoded.ensures,
 )
 

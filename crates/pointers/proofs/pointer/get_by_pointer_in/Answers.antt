@@ -1,8 +1,7 @@
 -- `pointers::pointer::get_by_pointer_in` meets its contract.
-use native.Mathlib.Omega.{arith}
 use mathlib.Core.Path.{sym, ◌∙◌}
 use borrow.Author.Tests.{not-true, not-false}
-use Rattle.layout.proofs.Words.{octets_of}
+use Rattle.layout.proofs.Words.{slice_octets}
 use Rattle.edits.proofs.Descents.{Passed}
 use Rattle.pointers.proofs.Lookups.{PointerRead, ContainerMet, Searched, search_ready}
 use Rattle.pointers.proofs.Lookups.{get_left, get_bad, get_whole, get_scalar, get_none, get_stands, get_item}
@@ -14,56 +13,45 @@ use Rattle.pointers.proofs.pointer.get_by_pointer_in.Goals as goal
 passed : (c : In_default) → Passed c.args.target.now
 passed c =
     record {
-      octets = octets_of c.args.target.now (λ i. omega (arith, c.type_inv.target i));
+      octets = slice_octets c.args.target.now c.type_inv.target;
       readable = sym c.check_record.ensures ∙ c.in_default.is;
     }
 
 pointer_read : (c : Else-not-is_pointer) → PointerRead c.args.target.now c.args.pointer.now
-pointer_read c =
-    record {
-      before = (
-          record {
-            octets = octets_of c.args.target.now (λ i. omega (arith, c.type_inv.target i));
-            readable = sym c.check_record.ensures ∙ c.in_default.is;
-          });
-      text = sym c.is_pointer.ensures ∙ not-false _ (ap not c.if-not-is_pointer.false);
-    }
+pointer_read c = record {
+  before = record {
+    octets = slice_octets c.args.target.now c.type_inv.target;
+    readable = sym c.check_record.ensures ∙ c.in_default.is;
+  };
+  text = sym c.is_pointer.ensures ∙ not-false _ (ap not c.if-not-is_pointer.false);
+}
 
 container_met : (c : In_default-read_header) → ContainerMet c.args.target.now c.args.pointer.now
-container_met c =
-    record {
-      before = (
-          record {
-            before = (
-                record {
-                  octets = octets_of c.args.target.now (λ i. omega (arith, c.type_inv.target i));
-                  readable = sym c.check_record.ensures ∙ c.in_default.is;
-                });
-            text = sym c.is_pointer.ensures ∙ not-false _ (ap not c.if-not-is_pointer.false);
-          });
-      container = λ m e.
-          c.in_default-read_header.not-Scalar m (c.read_header.ensures ∙ e);
-    }
+container_met c = record {
+  before = record {
+    before = record {
+      octets = slice_octets c.args.target.now c.type_inv.target;
+      readable = sym c.check_record.ensures ∙ c.in_default.is;
+    };
+    text = sym c.is_pointer.ensures ∙ not-false _ (ap not c.if-not-is_pointer.false);
+  };
+  container = λ m e. c.in_default-read_header.not-Scalar m (c.read_header.ensures ∙ e);
+}
 
 searched : (c : After-find_pointer) → Searched c.args.target.now c.args.pointer.now c.find_pointer.result
-searched c =
-    record {
-      before = (
-          record {
-            before = (
-                record {
-                  before = (
-                      record {
-                        octets = octets_of c.args.target.now (λ i. omega (arith, c.type_inv.target i));
-                        readable = sym c.check_record.ensures ∙ c.in_default.is;
-                      });
-                  text = sym c.is_pointer.ensures ∙ not-false _ (ap not c.if-not-is_pointer.false);
-                });
-            container = λ m e.
-                c.in_default-read_header.not-Scalar m (c.read_header.ensures ∙ e);
-          });
-      finds = c.find_pointer.ensures;
-    }
+searched c = record {
+  before = record {
+    before = record {
+      before = record {
+        octets = slice_octets c.args.target.now c.type_inv.target;
+        readable = sym c.check_record.ensures ∙ c.in_default.is;
+      };
+      text = sym c.is_pointer.ensures ∙ not-false _ (ap not c.if-not-is_pointer.false);
+    };
+    container = λ m e. c.in_default-read_header.not-Scalar m (c.read_header.ensures ∙ e);
+  };
+  finds = c.find_pointer.ensures;
+}
 
 pub returns-in-Refused : goal.returns-in-Refused
 returns-in-Refused c = get_left _ _ _ _ _ _ c.check_record.ensures c.in-Refused.is

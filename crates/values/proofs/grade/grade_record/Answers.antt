@@ -1,8 +1,7 @@
 -- `values::grade::grade_record` meets its contract.
-use native.Mathlib.Omega.{arith}
 use mathlib.Core.Path.{sym, ◌∙◌}
 use mathlib.Core.Bool.{true, false}
-use Rattle.layout.proofs.Words.{octets_of}
+use Rattle.layout.proofs.Words.{slice_octets}
 use Rattle.values.proofs.Grades.{Reading, reading, Unequal, graded_ungraded, graded_damaged, graded_right, graded_sound, graded_values}
 use Rattle.values.proofs.grade.grade_record.Goals.{Else-is_same_bytes, In_default, In_default-check_record}
 use Rattle.values.proofs.grade.grade_record.Goals as goal
@@ -11,13 +10,13 @@ use Rattle.values.proofs.grade.grade_record.Goals as goal
 expected : (c : In_default) → Reading c.args.expected.now
 expected c =
     reading c.args.expected.now _
-    (octets_of c.args.expected.now (λ i. omega (arith, c.type_inv.expected i)))
+    (slice_octets c.args.expected.now c.type_inv.expected)
     c.check_record.ensures c.in_default.is
 
 candidate : (c : In_default-check_record) → Reading c.args.candidate.now
 candidate c =
     reading c.args.candidate.now _
-    (octets_of c.args.candidate.now (λ i. omega (arith, c.type_inv.candidate i)))
+    (slice_octets c.args.candidate.now c.type_inv.candidate)
     c.check_record-2.ensures c.in_default-check_record.is
 
 unequal : (c : Else-is_same_bytes) → Unequal c.args.candidate.now c.args.expected.now
@@ -25,11 +24,11 @@ unequal c =
     record {
       candidate = (
           reading c.args.candidate.now _
-          (octets_of c.args.candidate.now (λ i. omega (arith, c.type_inv.candidate i)))
+          (slice_octets c.args.candidate.now c.type_inv.candidate)
           c.check_record-2.ensures c.in_default-check_record.is);
       expected = (
           reading c.args.expected.now _
-          (octets_of c.args.expected.now (λ i. omega (arith, c.type_inv.expected i)))
+          (slice_octets c.args.expected.now c.type_inv.expected)
           c.check_record.ensures c.in_default.is);
       differ = sym c.is_same_bytes.ensures ∙ c.if-is_same_bytes.false;
     }

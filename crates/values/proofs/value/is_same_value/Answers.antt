@@ -1,6 +1,5 @@
 -- `values::value::is_same_value` meets its contract.
-use native.Mathlib.Omega.{arith}
-use Rattle.layout.proofs.Words.{octets_of}
+use Rattle.layout.proofs.Words.{slice_octets}
 use Rattle.values.proofs.Grades.{Reading, reading, first_unread, second_unread, both_read}
 use Rattle.values.proofs.value.is_same_value.Goals.{In_default, In_default-check_record}
 use Rattle.values.proofs.value.is_same_value.Goals as goal
@@ -9,13 +8,13 @@ use Rattle.values.proofs.value.is_same_value.Goals as goal
 first : (c : In_default) → Reading c.args.a.now
 first c =
     reading c.args.a.now _
-    (octets_of c.args.a.now (λ i. omega (arith, c.type_inv.a i)))
+    (slice_octets c.args.a.now c.type_inv.a)
     c.check_record.ensures c.in_default.is
 
 second : (c : In_default-check_record) → Reading c.args.b.now
 second c =
     reading c.args.b.now _
-    (octets_of c.args.b.now (λ i. omega (arith, c.type_inv.b i)))
+    (slice_octets c.args.b.now c.type_inv.b)
     c.check_record-2.ensures c.in_default-check_record.is
 
 pub returns-in-Refused : goal.returns-in-Refused
