@@ -4,7 +4,7 @@ use Prim.Native.Nat.{ℕ, zero, suc, ◌+◌, ◌-◌, ◌^◌, ◌<◌, ◌≤�
 use native.Mathlib.Omega.{arith}
 use mathlib.Core.Path.{◌≡◌, refl, ap, ap₂, ◌∙◌}
 use mathlib.Core.Bool.{Bool, true, false, ◌&&◌, and-true}
-use mathlib.Core.List.{List, [], ◌∷◌, ◌++◌}
+use mathlib.Core.List.{List, [], ◌∷◌, ◌++◌, map}
 use lib.Dec.{T}
 use lib.ListN.{length, take, drop, length-append}
 use Rattle.layout.specs.Bytes.{Bytes, Octets}
@@ -14,17 +14,18 @@ use Rattle.layout.specs.Tree.{Tree, null, boolean, number, string, extension, ar
 use Rattle.layout.specs.Encode.{Part, part, name_parts, payload, item_parts, member_parts, scalar, encode, entries, payloads}
 use Rattle.layout.specs.Read.{header, read}
 use Rattle.layout.specs.Limits.{depth, depth_items, depth_members}
+use Rattle.layout.specs.Left.{Placed, part_shown}
 use Rattle.layout.specs.Place.{parts_at}
 use Rattle.layout.specs.Parts.{start_of, texts}
 use Rattle.layout.specs.Every.{Ask, every, every_items, every_members}
 use Rattle.layout.specs.EveryAt.{every_part, every_parts, every_by, every_at}
 use Rattle.layout.specs.declared.refusal.Refusal.{Refusal}
 use Rattle.layout.specs.declared.util.Header.{Header}
-use Rattle.layout.specs.declared.util.Header.TheVariants.{Array, Object, Scalar, Refused}
+use Rattle.layout.specs.declared.util.Header.TheVariants.{Array, Object, Scalar}
 use Rattle.layout.proofs.Decoding.{read_sound}
 use Rattle.layout.proofs.Encoding.{array_header, object_header, scalar_header, fits_of, small_scalar, array_fits, object_fits, names_count}
 use Rattle.layout.proofs.Places.{parts_at_record, names_at}
-use Rattle.layout.proofs.Checks.{parts_step}
+use Rattle.std.specs.Prelude.{Ok, Err, Result}
 
 -- ---- the bytes of a tree
 
@@ -176,45 +177,41 @@ every_other a f (suc (suc (suc (suc (suc zero))))) b h n e = absurd (h refl)
 every_other a f (suc (suc (suc (suc (suc (suc zero)))))) b h n e = e refl
 every_other a f (suc (suc (suc (suc (suc (suc (suc c))))))) b h n e = refl
 
--- Parts in turn: the answer for all of the `n` is that for those from the `i`th on, whose payload starts at `p`.
-module _ (a : Ask) (f : Bytes → Bool) (s : Bytes) (start i p n : ℕ)
-    (inv : every_parts a f (parts_at s 0 start n) ≡ every_parts a f (parts_at s i p (n - i))) where
-  module _ (e c l : ℕ) (g : Bool) (lt : i < n) (he : e ≡ entry_at s i) (hl : l ≡ length_of e) (hc : c ≡ code_of e) (b : Bytes)
-      (hb : b ≡ take l (drop p s)) (hg : g ≡ every_part a f (kind_of c) b) where
-    every_turn : every_parts a f (parts_at s 0 start n) ≡ (g && every_parts a f (parts_at s (i + 1) (p + l) (n - (i + 1))))
+-- Parts in turn: the answer for all of them is that for those that are left.
+module _ (a : Ask) (f : Bytes → Bool) (all : Bool) (ps : List Placed) (inv : all ≡ every_parts a f (map part_shown ps)) where
+  module _ (q : Placed) (qs : List Placed) (e : ps ≡ q ∷ qs) (c : ℕ) (hc : c ≡ code_of q.jentry) (g : Bool)
+      (hg : g ≡ every_part a f (kind_of c) q.bytes) where
+    every_turn : all ≡ (g && every_parts a f (map part_shown qs))
     unfolding every_parts
-    every_turn =
-        let le : length_of (entry_at s i) ≡ l = cc in
-        let ce : code_of (entry_at s i) ≡ c = cc in
-        inv ∙ rw (parts_step s i p n lt, le, ce, ← hb, ← hg)
+    every_turn = inv ∙ rw (e, ← hc, ← hg)
 
-    pub every_stop : g ≡ false → false ≡ every_parts a f (parts_at s 0 start n)
+    pub every_stop : g ≡ false → false ≡ all
     every_stop q = rw (every_turn, q)
 
-    pub every_more : g ≡ true → every_parts a f (parts_at s 0 start n) ≡ every_parts a f (parts_at s (i + 1) (p + l) (n - (i + 1)))
+    pub every_more : g ≡ true → all ≡ every_parts a f (map part_shown qs)
     every_more q = rw (every_turn, q)
 
-  pub every_end : n ≤ i → true ≡ every_parts a f (parts_at s 0 start n)
-  unfolding every_parts parts_at
-  every_end le = let z : n - i ≡ 0 = omega arith in rw (inv, z)
+  pub every_end : ps ≡ [] → true ≡ all
+  unfolding every_parts
+  every_end e = rw (inv, e)
 
 -- A record, down to `k` levels.
 pub every_none : (a : Ask) (k : ℕ) (s : Bytes) → k ≡ 0 → true ≡ every_at a k s
 unfolding every_at
 every_none a k s z = rw z
 
-every_some : (a : Ask) (k : ℕ) (s : Bytes) (h : Header) → (k ≡ 0 → ⊥) → h ≡ header s → every_at a k s ≡ every_by a (every_at a (k - 1)) h s
+every_some : (a : Ask) (k : ℕ) (s : Bytes) (h : Result Header Refusal) → (k ≡ 0 → ⊥) → h ≡ header s → every_at a k s ≡ every_by a (every_at a (k - 1)) h s
 unfolding every_at
 every_some a zero s h z hh = absurd (z refl)
 every_some a (suc k) s h z hh = let e : suc k - 1 ≡ k = omega arith in rw (e, hh)
 
-module _ (a : Ask) (k : ℕ) (s : Bytes) (h : Header) (z : k ≡ 0 → ⊥) (hh : h ≡ header s) where
-  pub every_refused : (r : Refusal) → h ≡ Refused r → true ≡ every_at a k s
+module _ (a : Ask) (k : ℕ) (s : Bytes) (h : Result Header Refusal) (z : k ≡ 0 → ⊥) (hh : h ≡ header s) where
+  pub every_refused : (r : Refusal) → h ≡ Err r → true ≡ every_at a k s
   every_refused r q = rw (every_some a k s h z hh, q)
 
   module _ (n : ℕ) where
     -- The one part of a scalar record is asked as a part below which no level is left.
-    pub every_scalar : (e c l : ℕ) (b : Bytes) (g : Bool) → h ≡ Scalar n → e ≡ entry_at s 0 → l ≡ length_of e → c ≡ code_of e →
+    pub every_scalar : (e c l : ℕ) (b : Bytes) (g : Bool) → h ≡ Ok (Scalar n) → e ≡ entry_at s 0 → l ≡ length_of e → c ≡ code_of e →
         b ≡ take l (drop 8 s) → g ≡ every_part a (every_at a 0) (kind_of c) b → g ≡ every_at a k s
     unfolding every_parts every_at parts_at
     every_scalar e c l b g q he hl hc hb hg =
@@ -222,10 +219,10 @@ module _ (a : Ask) (k : ℕ) (s : Bytes) (h : Header) (z : k ≡ 0 → ⊥) (hh 
         let ce : code_of (entry_at s 0) ≡ c = cc in
         rw (every_some a k s h z hh, q, le, ce, ← hb, and-true (every_part a (every_at a 0) (kind_of c) b)) hg
 
-    pub every_array : (g : Bool) → h ≡ Array n → g ≡ every_parts a (every_at a (k - 1)) (parts_at s 0 (start_of n) n) → g ≡ every_at a k s
+    pub every_array : (g : Bool) → h ≡ Ok (Array n) → g ≡ every_parts a (every_at a (k - 1)) (parts_at s 0 (start_of n) n) → g ≡ every_at a k s
     every_array g q hg = rw (every_some a k s h z hh, q) hg
 
-    module _ (r : Bool) (q : h ≡ Object n) (hr : r ≡ a.names (texts (parts_at s 0 (start_of (n + n)) n))) where
+    module _ (r : Bool) (q : h ≡ Ok (Object n)) (hr : r ≡ a.names (texts (parts_at s 0 (start_of (n + n)) n))) where
       pub every_object : (g : Bool) → r ≡ true → g ≡ every_parts a (every_at a (k - 1)) (parts_at s 0 (start_of (n + n)) (n + n)) →
           g ≡ every_at a k s
       every_object g t hg = rw (every_some a k s h z hh, q, ← hr, t) hg

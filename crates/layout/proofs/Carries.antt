@@ -16,12 +16,13 @@ use Rattle.layout.specs.Place.{parts_at}
 use Rattle.layout.specs.Pass.{items_checked, items_by_table, names_end}
 use Rattle.layout.specs.Table.{table_place, parts_by_table, table_places, nth_member, table_member, members_by_table, Carried, CarriedPair}
 use Rattle.layout.specs.Parts.{start_of, member_at, members_from, members_at, members_of, pairs_of, behind_member, nth_part, first_part, next_part}
-use Rattle.layout.specs.declared.check.NamesEnd.TheVariants.{At}
+use Rattle.layout.specs.Left.{placed_from, placed_by_table}
 use Rattle.layout.specs.declared.parts.MemberAt.{MemberAt}
 use Rattle.layout.specs.declared.parts.Places.{Places}
 use Rattle.layout.specs.declared.parts.PartAt.{PartAt}
 use Rattle.layout.proofs.Places.{lengths_split, laid}
 use Rattle.layout.proofs.Passes.{names_to}
+use Rattle.std.specs.Prelude.{Some}
 
 -- The first item stands behind the table, and each of the others behind the one before.
 pub place_first : (s : Bytes) (n : ℕ) → start_of n ≡ table_place s n 0
@@ -38,10 +39,7 @@ place_behind s n i = omega (arith, lengths_snoc s i)
 pub place_on : (s : Bytes) (n i p e l : ℕ) → p ≡ table_place s n i → e ≡ entry_at s i → l ≡ length_of e → p + l ≡ table_place s n (i + 1)
 place_on s n i p e l h he hl = rw (h, hl, he) (place_behind s n i)
 
--- A loop carries its place from the start, and from one item to the next.
-pub carried_start : (s : Bytes) (i p : ℕ) → Carried s i p i p
-carried_start s i p n e = e
-
+-- A loop carries its place from one item to the next.
 pub carried_on : (s : Bytes) (from start i p e l : ℕ) → Carried s from start i p → e ≡ entry_at s i → l ≡ length_of e
     → Carried s from start (i + 1) (p + l)
 carried_on s from start i p e l c he hl n h = place_on s n i p e l (c n h) he hl
@@ -114,6 +112,16 @@ unfolding parts_at parts_by_table
 parts_carry s n i zero = refl
 parts_carry s n i (suc k) = rw (place_behind s n i, parts_carry s n (i + 1) k)
 
+-- What an iterator has left, wherever it starts: whichever table gives its first place gives every place behind it.
+table_carry : (s : Bytes) (n i k : ℕ) → placed_from s (nth_part s n i) k ≡ placed_by_table s n i k
+unfolding placed_from placed_by_table
+table_carry s n i zero = refl
+table_carry s n i (suc k) = rw (place_behind s n i, table_carry s n (i + 1) k)
+
+pub placed_carry : (s : Bytes) (n from start k : ℕ) → start ≡ table_place s n from
+    → placed_from s (record { index = from; place = start }) k ≡ placed_by_table s n from k
+placed_carry s n from start k e = rw (e, table_carry s n from k)
+
 pub parts_read : (s : Bytes) (n names : ℕ) (ps : List Part) → 4 ≤ length s → parts n names (drop 4 s) ≡ gives ps
     → ps ≡ parts_by_table s n 0 n
 parts_read s n names ps four e =
@@ -126,10 +134,6 @@ part_start s n p e = rw e (ap (λ (q : ℕ). record { index = 0; place = q }) (p
 pub part_on : (s : Bytes) (n : ℕ) (p q : PartAt) → p ≡ nth_part s n p.index → q ≡ next_part s p → q ≡ nth_part s n q.index
 part_on s n p q e h = rw (h, e) (rw (place_behind s n p.index))
 
-pub carried_part : (s : Bytes) (from start : ℕ) (p q : PartAt) → Carried s from start p.index p.place → q ≡ next_part s p
-    → Carried s from start q.index q.place
-carried_part s from start p q c h = rw h (carried_on s from start p.index p.place _ _ c refl refl)
-
 -- The check: the items in one pass, and the place where the names end.
 pub check_carries : (inner : Bytes → Answer Tree) (s : Bytes) (n i k : ℕ)
     → items_checked inner s i (table_place s n i) k ≡ items_by_table inner s n i k
@@ -137,5 +141,5 @@ unfolding items_checked items_by_table
 check_carries inner s n i zero = refl
 check_carries inner s n i (suc k) = rw (place_behind s n i, check_carries inner s n (i + 1) k)
 
-pub names_carry : (s : Bytes) (n names e : ℕ) → names_end s 0 (start_of n) names ≡ At e → e ≡ table_place s n names
+pub names_carry : (s : Bytes) (n names e : ℕ) → names_end s 0 (start_of n) names ≡ Some e → e ≡ table_place s n names
 names_carry s n names e q = (names_to s names 0 (start_of n) names e (omega arith) q).place

@@ -18,20 +18,22 @@ use Rattle.layout.specs.declared.item.Kind.{Kind}
 use Rattle.layout.specs.declared.item.Kind.TheVariants.{Null, String, Number, False, True, Container, Extension}
 use Rattle.layout.specs.declared.refusal.Refusal.TheVariants.{Short, Layout, Limit}
 use Rattle.layout.specs.declared.util.Header.{Header}
-use Rattle.layout.specs.declared.util.Header.TheVariants.{Array, Object, Scalar, Refused}
+use Rattle.layout.specs.declared.util.Header.TheVariants.{Array, Object, Scalar}
 use Rattle.layout.proofs.Words.{be32_word, octets_drop, octets_left, octets_right}
 use Rattle.layout.proofs.Answers.{from_bind, from_require, gives_inj, refused_gives}
 use Rattle.layout.proofs.Entries.{length_ok}
 use Rattle.layout.proofs.Level.{AllFit, kinds, Named, string_kind, parts_sound, entry_sound}
+use Rattle.std.specs.Prelude.{Ok, Err, Result}
+use Rattle.layout.specs.declared.refusal.Refusal.{Refusal}
 
 -- Headers.
 
 -- What is known of a record by its header.
-abbrev Heads : Bytes → Header → Type 0
-Heads b (Refused r) = Unit {0}
-Heads b (Array n) = be32 (2 ^ 31 + n) ++ drop 4 b ≡ b
-Heads b (Object n) = be32 (2 ^ 30 + n) ++ drop 4 b ≡ b
-Heads b (Scalar n) = be32 (2 ^ 29 + n) ++ drop 4 b ≡ b
+abbrev Heads : Bytes → Result Header Refusal → Type 0
+Heads b (Err r) = Unit {0}
+Heads b (Ok (Array n)) = be32 (2 ^ 31 + n) ++ drop 4 b ≡ b
+Heads b (Ok (Object n)) = be32 (2 ^ 30 + n) ++ drop 4 b ≡ b
+Heads b (Ok (Scalar n)) = be32 (2 ^ 29 + n) ++ drop 4 b ≡ b
 
 pub heads : (b : Bytes) → Octets b → Heads b (header b)
 unfolding header sort_of count_of
@@ -46,7 +48,7 @@ heads b o =
     whole tag w e f l = rw (f, e) (be32_word b o l)
 
     go : (s x y z : Bool) → (T (not s) → 4 ≤ length b) → (T x → word b / 2 ^ 29 ≡ 4) → (T y → word b / 2 ^ 29 ≡ 2) → (T z → word b / 2 ^ 29 ≡ 1) →
-        Heads b (cond s (Refused Short) (cond x (Array n) (cond y (Object n) (cond z (Scalar n) (Refused Layout)))))
+        Heads b (cond s (Err Short) (cond x (Ok (Array n)) (cond y (Ok (Object n)) (cond z (Ok (Scalar n)) (Err Layout)))))
     go true x y z hs hx hy hz = tt
     go false true y z hs hx hy hz =
         let e : word b / 2 ^ 29 ≡ 4 = hx tt in
@@ -205,18 +207,18 @@ module _ (k : ℕ) (inner : Bytes → Answer Tree) (r : Reads k inner) (n : ℕ)
         deep = omega (arith, v.1, h.2);
       })
 
-container_sound : (k : ℕ) (inner : Bytes → Answer Tree) → Reads k inner → (h : Header) (b : Bytes) (t : Tree) → Octets b → Heads b h →
+container_sound : (k : ℕ) (inner : Bytes → Answer Tree) → Reads k inner → (h : Result Header Refusal) (b : Bytes) (t : Tree) → Octets b → Heads b h →
     container_in inner h (drop 4 b) ≡ gives t → Is (suc k) (record { kind = Container; bytes = b }) t
-container_sound k inner r (Refused x) b t o w e = refused_gives e
-container_sound k inner r (Scalar n) b t o w e = refused_gives e
-container_sound k inner r (Array n) b t o w e = rw w at (array_sound k inner r n (drop 4 b) t (octets_drop 4 b o) e)
-container_sound k inner r (Object n) b t o w e = rw w at (object_sound k inner r n (drop 4 b) t (octets_drop 4 b o) e)
+container_sound k inner r (Err x) b t o w e = refused_gives e
+container_sound k inner r (Ok (Scalar n)) b t o w e = refused_gives e
+container_sound k inner r (Ok (Array n)) b t o w e = rw w at (array_sound k inner r n (drop 4 b) t (octets_drop 4 b o) e)
+container_sound k inner r (Ok (Object n)) b t o w e = rw w at (object_sound k inner r n (drop 4 b) t (octets_drop 4 b o) e)
 
-deep_sound : {C : Type 0} (h : Header) {t : Tree} → too_deep h ≡ gives t → C
-deep_sound (Refused x) e = refused_gives e
-deep_sound (Scalar n) e = refused_gives e
-deep_sound (Array n) e = refused_gives e
-deep_sound (Object n) e = refused_gives e
+deep_sound : {C : Type 0} (h : Result Header Refusal) {t : Tree} → too_deep h ≡ gives t → C
+deep_sound (Err x) e = refused_gives e
+deep_sound (Ok (Scalar n)) e = refused_gives e
+deep_sound (Ok (Array n)) e = refused_gives e
+deep_sound (Ok (Object n)) e = refused_gives e
 
 -- A nested record is the payload of the tree that it reads as.
 pub nested_sound : (k : ℕ) → Reads k (nested k)
@@ -283,11 +285,11 @@ scalar_sound n b t o w e =
 root_of : (b : Bytes) (t : Tree) → Is 64 (record { kind = Container; bytes = b }) t → Root b t
 root_of b t h = record { bytes = container_encode t b h.same; valid = h.valid; deep = h.deep }
 
-root_sound : (h : Header) (b : Bytes) (t : Tree) → Octets b → Heads b h → root_in h (drop 4 b) ≡ gives t → Root b t
-root_sound (Refused x) b t o w e = refused_gives e
-root_sound (Scalar n) b t o w e = scalar_sound n b t o w e
-root_sound (Array n) b t o w e = root_of b t (container_sound 63 (nested 63) (nested_sound 63) (Array n) b t o w e)
-root_sound (Object n) b t o w e = root_of b t (container_sound 63 (nested 63) (nested_sound 63) (Object n) b t o w e)
+root_sound : (h : Result Header Refusal) (b : Bytes) (t : Tree) → Octets b → Heads b h → root_in h (drop 4 b) ≡ gives t → Root b t
+root_sound (Err x) b t o w e = refused_gives e
+root_sound (Ok (Scalar n)) b t o w e = scalar_sound n b t o w e
+root_sound (Ok (Array n)) b t o w e = root_of b t (container_sound 63 (nested 63) (nested_sound 63) (Ok (Array n)) b t o w e)
+root_sound (Ok (Object n)) b t o w e = root_of b t (container_sound 63 (nested 63) (nested_sound 63) (Ok (Object n)) b t o w e)
 
 -- A readable record is the bytes of its tree.
 pub read_sound : (b : Bytes) (t : Tree) → Octets b → read b ≡ gives t → Root b t × (length b ≤ 65536)

@@ -23,6 +23,8 @@ use Rattle.layout.proofs.Words.{word_be32, drop_be32, length_be32}
 use Rattle.layout.proofs.Answers.{to_bind, to_require}
 use Rattle.layout.proofs.Level.{Fits, AllFit, kinds, Named, code_small, entry_complete, entries_length, parts_complete}
 use Rattle.layout.proofs.Decoding.{read_is, payloads_append}
+use Rattle.std.specs.Prelude.{Ok, Result}
+use Rattle.layout.specs.declared.refusal.Refusal.{Refusal}
 
 -- Headers.
 
@@ -30,21 +32,21 @@ head_long : (w : ℕ) (r : Bytes) → 4 ≤ length (be32 w ++ r)
 head_long w r = omega (arith, length-append (be32 w) r, length_be32 w)
 
 module _ (n : ℕ) (r : Bytes) (h : n < 2 ^ 29) where
-  pub array_header : header (be32 (2 ^ 31 + n) ++ r) ≡ Array n
+  pub array_header : header (be32 (2 ^ 31 + n) ++ r) ≡ Ok (Array n)
   unfolding header sort_of count_of
   array_header =
       let q : (2 ^ 31 + n) / 2 ^ 29 ≡ 4 = omega arith in
       let m : (2 ^ 31 + n) % 2 ^ 29 ≡ n = omega arith in
       rw (le-ltb (length (be32 (2 ^ 31 + n) ++ r)) 4 (head_long (2 ^ 31 + n) r), word_be32 (2 ^ 31 + n) r (omega arith), q, m)
 
-  pub object_header : header (be32 (2 ^ 30 + n) ++ r) ≡ Object n
+  pub object_header : header (be32 (2 ^ 30 + n) ++ r) ≡ Ok (Object n)
   unfolding header sort_of count_of
   object_header =
       let q : (2 ^ 30 + n) / 2 ^ 29 ≡ 2 = omega arith in
       let m : (2 ^ 30 + n) % 2 ^ 29 ≡ n = omega arith in
       rw (le-ltb (length (be32 (2 ^ 30 + n) ++ r)) 4 (head_long (2 ^ 30 + n) r), word_be32 (2 ^ 30 + n) r (omega arith), q, m)
 
-pub scalar_header : (r : Bytes) → header (be32 (2 ^ 29) ++ r) ≡ Scalar 0
+pub scalar_header : (r : Bytes) → header (be32 (2 ^ 29) ++ r) ≡ Ok (Scalar 0)
 unfolding header sort_of count_of
 scalar_header r = rw (le-ltb (length (be32 (2 ^ 29) ++ r)) 4 (head_long (2 ^ 29) r), word_be32 (2 ^ 29) r (omega arith))
 
@@ -220,7 +222,7 @@ mutual
 
 -- Records.
 
-root_complete : (w : ℕ) (r : Bytes) (h : Header) (t : Tree) → length (be32 w ++ r) ≤ 65536 → header (be32 w ++ r) ≡ h → root_in h r ≡ gives t →
+root_complete : (w : ℕ) (r : Bytes) (h : Result Header Refusal) (t : Tree) → length (be32 w ++ r) ≤ 65536 → header (be32 w ++ r) ≡ h → root_in h r ≡ gives t →
     read (be32 w ++ r) ≡ gives t
 root_complete w r h t l e f =
     read_is (be32 w ++ r) ∙ to_require _ _ _ _ (le→leb (length (be32 w ++ r)) 65536 l) (rw (e, drop_be32 w r) f)
@@ -235,7 +237,7 @@ scalar_complete t f e h =
     let l : 4 ≤ length b = head_long (entry_word p) p.bytes in
     let s : scalar t ≡ be32 (2 ^ 29) ++ b = rw (append-nil (be32 (entry_word p)), append-nil p.bytes) in
     rw s
-    (root_complete (2 ^ 29) b (Scalar 0) t (rw (← s) h) (scalar_header b)
+    (root_complete (2 ^ 29) b (Ok (Scalar 0)) t (rw (← s) h) (scalar_header b)
     (to_require _ _ _ _ tt
     (to_require _ _ _ _ (le→leb 4 (length b) l)
     (to_bind _ (ap (entry false) (word_be32 (entry_word p) p.bytes w) ∙ entry_complete false p f tt)
@@ -264,12 +266,12 @@ read_encode (array ts) v d h =
     let ps : List Part = item_parts ts in
     let body : Bytes = entries ps ++ payloads ps in
     let f = array_fits ts (omega arith) in
-    root_complete (2 ^ 31 + length ps) body (Array (length ps)) (array ts) h (array_header (length ps) body f.count)
+    root_complete (2 ^ 31 + length ps) body (Ok (Array (length ps))) (array ts) h (array_header (length ps) body f.count)
     (array_complete (nested 63) ts f.fits (items_complete ts 63 v (omega arith) f.small))
 read_encode (object ms) v d h =
     let mp : List Part = member_parts ms in
     let ps : List Part = name_parts (names ms) ++ mp in
     let body : Bytes = entries ps ++ payloads ps in
     let f = object_fits ms (omega arith) in
-    root_complete (2 ^ 30 + length mp) body (Object (length mp)) (object ms) h (object_header (length mp) body f.count)
+    root_complete (2 ^ 30 + length mp) body (Ok (Object (length mp))) (object ms) h (object_header (length mp) body f.count)
     (object_complete (nested 63) ms f v (members_complete ms 63 v (omega arith) f.small))

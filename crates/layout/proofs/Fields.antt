@@ -1,22 +1,23 @@
 -- Laws of bytes, fields and entries by their places.
-use Prim.Native.Nat.{ℕ, zero, suc, ◌+◌, ◌*◌, ◌-◌, ◌%◌, ◌^◌, ◌<◌, ◌≤◌}
+use Prim.Native.Nat.{ℕ, zero, suc, ◌+◌, ◌*◌, ◌-◌, ◌^◌, ◌<◌, ◌≤◌}
 use native.Mathlib.Omega.{arith}
 use native.Mathlib.Nat.{add-zero}
 use mathlib.Core.Path.{◌≡◌, refl, sym, ap, ◌∙◌}
 use mathlib.Core.Bool.{Bool, true, false}
-use mathlib.Core.List.{[], ◌++◌}
+use mathlib.Core.List.{[], ◌∷◌, ◌++◌}
+use Rattle.std.specs.Int.{w32, from_be_bytes}
 use lib.Dec.{leb}
-use lib.ListN.{length, take, drop, get_or, length-drop, drop_of_length-le}
+use lib.ListN.{length, take, drop, get_or, drop_of_length-le}
 use lib.Seq.{take_all, take-nil, get_or-drop}
-use lib.Bits.{bit_and, bit_or, and_mask, or_shifted}
 use borrow.Author.Tests.{leb-true, leb-false, lt-leb, le-leb, lt-ltb, le-ltb, ne_eqb}
-use Rattle.layout.specs.Bytes.{Bytes, be32, word, inside, word_at, part_word}
+use Rattle.layout.specs.Bytes.{Bytes, be32, word, inside, word_at}
 use Rattle.layout.specs.Entry.{top_of, code_of, length_of, entry_of, sort_of, count_of, kind_of}
 use Rattle.layout.specs.Read.{header}
 use Rattle.layout.specs.declared.item.Kind.TheVariants.{Null}
 use Rattle.layout.specs.declared.refusal.Refusal.TheVariants.{Short, Layout}
-use Rattle.layout.specs.declared.util.Header.TheVariants.{Array, Object, Scalar, Refused}
+use Rattle.layout.specs.declared.util.Header.TheVariants.{Array, Object, Scalar}
 use Rattle.layout.proofs.Words.{word_is, word_be32}
+use Rattle.std.specs.Prelude.{Ok, Err}
 
 -- Bytes inside a slice.
 pub inside_none : (s : Bytes) (at n : ℕ) → length s < n → false ≡ inside s at n
@@ -37,15 +38,7 @@ pub inside_le : (s : Bytes) (at n : ℕ) (g : Bool) → g ≡ inside s at n → 
 unfolding inside
 inside_le s at n g hg q = leb-true (at + n) (length s) (sym hg ∙ q)
 
--- A part of a slice, by where it starts and ends.
-pub part_whole : (at n : ℕ) (s : Bytes) → take (at + n - at) (drop at s) ≡ take n (drop at s)
-part_whole at n s = let q : at + n - at ≡ n = omega arith in rw q
-
-pub part_rest : (at n : ℕ) (s : Bytes) → length s - at ≤ n → take (length s - at) (drop at s) ≡ take n (drop at s)
-part_rest at n s h =
-    let l : length (drop at s) ≡ length s - at = length-drop at s in
-    take_all (length s - at) (drop at s) (omega arith) ∙ sym (take_all n (drop at s) (omega arith))
-
+-- A part of a slice from behind its end on is empty.
 pub part_none : (at n : ℕ) (s : Bytes) → length s < at → [] ≡ take n (drop at s)
 part_none at n s h = let k : length s ≤ at = omega arith in sym (ap (take n) (drop_of_length-le s k) ∙ take-nil n)
 
@@ -67,10 +60,6 @@ word_at_drop s at =
 -- The header of a record.
 pub word_at_be32 : (w : ℕ) (r : Bytes) → w < 2 ^ 32 → word_at (be32 w ++ r) 0 ≡ w
 word_at_be32 w r h = word_at_drop (be32 w ++ r) 0 ∙ word_be32 w r h
-
-pub word_at_part : (s : Bytes) (at : ℕ) → part_word (take (length s - 0) (drop 0 s)) at 4 ≡ word_at s at
-unfolding word_at
-word_at_part s at = rw (part_all s)
 
 -- A code that is no other kind's counts as null.
 pub kind_null : (c : ℕ) → (c ≡ 1 → ⊥) → (c ≡ 2 → ⊥) → (c ≡ 3 → ⊥) → (c ≡ 4 → ⊥) → (c ≡ 5 → ⊥) → (c ≡ 6 → ⊥) → Null ≡ kind_of c
@@ -106,16 +95,9 @@ pub entry_split : (w : ℕ) → top_of w ≡ 0 → entry_of (code_of w) (length_
 unfolding top_of code_of length_of
 entry_split w h = omega arith
 
--- The same with shifts and masks.
-pub encoded_is : (c n : ℕ) → bit_or (bit_and c 7 * 2 ^ 28 % 2 ^ 32) (bit_and n 0xFFFFFFF) ≡ entry_of (c % 2 ^ 3) (n % 2 ^ 28)
-encoded_is c n =
-    let small : n % 2 ^ 28 < 2 ^ 28 = omega arith in
-    let whole : c % 2 ^ 3 * 2 ^ 28 % 2 ^ 32 ≡ c % 2 ^ 3 * 2 ^ 28 = omega arith in
-    rw (and_mask c 3, and_mask n 28, whole) (or_shifted (c % 2 ^ 3) 28 (n % 2 ^ 28) small)
-
 -- A header by the tests of its sort.
 module _ (s : Bytes) where
-  pub header_short : length s < 4 → Refused Short ≡ header s
+  pub header_short : length s < 4 → Err Short ≡ header s
   unfolding header
   header_short h = rw (lt-ltb (length s) 4 h)
 
@@ -126,20 +108,27 @@ module _ (s : Bytes) where
     count_is : n ≡ count_of (word s)
     count_is = hn ∙ ap count_of (hw ∙ word_at_drop s 0)
 
-    pub header_array : k ≡ 4 → Array n ≡ header s
+    pub header_array : k ≡ 4 → Ok (Array n) ≡ header s
     unfolding header
     header_array q = rw (le-ltb (length s) 4 le, ← sort_is, q, count_is)
 
     module _ (p : k ≡ 4 → ⊥) where
-      pub header_object : k ≡ 2 → Object n ≡ header s
+      pub header_object : k ≡ 2 → Ok (Object n) ≡ header s
       unfolding header
       header_object q = rw (le-ltb (length s) 4 le, ← sort_is, q, count_is)
 
       module _ (q : k ≡ 2 → ⊥) where
-        pub header_scalar : k ≡ 1 → Scalar n ≡ header s
+        pub header_scalar : k ≡ 1 → Ok (Scalar n) ≡ header s
         unfolding header
         header_scalar r = rw (le-ltb (length s) 4 le, ← sort_is, r, count_is)
 
-        pub header_none : (k ≡ 1 → ⊥) → Refused Layout ≡ header s
+        pub header_none : (k ≡ 1 → ⊥) → Err Layout ≡ header s
         unfolding header
         header_none r = rw (le-ltb (length s) 4 le, ← sort_is, ne_eqb k 4 p, ne_eqb k 2 q, ne_eqb k 1 r)
+
+-- A field that the library reads from its bytes.
+pub word_from : (s : Bytes) (at w x y z u : ℕ) → w ≡ from_be_bytes w32 (x ∷ y ∷ z ∷ u ∷ []) → x ≡ get_or s at 0 → y ≡ get_or s (at + 1) 0
+    → z ≡ get_or s (at + 2) 0 → u ≡ get_or s (at + 3) 0 → w ≡ word_at s at
+word_from s at w x y z u e hx hy hz hu =
+    let q : w ≡ ((x * 256 + y) * 256 + z) * 256 + u = omega (arith, e) in
+    q ∙ rw (hx, hy, hz, hu) (word_at_bytes s at)

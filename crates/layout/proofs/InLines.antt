@@ -16,8 +16,10 @@ use Rattle.layout.specs.EveryAt.{every_part, every_parts, every_by, every_at, so
 use Rattle.layout.specs.declared.item.Kind.{Kind}
 use Rattle.layout.specs.declared.item.Kind.TheVariants.{Null, String, Number, False, True, Container, Extension}
 use Rattle.layout.specs.declared.util.Header.{Header}
-use Rattle.layout.specs.declared.util.Header.TheVariants.{Array, Object, Scalar, Refused}
+use Rattle.layout.specs.declared.util.Header.TheVariants.{Array, Object, Scalar}
 use Rattle.layout.proofs.Sounds.{texts_rise}
+use Rattle.std.specs.Prelude.{Ok, Err, Result}
+use Rattle.layout.specs.declared.refusal.Refusal.{Refusal}
 
 -- ---- the test of soundness, which is `every sound_ask`
 
@@ -72,11 +74,11 @@ abbrev parts_in_lines : (Bytes → Bool) → List Part → Bool
 parts_in_lines f [] = true
 parts_in_lines f (p ∷ ps) = part_in_lines f p.kind p.bytes && parts_in_lines f ps
 
-abbrev by_in_lines : (Bytes → Bool) → Header → Bytes → Bool
-by_in_lines f (Refused r) s = true
-by_in_lines f (Scalar n) s = true
-by_in_lines f (Array n) s = parts_in_lines f (parts_at s 0 (4 + 4 * n) n)
-by_in_lines f (Object n) s =
+abbrev by_in_lines : (Bytes → Bool) → Result Header Refusal → Bytes → Bool
+by_in_lines f (Err r) s = true
+by_in_lines f (Ok (Scalar n)) s = true
+by_in_lines f (Ok (Array n)) s = parts_in_lines f (parts_at s 0 (4 + 4 * n) n)
+by_in_lines f (Ok (Object n)) s =
     rising_parts (parts_at s 0 (4 + 4 * (n + n)) n) && parts_in_lines f (parts_at s 0 (4 + 4 * (n + n)) (n + n))
 
 abbrev pub sound_at_in_lines : ℕ → Bytes → Bool
@@ -110,12 +112,12 @@ module _ (f g : Bytes → Bool) (same : (b : Bytes) → f b ≡ g b) where
   parts_are [] = refl
   parts_are (p ∷ ps) = ap₂ ◌&&◌ (part_is p.kind p.bytes) (parts_are ps)
 
-  by_is : (h : Header) (s : Bytes) → every_by sound_ask f h s ≡ by_in_lines g h s
+  by_is : (h : Result Header Refusal) (s : Bytes) → every_by sound_ask f h s ≡ by_in_lines g h s
   unfolding every_parts parts_at
-  by_is (Refused r) s = refl
-  by_is (Scalar n) s = scalar_passes _ _
-  by_is (Array n) s = parts_are (parts_at s 0 (4 + 4 * n) n)
-  by_is (Object n) s = ap₂ ◌&&◌ (sym (texts_rise (parts_at s 0 (4 + 4 * (n + n)) n))) (parts_are (parts_at s 0 (4 + 4 * (n + n)) (n + n)))
+  by_is (Err r) s = refl
+  by_is (Ok (Scalar n)) s = scalar_passes _ _
+  by_is (Ok (Array n)) s = parts_are (parts_at s 0 (4 + 4 * n) n)
+  by_is (Ok (Object n)) s = ap₂ ◌&&◌ (sym (texts_rise (parts_at s 0 (4 + 4 * (n + n)) n))) (parts_are (parts_at s 0 (4 + 4 * (n + n)) (n + n)))
 
 pub sound_at_is : (k : ℕ) (s : Bytes) → sound_at k s ≡ sound_at_in_lines k s
 unfolding every_at

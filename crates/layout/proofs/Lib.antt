@@ -1,5 +1,6 @@
 -- The laws of the layout, from the leaf up.
 pub mod Lists
+pub mod HandedOn
 pub mod Words
 pub mod Fields
 pub mod Patches
@@ -22,10 +23,13 @@ pub mod Texts
 pub mod Points
 pub mod TextCases
 pub mod Checks
+pub mod Neighbours
+pub mod Lefts
 pub mod Pieces
 pub mod Passes
 pub mod Carries
 pub mod Nestings
+pub mod Runs
 pub mod Orders
 pub mod Asks
 pub mod Sounds

@@ -16,23 +16,21 @@ use Rattle.layout.specs.declared.item.Kind.TheVariants.{Container}
 use Rattle.layout.specs.declared.refusal.Refusal.{Refusal}
 use Rattle.layout.specs.declared.util.Header.{Header}
 use Rattle.layout.specs.declared.util.Header.TheVariants.{Array, Object, Scalar}
-use Rattle.layout.specs.declared.check.Check.{Check}
-use Rattle.layout.specs.declared.check.Check.TheVariants.{Readable, Refused}
-use Rattle.layout.specs.declared.check.Nesting.TheVariants.{Fits, Deep, Refused as NotNested}
 use Rattle.layout.proofs.Answers.{refused_gives}
 use Rattle.layout.proofs.Decoding.{read_sound, container_encode}
 use Rattle.layout.proofs.Encoding.{array_header, object_header, scalar_header, array_fits, object_fits}
 use Rattle.layout.proofs.Readables.{reads, nested_reads, length_encode}
+use Rattle.std.specs.Prelude.{Ok, Err, Result, true, false}
 
 -- The header of a tree's record says what the tree is.
-abbrev pub head_of : Tree → Header
-head_of null = Scalar 0
-head_of (boolean x) = Scalar 0
-head_of (number b) = Scalar 0
-head_of (string b) = Scalar 0
-head_of (extension b) = Scalar 0
-head_of (array ts) = Array (length (item_parts ts))
-head_of (object ms) = Object (length (member_parts ms))
+abbrev pub head_of : Tree → Result Header Refusal
+head_of null = Ok (Scalar 0)
+head_of (boolean x) = Ok (Scalar 0)
+head_of (number b) = Ok (Scalar 0)
+head_of (string b) = Ok (Scalar 0)
+head_of (extension b) = Ok (Scalar 0)
+head_of (array ts) = Ok (Array (length (item_parts ts)))
+head_of (object ms) = Ok (Object (length (member_parts ms)))
 
 pub header_encode : (t : Tree) → length (encode t) ≤ 65536 → header (encode t) ≡ head_of t
 header_encode null l = scalar_header _
@@ -51,19 +49,19 @@ header_read s t o e =
     ap header (sym b) ∙ header_encode t l
 
 -- What a check that passed has found.
-pub readable_gives : {A : Type 0} (m : Answer A) (c : Check) → c ≡ checked m → c ≡ Readable → (a : A) × (m ≡ gives a)
+pub readable_gives : {A : Type 0} (m : Answer A) (c : Result (Unit {0}) Refusal) → c ≡ checked m → c ≡ Ok tt → (a : A) × (m ≡ gives a)
 readable_gives (gives a) c e q = (a, refl)
-readable_gives (refused r) c e q = let z : Refused r ≡ Readable = sym e ∙ q in let w : ◌≡◌ {A = ℕ} 0 1 = cc in let v : ⊥ = omega arith in absurd v
+readable_gives (refused r) c e q = let z : Err r ≡ Ok tt = sym e ∙ q in let w : ◌≡◌ {A = ℕ} 0 1 = cc in let v : ⊥ = omega arith in absurd v
 
-pub refused_as : {A : Type 0} (m : Answer A) (c : Check) (r : Refusal) → c ≡ checked m → c ≡ Refused r → m ≡ refused r
-refused_as (gives a) c r e q = let z : Readable ≡ Refused r = sym e ∙ q in cc
+pub refused_as : {A : Type 0} (m : Answer A) (c : Result (Unit {0}) Refusal) (r : Refusal) → c ≡ checked m → c ≡ Err r → m ≡ refused r
+refused_as (gives a) c r e q = let z : Ok tt ≡ Err r = sym e ∙ q in cc
 refused_as (refused x) c r e q = cc
 
 -- A record that the check refuses is refused with the same number.
-pub nesting_refused : (levels : ℕ) (m : Answer Tree) (c : Check) (r : Refusal) → c ≡ checked m → c ≡ Refused r → NotNested r ≡ nesting_to levels m
+pub nesting_refused : (levels : ℕ) (m : Answer Tree) (c : Result (Unit {0}) Refusal) (r : Refusal) → c ≡ checked m → c ≡ Err r → Err r ≡ nesting_to levels m
 nesting_refused levels m c r e q = rw (refused_as m c r e q)
 
-container_part : (t : Tree) → ((n : ℕ) → head_of t ≡ Scalar n → ⊥) → part t ≡ record { kind = Container; bytes = encode t }
+container_part : (t : Tree) → ((n : ℕ) → head_of t ≡ Ok (Scalar n) → ⊥) → part t ≡ record { kind = Container; bytes = encode t }
 container_part null h = absurd (h 0 refl)
 container_part (boolean x) h = absurd (h 0 refl)
 container_part (number b) h = absurd (h 0 refl)
@@ -72,7 +70,7 @@ container_part (extension b) h = absurd (h 0 refl)
 container_part (array ts) h = refl
 container_part (object ms) h = refl
 
-scalar_depth : (t : Tree) (n : ℕ) → head_of t ≡ Scalar n → depth t ≡ 0
+scalar_depth : (t : Tree) (n : ℕ) → head_of t ≡ Ok (Scalar n) → depth t ≡ 0
 scalar_depth null n h = refl
 scalar_depth (boolean x) n h = refl
 scalar_depth (number b) n h = refl
@@ -81,10 +79,10 @@ scalar_depth (extension b) n h = refl
 scalar_depth (array ts) n h = cc
 scalar_depth (object ms) n h = cc
 
-module _ (levels : ℕ) (few : levels ≤ 64) (s : Bytes) (o : Octets s) (l : length s ≤ 65536) (c : Check)
+module _ (levels : ℕ) (few : levels ≤ 64) (s : Bytes) (o : Octets s) (l : length s ≤ 65536) (c : Result (Unit {0}) Refusal)
     (hc : c ≡ checked (nested levels s)) where
   -- A container that reads with these levels.
-  pub nesting_fits : c ≡ Readable → Fits ≡ nesting_to levels (read s)
+  pub nesting_fits : c ≡ Ok tt → Ok true ≡ nesting_to levels (read s)
   nesting_fits q =
       let w = readable_gives (nested levels s) c hc q in
       let t = w.0 in
@@ -93,8 +91,8 @@ module _ (levels : ℕ) (few : levels ≤ 64) (s : Bytes) (o : Octets s) (l : le
       let e : read s ≡ gives t = (reads s t o).1 (b, (h.1, omega (arith, h.2), omega (arith, length_encode t, ap length b))) in
       rw (e, le-leb (depth t) levels h.2)
 
-  module _ (c₂ : Check) (h : Header) (r : Refusal) (bad : c ≡ Refused r) (hc₂ : c₂ ≡ checked (read s)) (good : c₂ ≡ Readable) (hh : h ≡ header s) where
-    pub nesting_scalar : (n : ℕ) → h ≡ Scalar n → Fits ≡ nesting_to levels (read s)
+  module _ (c₂ : Result (Unit {0}) Refusal) (h : Result Header Refusal) (r : Refusal) (bad : c ≡ Err r) (hc₂ : c₂ ≡ checked (read s)) (good : c₂ ≡ Ok tt) (hh : h ≡ header s) where
+    pub nesting_scalar : (n : ℕ) → h ≡ Ok (Scalar n) → Ok true ≡ nesting_to levels (read s)
     nesting_scalar n q =
         let w = readable_gives (read s) c₂ hc₂ good in
         let t = w.0 in
@@ -102,7 +100,7 @@ module _ (levels : ℕ) (few : levels ≤ 64) (s : Bytes) (o : Octets s) (l : le
         rw (w.1, le-leb (depth t) levels (omega arith))
 
     -- A container that reads only with all levels has more than these.
-    pub nesting_deep : ((n : ℕ) → h ≡ Scalar n → ⊥) → Deep ≡ nesting_to levels (read s)
+    pub nesting_deep : ((n : ℕ) → h ≡ Ok (Scalar n) → ⊥) → Ok false ≡ nesting_to levels (read s)
     nesting_deep q =
         let w = readable_gives (read s) c₂ hc₂ good in
         let t = w.0 in

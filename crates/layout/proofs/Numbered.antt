@@ -4,7 +4,6 @@ use native.Mathlib.Omega.{arith}
 use mathlib.Core.Path.{◌≡◌, refl, sym, ap, ◌∙◌}
 use mathlib.Core.Logic.{inl, inr}
 use mathlib.Core.Bool.{Bool, true, false, not, cond, ◌&&◌}
-use mathlib.Core.Option.{Option, none as nothing, some}
 use borrow.Author.Tests.{eqb-true, eqb-false}
 use lib.Dec.{eqb}
 use lib.ListN.{length}
@@ -15,19 +14,16 @@ use Rattle.layout.specs.Walk.{item_of, counted, characters_of, item_at, ends_wit
 use Rattle.layout.specs.Walk.{Numbered}
 use Rattle.layout.specs.declared.refusal.Refusal.TheVariants.{Short, Layout}
 use Rattle.layout.specs.declared.item.Kind.TheVariants.{String}
-use Rattle.layout.specs.declared.item.Characters.{Characters}
-use Rattle.layout.specs.declared.item.Characters.TheVariants.{Count}
 use Rattle.layout.specs.declared.item.JsonbItem.{JsonbItem}
 use Rattle.layout.specs.declared.iterator.ArrayIterator.{ArrayIterator}
-use Rattle.layout.specs.declared.iterator.ArrayStep.{ArrayStep}
-use Rattle.layout.specs.declared.iterator.ArrayStep.TheVariants.{Item, End, Refused}
 use Rattle.layout.specs.declared.iterator.ObjectIterator.{ObjectIterator}
 use Rattle.layout.specs.declared.iterator.ObjectMember.{ObjectMember}
-use Rattle.layout.specs.declared.iterator.ObjectStep.{ObjectStep}
-use Rattle.layout.specs.declared.iterator.ObjectStep.TheVariants.{Member, End as NoMember, Refused as RefusedMember}
 use Rattle.layout.proofs.Answers.{from_bind, refused_gives, gives_inj}
 use Rattle.layout.proofs.Fields.{inside_le}
 use Rattle.layout.proofs.Places.{and_both}
+use Rattle.std.specs.Prelude.{Ok, Err, Some, None, Result, Option}
+use Rattle.layout.specs.declared.refusal.Refusal.{Refusal}
+use Rattle.std.proofs.lemmas.Option.{some_pair_parts}
 
 -- ---- an item
 
@@ -49,16 +45,16 @@ module _ (s : Bytes) (w place : ℕ) where
   item_is = refl
 
   -- An item is its entry's, with the characters that were counted.
-  item_counted : {i : JsonbItem} → item_at s w place ≡ gives i → (c : Characters) × (characters_of s w place ≡ gives c) × (item_of w place c ≡ i)
+  item_counted : {i : JsonbItem} → item_at s w place ≡ gives i → (c : Option ℕ) × (characters_of s w place ≡ gives c) × (item_of w place c ≡ i)
   item_counted h = from_bind (sym item_is ∙ h) λ c hc e. (c, hc, gives_inj e)
 
-  numbered_by : (c : Characters) → characters_of s w place ≡ gives c → Numbered s (item_of w place c)
+  numbered_by : (c : Option ℕ) → characters_of s w place ≡ gives c → Numbered s (item_of w place c)
   unfolding characters_of counted item_of kind_of
   numbered_by c h = by_code (eqb (code_of w) 1) refl
     where
-      of_text : (o : Option ℕ) → counted o ≡ gives c → (n : ℕ) × (o ≡ some n) × (c ≡ Count n)
-      of_text nothing e = refused_gives e
-      of_text (some n) e = (n, refl, sym (gives_inj e))
+      of_text : (o : Option ℕ) → counted o ≡ gives c → (n : ℕ) × (o ≡ Some n) × (c ≡ Some n)
+      of_text None e = refused_gives e
+      of_text (Some n) e = (n, refl, sym (gives_inj e))
 
       by_code : (b : Bool) → eqb (code_of w) 1 ≡ b → Numbered s (item_of w place c)
       by_code true q = inl (ap kind_of (eqb-true (code_of w) 1 q), of_text _ (rw q at h))
@@ -75,9 +71,9 @@ module _ (s : Bytes) (w place : ℕ) where
 -- ---- a step over an array
 
 -- A step that has found an item has passed its tests: the payload lies in the slice, and the item was handed out.
-item_tests : (a b c d : Bool) (x : ArrayStep) (i : JsonbItem) (n : ArrayIterator)
-    → cond a End (cond (not b) (Refused Short) (cond (not c) (Refused Layout) (cond (not d) (Refused Layout) x))) ≡ Item i n
-    → (d ≡ true) × (x ≡ Item i n)
+item_tests : (a b c d : Bool) (x : Result (Option (JsonbItem × ArrayIterator)) Refusal) (i : JsonbItem) (n : ArrayIterator)
+    → cond a (Ok None) (cond (not b) (Err Short) (cond (not c) (Err Layout) (cond (not d) (Err Layout) x))) ≡ Ok (Some (i, n))
+    → (d ≡ true) × (x ≡ Ok (Some (i, n)))
 item_tests true b c d x i n q = (cc, cc)
 item_tests false false c d x i n q = (cc, cc)
 item_tests false true false d x i n q = (cc, cc)
@@ -85,12 +81,12 @@ item_tests false true true false x i n q = (cc, cc)
 item_tests false true true true x i n q = (refl, q)
 
 item_ends : (y : ArrayIterator) (a : Answer JsonbItem) (i : JsonbItem) (n : ArrayIterator)
-    → ends_with (λ i. Item i y) Refused a ≡ Item i n → a ≡ gives i
+    → ends_with {B = Result (Option (JsonbItem × ArrayIterator)) Refusal} (λ i. Ok (Some (i, y))) Err a ≡ Ok (Some (i, n)) → a ≡ gives i
 unfolding ends_with
-item_ends y (gives j) i n q = cc
+item_ends y (gives j) i n q = let z : Some (j, y) ≡ Some (i, n) = cc in ap gives (some_pair_parts j i y n z).0
 item_ends y (refused r) i n q = cc
 
-module _ (s : Bytes) (w : ArrayIterator) (r : ArrayStep) (i : JsonbItem) (n : ArrayIterator) (hr : r ≡ array_step s w) (q : r ≡ Item i n) where
+module _ (s : Bytes) (w : ArrayIterator) (r : Result (Option (JsonbItem × ArrayIterator)) Refusal) (i : JsonbItem) (n : ArrayIterator) (hr : r ≡ array_step s w) (q : r ≡ Ok (Some (i, n))) where
   abbrev entry : ℕ
   entry = word_at s w.jentry_offset
 
@@ -112,12 +108,12 @@ module _ (s : Bytes) (w : ArrayIterator) (r : ArrayStep) (i : JsonbItem) (n : Ar
 
 -- ---- a step over an object
 
-entry_tests : (a b c d e : Bool) (x : ObjectStep) (m : ObjectMember) (n : ObjectIterator)
-    → cond a NoMember
-    (cond (not b) (RefusedMember Short)
-    (cond (not c) (RefusedMember Layout)
-    (cond (not d) (RefusedMember Short) (cond (not e) (RefusedMember Layout) x)))) ≡ Member m n
-    → (c ≡ true) × (x ≡ Member m n)
+entry_tests : (a b c d e : Bool) (x : Result (Option (ObjectMember × ObjectIterator)) Refusal) (m : ObjectMember) (n : ObjectIterator)
+    → cond a (Ok None)
+    (cond (not b) (Err Short)
+    (cond (not c) (Err Layout)
+    (cond (not d) (Err Short) (cond (not e) (Err Layout) x)))) ≡ Ok (Some (m, n))
+    → (c ≡ true) × (x ≡ Ok (Some (m, n)))
 entry_tests true b c d e x m n q = (cc, cc)
 entry_tests false false c d e x m n q = (cc, cc)
 entry_tests false true false d e x m n q = (cc, cc)
@@ -125,26 +121,27 @@ entry_tests false true true false e x m n q = (cc, cc)
 entry_tests false true true true false x m n q = (cc, cc)
 entry_tests false true true true true x m n q = (refl, q)
 
-payload_tests : (a b : Bool) (x : ObjectStep) (m : ObjectMember) (n : ObjectIterator)
-    → cond (not a) (RefusedMember Layout) (cond (not b) (RefusedMember Layout) x) ≡ Member m n → (b ≡ true) × (x ≡ Member m n)
+payload_tests : (a b : Bool) (x : Result (Option (ObjectMember × ObjectIterator)) Refusal) (m : ObjectMember) (n : ObjectIterator)
+    → cond (not a) (Err Layout) (cond (not b) (Err Layout) x) ≡ Ok (Some (m, n)) → (b ≡ true) × (x ≡ Ok (Some (m, n)))
 payload_tests false b x m n q = (cc, cc)
 payload_tests true false x m n q = (cc, cc)
 payload_tests true true x m n q = (refl, q)
 
 member_ends : (y : ObjectIterator) (a : Answer ObjectMember) (m : ObjectMember) (n : ObjectIterator)
-    → ends_with (λ m. Member m y) RefusedMember a ≡ Member m n → a ≡ gives m
+    → ends_with {B = Result (Option (ObjectMember × ObjectIterator)) Refusal} (λ m. Ok (Some (m, y))) Err a ≡ Ok (Some (m, n)) → a ≡ gives m
 unfolding ends_with
-member_ends y (gives j) m n q = cc
+member_ends y (gives j) m n q = let z : Some (j, y) ≡ Some (m, n) = cc in ap gives (some_pair_parts j m y n z).0
 member_ends y (refused r) m n q = cc
 
-module _ (s : Bytes) (w : ObjectIterator) (r : ObjectStep) (m : ObjectMember) (n : ObjectIterator) (hr : r ≡ object_step s w) (q : r ≡ Member m n) where
+module _ (s : Bytes) (w : ObjectIterator) (r : Result (Option (ObjectMember × ObjectIterator)) Refusal) (m : ObjectMember)
+    (n : ObjectIterator) (hr : r ≡ object_step s w) (q : r ≡ Ok (Some (m, n))) where
   abbrev key_entry : ℕ
   key_entry = word_at s w.key_jentry_offset
 
   abbrev val_entry : ℕ
   val_entry = word_at s w.val_jentry_offset
 
-  found_entries : (entry_good true key_entry ≡ true) × (member_step s w key_entry val_entry ≡ Member m n)
+  found_entries : (entry_good true key_entry ≡ true) × (member_step s w key_entry val_entry ≡ Ok (Some (m, n)))
   unfolding object_step
   found_entries =
       entry_tests (eqb w.remaining 0) (inside s w.key_jentry_offset 4) (entry_good true key_entry)

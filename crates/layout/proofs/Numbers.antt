@@ -19,13 +19,13 @@ use Rattle.layout.specs.Bytes.{Bytes, be_bytes, be_value}
 use Rattle.layout.specs.Patch.{patch}
 use Rattle.layout.specs.Ended.{Ended, into}
 use Rattle.layout.specs.Number.{is_integer, is_width, listed, signed, pattern, decimal_of, number_of, decoded, uint_width, int_width, uint_payload, int_payload, float_payload, decimal_payload}
-use Rattle.layout.specs.declared.ending.Ending.TheVariants.{Done, Refused as RefusedEnding}
 use Rattle.layout.specs.declared.number.Number.{Number}
-use Rattle.layout.specs.declared.number.Number.TheVariants.{Nan, Infinity, NegInfinity, Int64, UInt64, Float64, Decimal64, WideDecimal, Refused}
+use Rattle.layout.specs.declared.number.Number.TheVariants.{Nan, Infinity, NegInfinity, Int64, UInt64, Float64, Decimal64, WideDecimal}
 use Rattle.layout.specs.declared.refusal.Refusal.{Refusal}
 use Rattle.layout.specs.declared.refusal.Refusal.TheVariants.{Number as NotListed, Buffer}
 use Rattle.layout.proofs.Patches.{patch_snoc, ended_short, ended_full}
 use Rattle.layout.proofs.Patterns.{length_be_bytes, be_value_bytes, signed_pattern, uint_width_good, int_width_good, pattern_held, uint_back, int_back, whole_back}
+use Rattle.std.specs.Prelude.{Ok, Err, Some}
 
 -- `listed` by the first byte and how many follow it, as the code tests it.
 pub listed_none : (b : Bytes) → length b ≡ 0 → false ≡ listed b
@@ -137,14 +137,14 @@ not_empty (y ∷ b) h = omega arith
 pub listed_whole : (l b : Bytes) (x : ℕ) → listed l ≡ true → l ≡ x ∷ b → T (listed (x ∷ b))
 listed_whole l b x h e = rw (← e, h) tt
 
-decoded_listed : (x : ℕ) (b : Bytes) → listed (x ∷ b) ≡ true → decoded (x ∷ b) ≡ number_of x b
+decoded_listed : (x : ℕ) (b : Bytes) → listed (x ∷ b) ≡ true → decoded (x ∷ b) ≡ Ok (number_of x b)
 unfolding decoded
 decoded_listed x b h = rw h
 
-pub decoded_whole : (l b : Bytes) (x : ℕ) (r : Number) → listed l ≡ true → l ≡ x ∷ b → r ≡ number_of x b → r ≡ decoded l
-decoded_whole l b x r h e q = q ∙ sym (decoded_listed x b (rw e at h)) ∙ ap decoded (sym e)
+pub decoded_whole : (l b : Bytes) (x : ℕ) (r : Number) → listed l ≡ true → l ≡ x ∷ b → r ≡ number_of x b → Ok r ≡ decoded l
+decoded_whole l b x r h e q = ap Ok q ∙ sym (decoded_listed x b (rw e at h)) ∙ ap decoded (sym e)
 
-pub decoded_not : (l : Bytes) → listed l ≡ false → Refused NotListed ≡ decoded l
+pub decoded_not : (l : Bytes) → listed l ≡ false → Err NotListed ≡ decoded l
 unfolding decoded
 decoded_not [] h = refl
 decoded_not (x ∷ b) h = rw h
@@ -152,11 +152,11 @@ decoded_not (x ∷ b) h = rw h
 -- ---- making
 
 module _ (ty n x : ℕ) (o : Bytes) where
-  pub encoded_short : length o < n + 1 → Ended (RefusedEnding Buffer) o o (into (length o) (ty ∷ be_bytes n x))
+  pub encoded_short : length o < n + 1 → Ended (Err Buffer) o o (into (length o) (ty ∷ be_bytes n x))
   encoded_short h = ended_short (ty ∷ be_bytes n x) o (let l = length_be_bytes n x in omega arith)
 
   pub encoded_full : (o₁ o₂ : Bytes) → n + 1 ≤ length o → o₁ ≡ set o 0 ty → o₂ ≡ patch o₁ 1 (be_bytes n x)
-      → Ended (Done (n + 1)) o o₂ (into (length o) (ty ∷ be_bytes n x))
+      → Ended (Ok (Some (n + 1))) o o₂ (into (length o) (ty ∷ be_bytes n x))
   unfolding patch
   encoded_full o₁ o₂ h e₁ e₂ =
       let l = length_be_bytes n x in
@@ -183,7 +183,7 @@ some_plain (pos zero) n = absurd (n refl)
 some_plain (pos (suc k)) n = refl
 some_plain (negsuc k) n = refl
 
-module _ (z : ℤ) (x : ℕ) (f : SFits w64 z) (e : x ≡ pattern (to_z w64 (of_z w64 z))) where
+module _ (z : ℤ) (x : ℕ) (f : SFits w64 z) (e : x ≡ of_z w64 (to_z w64 (of_z w64 z))) where
   same : x ≡ pattern z
   same = e ∙ pattern_held z f
 
@@ -256,12 +256,12 @@ decimal_patch z scale o =
     ∙ patch_snoc (set o 0 0x70) 1 (be_bytes 8 (pattern z)) scale
 
 module _ (z : ℤ) (scale : ℕ) (o : Bytes) where
-  pub decimal_short : length o < 10 → Ended (RefusedEnding Buffer) o o (into (length o) (decimal_payload z scale))
+  pub decimal_short : length o < 10 → Ended (Err Buffer) o o (into (length o) (decimal_payload z scale))
   decimal_short h = ended_short (decimal_payload z scale) o (rw (← decimal_length z scale) h)
 
   pub decimal_full : (o₁ o₂ o₃ : Bytes) (x : ℕ) → 10 ≤ length o → SFits w64 z → o₁ ≡ set o 0 0x70
-      → x ≡ pattern (to_z w64 (of_z w64 z)) → o₂ ≡ patch o₁ 1 (be_bytes 8 x) → o₃ ≡ set o₂ 9 scale
-      → Ended (Done 10) o o₃ (into (length o) (decimal_payload z scale))
+      → x ≡ of_z w64 (to_z w64 (of_z w64 z)) → o₂ ≡ patch o₁ 1 (be_bytes 8 x) → o₃ ≡ set o₂ 9 scale
+      → Ended (Ok (Some 10)) o o₃ (into (length o) (decimal_payload z scale))
   decimal_full o₁ o₂ o₃ x h f e₁ e e₂ e₃ =
       let p : x ≡ pattern z = e ∙ pattern_held z f in
       ended_full (decimal_payload z scale) o o₃ 10 (rw (← decimal_length z scale) h) (decimal_length z scale)
@@ -302,96 +302,68 @@ decimal_made z scale = tt
 
 -- ---- what is made is read back
 
-uint_some_read : (v : ℕ) → v < 2 ^ 64 → decoded (0x50 ∷ be_bytes (uint_width v) v) ≡ UInt64 v
+uint_some_read : (v : ℕ) → v < 2 ^ 64 → decoded (0x50 ∷ be_bytes (uint_width v) v) ≡ Ok (UInt64 v)
 uint_some_read v h =
     let b = be_bytes (uint_width v) v in
-    decoded_listed 0x50 b (is_true _ (uint_some_made v)) ∙ sym (uint_is 0x50 b v refl (sym (uint_back v h)))
+    decoded_listed 0x50 b (is_true _ (uint_some_made v)) ∙ ap Ok (sym (uint_is 0x50 b v refl (sym (uint_back v h))))
 
-int_some_read : (z : ℤ) → SFits w64 z → decoded (0x40 ∷ be_bytes (int_width z) (pattern z)) ≡ Int64 z
+int_some_read : (z : ℤ) → SFits w64 z → decoded (0x40 ∷ be_bytes (int_width z) (pattern z)) ≡ Ok (Int64 z)
 int_some_read z f =
     let b = be_bytes (int_width z) (pattern z) in
     let q : z ≡ signed (length b) (be_value b) = sym (rw (length_be_bytes (int_width z) (pattern z)) (int_back z f)) in
-    decoded_listed 0x40 b (is_true _ (int_some_made z)) ∙ sym (int_is 0x40 b z z (be_value b) refl refl q refl)
+    decoded_listed 0x40 b (is_true _ (int_some_made z)) ∙ ap Ok (sym (int_is 0x40 b z z (be_value b) refl refl q refl))
 
 -- "00 reads as unsigned zero."
-pub uint_read : (v : ℕ) → v < 2 ^ 64 → decoded (uint_payload v) ≡ UInt64 v
+pub uint_read : (v : ℕ) → v < 2 ^ 64 → decoded (uint_payload v) ≡ Ok (UInt64 v)
 unfolding uint_payload decoded listed number_of
 uint_read zero h = refl
 uint_read (suc v) h = uint_some_read (suc v) h
 
-pub int_zero_read : decoded (int_payload (pos 0)) ≡ UInt64 0
+pub int_zero_read : decoded (int_payload (pos 0)) ≡ Ok (UInt64 0)
 unfolding int_payload decoded listed number_of
 int_zero_read = refl
 
-pub int_read : (z : ℤ) → SFits w64 z → (z ≡ pos 0 → ⊥) → decoded (int_payload z) ≡ Int64 z
+pub int_read : (z : ℤ) → SFits w64 z → (z ≡ pos 0 → ⊥) → decoded (int_payload z) ≡ Ok (Int64 z)
 unfolding int_payload
 int_read (pos zero) f n = absurd (n refl)
 int_read (pos (suc k)) f n = int_some_read (pos (suc k)) f
 int_read (negsuc k) f n = int_some_read (negsuc k) f
 
-pub nan_read : decoded (float_payload nan) ≡ Nan
+pub nan_read : decoded (float_payload nan) ≡ Ok Nan
 unfolding float_payload decoded listed number_of
 nan_read = refl
 
-pub infinity_read : (s : Bool) → decoded (float_payload (inf s)) ≡ cond s NegInfinity Infinity
+pub infinity_read : (s : Bool) → decoded (float_payload (inf s)) ≡ Ok (cond s NegInfinity Infinity)
 unfolding float_payload decoded listed number_of
 infinity_read true = refl
 infinity_read false = refl
 
 pub float_read : (s : Bool) (m : ℕ) (e : ℤ) → T (fits binary64 (fin s m e))
-    → decoded (float_payload (fin s m e)) ≡ Float64 (to_bits binary64 (fin s m e))
+    → decoded (float_payload (fin s m e)) ≡ Ok (Float64 (to_bits binary64 (fin s m e)))
 unfolding float_payload
 float_read s m e h =
     let v = to_bits binary64 (fin s m e) in
     let b = be_bytes 8 v in
     decoded_listed 0x60 b (float_listed b ∙ eq-eqb (length b) 8 (length_be_bytes 8 v))
-    ∙ sym (float_is 0x60 b v refl (sym (be_value_bytes 8 v ∙ mod-eq_of_lt (to_bits-lt binary64 (fin s m e) h))))
+    ∙ ap Ok (sym (float_is 0x60 b v refl (sym (be_value_bytes 8 v ∙ mod-eq_of_lt (to_bits-lt binary64 (fin s m e) h)))))
 
-pub decimal_read : (z : ℤ) (scale : ℕ) → SFits w64 z → decoded (decimal_payload z scale) ≡ Decimal64 z scale
+pub decimal_read : (z : ℤ) (scale : ℕ) → SFits w64 z → decoded (decimal_payload z scale) ≡ Ok (Decimal64 z scale)
 unfolding decimal_payload decoded listed number_of be_bytes
-decimal_read z scale f = ap (λ (t : ℤ). Decimal64 t scale) (whole_back z f)
+decimal_read z scale f = ap (λ (t : ℤ). Ok (Decimal64 t scale)) (whole_back z f)
 
 -- ---- what is refused
 
--- The number is no refusal.
-abbrev Told : Number → Type 0
-Told Nan = Unit {0}
-Told Infinity = Unit {0}
-Told NegInfinity = Unit {0}
-Told (Int64 z) = Unit {0}
-Told (UInt64 v) = Unit {0}
-Told (Float64 v) = Unit {0}
-Told (Decimal64 z s) = Unit {0}
-Told (WideDecimal n) = Unit {0}
-Told (Refused r) = ⊥
-
-told_cond : (t : Bool) (a b : Number) → Told a → Told b → Told (cond t a b)
-told_cond true a b p q = p
-told_cond false a b p q = q
-
-told : (x : ℕ) (b : Bytes) → Told (number_of x b)
-unfolding number_of
-told x b =
-    told_cond (eqb x 0x00) _ _ tt
-    (told_cond (eqb x 0x10) _ _ tt
-    (told_cond (eqb x 0x20) _ _ tt
-    (told_cond (eqb x 0x30) _ _ tt
-    (told_cond (eqb x 0x40) _ _ tt
-    (told_cond (eqb x 0x50) _ _ tt
-    (told_cond (eqb x 0x60) _ _ tt
-    (told_cond (eqb (length b) 9) _ _ tt tt)))))))
-
-pub not_listed : (b : Bytes) (r : Refusal) → decoded b ≡ Refused r → listed b ≡ false
+pub not_listed : (b : Bytes) (r : Refusal) → decoded b ≡ Err r → listed b ≡ false
 unfolding listed
 not_listed [] r e = refl
 not_listed (x ∷ b) r e = by_listed (listed (x ∷ b)) refl
   where
     by_listed : (t : Bool) → listed (x ∷ b) ≡ t → listed (x ∷ b) ≡ false
-    by_listed true q = absurd (subst Told (sym (decoded_listed x b q) ∙ e) (told x b))
+    by_listed true q = let z : Ok (number_of x b) ≡ Err r = sym (decoded_listed x b q) ∙ e in cc
     by_listed false q = q
 
 -- "A payload not listed is 4", and no other is refused.
-pub decoded_refused : (b : Bytes) → (decoded b ≡ Refused NotListed) ↔ (listed b ≡ false)
+pub decoded_refused : (b : Bytes) → (decoded b ≡ Err NotListed) ↔ (listed b ≡ false)
 decoded_refused b = (not_listed b NotListed, λ h. sym (decoded_not b h))
 
 -- ---- examples
@@ -412,10 +384,10 @@ minus_zero : float_payload (fin true 0 (pos 0)) ≡ 0x60 ∷ 0x80 ∷ 0 ∷ 0 �
 unfolding float_payload be_bytes to_bits
 minus_zero = refl
 
-two_zeros : decoded (0x00 ∷ 0x00 ∷ []) ≡ Refused NotListed
+two_zeros : decoded (0x00 ∷ 0x00 ∷ []) ≡ Err NotListed
 unfolding decoded listed
 two_zeros = refl
 
-minus_one_read : decoded (0x40 ∷ 0xFF ∷ 0xFF ∷ []) ≡ Int64 (negsuc 0)
+minus_one_read : decoded (0x40 ∷ 0xFF ∷ 0xFF ∷ []) ≡ Ok (Int64 (negsuc 0))
 unfolding decoded listed number_of signed be_value
 minus_one_read = refl

@@ -19,72 +19,69 @@ use Rattle.layout.specs.Check.{checked}
 use Rattle.layout.specs.Pass.{and_then, item_checked, items_checked, names_end, payload_refusal}
 use Rattle.layout.specs.declared.refusal.Refusal.{Refusal}
 use Rattle.layout.specs.declared.refusal.Refusal.TheVariants.{Layout}
-use Rattle.layout.specs.declared.check.Check.{Check}
-use Rattle.layout.specs.declared.check.Check.TheVariants.{Readable, Refused}
-use Rattle.layout.specs.declared.check.NamesEnd.{NamesEnd}
-use Rattle.layout.specs.declared.check.NamesEnd.TheVariants.{At, Bad}
 use Rattle.layout.proofs.Places.{and_both, table_head, table_split, lengths_split}
 use Rattle.layout.proofs.Texts.{ascii_text, ascii_split}
 use Rattle.layout.proofs.Checks.{one_less, items_cons, body_layout, body_items}
+use Rattle.std.specs.Prelude.{Ok, Err, Some, None, Result, Option}
 
 -- The items in turn.
 
-module _ (f : Bytes → Answer Tree) (s : Bytes) (all : Check) (i p n : ℕ) (inv : all ≡ items_checked f s i p (n - i)) where
+module _ (f : Bytes → Answer Tree) (s : Bytes) (all : Result (Unit {0}) Refusal) (i p n : ℕ) (inv : all ≡ items_checked f s i p (n - i)) where
   module _ (lt : i < n) (e l : ℕ) (he : e ≡ entry_at s i) (hl : l ≡ length_of e) where
-    turn : all ≡ cond (ltb (length s) (p + l)) (Refused Layout)
+    turn : all ≡ cond (ltb (length s) (p + l)) (Err Layout)
         (and_then (item_checked f e (take l (drop p s))) (items_checked f s (i + 1) (p + l) (n - (i + 1))))
     unfolding items_checked
     turn = inv ∙ rw (one_less n i lt, hl, he)
 
     -- A payload that goes past the bytes.
-    pub pass_long : length s < p + l → Refused Layout ≡ all
+    pub pass_long : length s < p + l → Err Layout ≡ all
     pass_long h = rw (turn, lt-ltb (length s) (p + l) h)
 
     -- After the payload s[p .. p + l] was checked with the answer `res`.
-    module _ (le : p + l ≤ length s) (res : Check) (hr : res ≡ item_checked f e (take (p + l - p) (drop p s))) where
+    module _ (le : p + l ≤ length s) (res : Result (Unit {0}) Refusal) (hr : res ≡ item_checked f e (take (p + l - p) (drop p s))) where
       checked_turn : all ≡ and_then res (items_checked f s (i + 1) (p + l) (n - (i + 1)))
       checked_turn = let w : p + l - p ≡ l = omega arith in turn ∙ rw (le-ltb (length s) (p + l) le, hr, w)
 
-      pub pass_stop : (r : Refusal) → res ≡ Refused r → Refused r ≡ all
+      pub pass_stop : (r : Refusal) → res ≡ Err r → Err r ≡ all
       pass_stop r q = rw (checked_turn, q)
 
-      pub pass_more : res ≡ Readable → all ≡ items_checked f s (i + 1) (p + l) (n - (i + 1))
+      pub pass_more : res ≡ Ok tt → all ≡ items_checked f s (i + 1) (p + l) (n - (i + 1))
       pass_more q = rw (checked_turn, q)
 
   module _ (le : n ≤ i) where
-    last : all ≡ cond (eqb p (length s)) Readable (Refused Layout)
+    last : all ≡ cond (eqb p (length s)) (Ok tt) (Err Layout)
     unfolding items_checked
     last = let z : n - i ≡ 0 = omega arith in inv ∙ rw z
 
-    pub pass_end : p ≡ length s → Readable ≡ all
+    pub pass_end : p ≡ length s → Ok tt ≡ all
     pass_end q = rw (last, eq-eqb p (length s) q)
 
-    pub pass_short : (p ≡ length s → ⊥) → Refused Layout ≡ all
+    pub pass_short : (p ≡ length s → ⊥) → Err Layout ≡ all
     pass_short q = rw (last, ne_eqb p (length s) q)
 
 -- The names in turn.
 
-module _ (s : Bytes) (all : NamesEnd) (i p n : ℕ) (inv : all ≡ names_end s i p (n - i)) where
+module _ (s : Bytes) (all : Option ℕ) (i p n : ℕ) (inv : all ≡ names_end s i p (n - i)) where
   module _ (lt : i < n) (e : ℕ) (he : e ≡ entry_at s i) where
-    name_turn : all ≡ cond (eqb (e / 2 ^ 28) 1) (names_end s (i + 1) (p + length_of e) (n - (i + 1))) Bad
+    name_turn : all ≡ cond (eqb (e / 2 ^ 28) 1) (names_end s (i + 1) (p + length_of e) (n - (i + 1))) None
     unfolding names_end
     name_turn = inv ∙ rw (one_less n i lt, he)
 
-    pub names_bad : (e / 2 ^ 28 ≡ 1 → ⊥) → Bad ≡ all
+    pub names_bad : (e / 2 ^ 28 ≡ 1 → ⊥) → None ≡ all
     names_bad h = rw (name_turn, ne_eqb (e / 2 ^ 28) 1 h)
 
     pub names_more : e / 2 ^ 28 ≡ 1 → (l : ℕ) → l ≡ length_of e → all ≡ names_end s (i + 1) (p + l) (n - (i + 1))
     names_more h l hl = rw (name_turn, eq-eqb (e / 2 ^ 28) 1 h, hl)
 
   module _ (le : n ≤ i) where
-    name_last : all ≡ cond (ltb (length s) p) Bad (At p)
+    name_last : all ≡ cond (ltb (length s) p) None (Some p)
     unfolding names_end
     name_last = let z : n - i ≡ 0 = omega arith in inv ∙ rw z
 
-    pub names_long : length s < p → Bad ≡ all
+    pub names_long : length s < p → None ≡ all
     names_long h = rw (name_last, lt-ltb (length s) p h)
 
-    pub names_at : p ≤ length s → At p ≡ all
+    pub names_at : p ≤ length s → Some p ≡ all
     names_at h = rw (name_last, le-ltb (length s) p h)
 
 -- The entry of a name, in one test.
@@ -147,7 +144,7 @@ table_behind s m i (suc k) h = rw (le-ltb i m h, le-ltb i 0 (omega arith), table
 -- Where the names end.
 
 names_good : (s : Bytes) (m i p k : ℕ) → i + k ≤ m → table_ok s m i k ≡ true → p + lengths s i k ≤ length s →
-    names_end s i p k ≡ At (p + lengths s i k)
+    names_end s i p k ≡ Some (p + lengths s i k)
 unfolding names_end lengths
 names_good s m i p zero h t l = let e : p + 0 ≡ p = omega arith in rw (e, le-ltb (length s) p (omega arith))
 names_good s m i p (suc k) h t l =
@@ -159,11 +156,11 @@ names_good s m i p (suc k) h t l =
     rw (eq-eqb (entry_at s i / 2 ^ 28) 1 (entry_name (entry_at s i) ok), ← e)
     (names_good s m (i + 1) (p + x) k (omega arith) w.1 (omega arith))
 
-at_last : (b : Bool) (p e : ℕ) → cond b Bad (At p) ≡ At e → (b ≡ false) × (e ≡ p)
+at_last : (b : Bool) (p e : ℕ) → cond b None (Some p) ≡ Some e → (b ≡ false) × (e ≡ p)
 at_last true p e q = (cc, cc)
 at_last false p e q = (refl, cc)
 
-at_more : (b : Bool) (r : NamesEnd) (e : ℕ) → cond b r Bad ≡ At e → (b ≡ true) × (r ≡ At e)
+at_more : (b : Bool) (r : Option ℕ) (e : ℕ) → cond b r None ≡ Some e → (b ≡ true) × (r ≡ Some e)
 at_more true r e q = (refl, q)
 at_more false r e q = (cc, cc)
 
@@ -173,7 +170,7 @@ pub record NamesTo (s : Bytes) (m i p k e : ℕ) : Type 0 where
   pub place : e ≡ p + lengths s i k
   pub inside : e ≤ length s
 
-pub names_to : (s : Bytes) (m i p k e : ℕ) → i + k ≤ m → names_end s i p k ≡ At e → NamesTo s m i p k e
+pub names_to : (s : Bytes) (m i p k e : ℕ) → i + k ≤ m → names_end s i p k ≡ Some e → NamesTo s m i p k e
 unfolding names_end lengths table_ok
 names_to s m i p zero e h q =
     let w = at_last (ltb (length s) p) p e q in
@@ -188,7 +185,7 @@ names_to s m i p (suc k) e h q =
       inside = r.inside;
     }
 
-pub names_within : (s : Bytes) (names start e : ℕ) → names_end s 0 start names ≡ At e → (start ≤ e) × (e ≤ length s)
+pub names_within : (s : Bytes) (names start e : ℕ) → names_end s 0 start names ≡ Some e → (start ≤ e) × (e ≤ length s)
 names_within s names start e q =
     let w = names_to s names 0 start names e (omega arith) q in
     (omega (arith, w.place), w.inside)
@@ -196,7 +193,7 @@ names_within s names start e q =
 -- Names of ASCII alone are passed over.
 
 name_checked : (f : Bytes → Answer Tree) (w : ℕ) (b : Bytes) → entry_ok true w ≡ true → ascii b ≡ true →
-    item_checked f w b ≡ Readable
+    item_checked f w b ≡ Ok tt
 unfolding item_checked kind_of text ◌>>=◌ require
 name_checked f w b h a =
     rw (entry_item true w h, (name_top w (entry_name w h)).1, ← ascii_text b true (sym a) refl)
@@ -215,15 +212,15 @@ names_passed f s m i p (suc k) l h t le a =
     let e : suc k + l ≡ suc (k + l) = omega arith in
     let e₁ : i + suc k ≡ i + 1 + k = omega arith in
     let e₂ : p + x + lengths s (i + 1) k ≡ p + (x + lengths s (i + 1) k) = omega arith in
-    let r : item_checked f (entry_at s i) (take x (drop p s)) ≡ Readable = name_checked f (entry_at s i) _ ok y.0 in
+    let r : item_checked f (entry_at s i) (take x (drop p s)) ≡ Ok tt = name_checked f (entry_at s i) _ ok y.0 in
     rw (e, le-ltb (length s) (p + x) (omega arith), r, e₁, ← e₂)
     (names_passed f s m (i + 1) (p + x) k l (omega arith) w.1 (omega arith) (rw (drop-drop x p s) at y.1))
 
-module _ (f : Bytes → Answer Tree) (s : Bytes) (n start : ℕ) (res : Check) (b : Bytes) (hb : b ≡ s) where
+module _ (f : Bytes → Answer Tree) (s : Bytes) (n start : ℕ) (res : Result (Unit {0}) Refusal) (b : Bytes) (hb : b ≡ s) where
   pub parts_all : res ≡ items_checked f b 0 start (n - 0) → res ≡ items_checked f s 0 start n
   parts_all hr = rw (hb, sub-zero n) at hr
 
-  pub parts_behind : (names end : ℕ) → names ≤ n → names_end s 0 start names ≡ At end →
+  pub parts_behind : (names end : ℕ) → names ≤ n → names_end s 0 start names ≡ Some end →
       (g : Bool) → g ≡ ascii (take (end - start) (drop start s)) → g ≡ true →
       res ≡ items_checked f b names end (n - names) → res ≡ items_checked f s 0 start n
   parts_behind names end le q g hg t hr =
@@ -252,19 +249,19 @@ pass_good f s m i p (suc k) t l =
       pass_good f s m (i + 1) (p + length_of (entry_at s i)) k w.1 (omega arith),
     )
 
-readable_if : (a : Bool) (c : Check) → cond a c (Refused Layout) ≡ Readable → a ≡ true
+readable_if : (a : Bool) (c : Result (Unit {0}) Refusal) → cond a c (Err Layout) ≡ Ok tt → a ≡ true
 readable_if true c q = refl
 readable_if false c q = cc
 
-readable_both : (a : Bool) (c d : Check) → cond a (Refused Layout) (and_then c d) ≡ Readable → (c ≡ Readable) × (d ≡ Readable)
+readable_both : (a : Bool) (c d : Result (Unit {0}) Refusal) → cond a (Err Layout) (and_then c d) ≡ Ok tt → (c ≡ Ok tt) × (d ≡ Ok tt)
 readable_both true c d q = (cc, cc)
-readable_both false Readable d q = (refl, q)
-readable_both false (Refused r) d q = (q, cc)
+readable_both false (Ok a) d q = (refl, q)
+readable_both false (Err r) d q = (q, cc)
 
-pass_readable : (f : Bytes → Answer Tree) (s : Bytes) (i p k : ℕ) → items_checked f s i p k ≡ Readable →
+pass_readable : (f : Bytes → Answer Tree) (s : Bytes) (i p k : ℕ) → items_checked f s i p k ≡ Ok tt →
     (table_ok s 0 i k ≡ true) × (p + lengths s i k ≡ length s)
 unfolding items_checked item_checked table_ok lengths
-pass_readable f s i p zero q = (refl, omega (arith, eqb-true p (length s) (readable_if (eqb p (length s)) Readable q)))
+pass_readable f s i p zero q = (refl, omega (arith, eqb-true p (length s) (readable_if (eqb p (length s)) (Ok tt) q)))
 pass_readable f s i p (suc k) q =
     let w = readable_both (ltb (length s) (p + length_of (entry_at s i))) _ _ q in
     let g : entry_ok false (entry_at s i) ≡ true = readable_if (entry_ok false (entry_at s i)) _ w.0 in
@@ -277,11 +274,11 @@ abbrev good : Bytes → ℕ → ℕ → Bool
 good s n names = table_ok s names 0 n && eqb (lengths s 0 n) (length s - (4 + 4 * n))
 
 module _ (s : Bytes) (n names : ℕ) (r : Refusal) (g : Bool) (hg : g ≡ good s n names) where
-  pub refusal_kept : g ≡ true → Refused r ≡ Refused (payload_refusal s n names r)
+  pub refusal_kept : g ≡ true → ◌≡◌ {A = Result (Unit {0}) Refusal} (Err r) (Err (payload_refusal s n names r))
   unfolding payload_refusal
   refusal_kept q = rw (← hg, q)
 
-  pub refusal_layout : g ≡ false → Refused Layout ≡ Refused (payload_refusal s n names r)
+  pub refusal_layout : g ≡ false → ◌≡◌ {A = Result (Unit {0}) Refusal} (Err Layout) (Err (payload_refusal s n names r))
   unfolding payload_refusal
   refusal_layout q = rw (← hg, q)
 
@@ -296,8 +293,8 @@ module _ (f : Bytes → Answer Tree) (s : Bytes) (n names : ℕ) (four : 4 ≤ l
   split : names + (n - names) ≡ n
   split = omega arith
 
-  pub body_no_names : (r : NamesEnd) → r ≡ names_end s 0 (4 + 4 * n) names → r ≡ Bad →
-      Refused Layout ≡ checked (body f n names (drop 4 s))
+  pub body_no_names : (r : Option ℕ) → r ≡ names_end s 0 (4 + 4 * n) names → r ≡ None →
+      Err Layout ≡ checked (body f n names (drop 4 s))
   body_no_names r hr q = body_layout f s n names four h _ refl (go (good s n names) refl)
     where
       go : (b : Bool) → good s n names ≡ b → b ≡ false
@@ -308,12 +305,12 @@ module _ (f : Bytes → Answer Tree) (s : Bytes) (n names : ℕ) (four : 4 ≤ l
           let l : lengths s 0 n ≡ lengths s 0 names + lengths s (0 + names) (n - names) =
           ap (lengths s 0) (sym split) ∙ lengths_split s 0 names (n - names) in
           let k = names_good s names 0 (4 + 4 * n) names (omega arith) t.0 (omega (arith, w.1)) in
-          let z : At (4 + 4 * n + lengths s 0 names) ≡ Bad = sym k ∙ sym hr ∙ q in
+          let z : Some (4 + 4 * n + lengths s 0 names) ≡ None = sym k ∙ sym hr ∙ q in
           cc
 
-  module _ (res : Check) (hr : res ≡ items_checked f s 0 (4 + 4 * n) n) where
-    pub body_passed : (end : ℕ) → names_end s 0 (4 + 4 * n) names ≡ At end → res ≡ Readable →
-        Readable ≡ checked (body f n names (drop 4 s))
+  module _ (res : Result (Unit {0}) Refusal) (hr : res ≡ items_checked f s 0 (4 + 4 * n) n) where
+    pub body_passed : (end : ℕ) → names_end s 0 (4 + 4 * n) names ≡ Some end → res ≡ Ok tt →
+        (Ok tt) ≡ checked (body f n names (drop 4 s))
     body_passed end q k =
         let w = names_to s names 0 (4 + 4 * n) names end (omega arith) q in
         let r = pass_readable f s 0 (4 + 4 * n) n (sym hr ∙ k) in
@@ -324,15 +321,15 @@ module _ (f : Bytes → Answer Tree) (s : Bytes) (n names : ℕ) (four : 4 ≤ l
         let l : eqb (lengths s 0 n) (length s - (4 + 4 * n)) ≡ true =
         eq-eqb (lengths s 0 n) (length s - (4 + 4 * n)) (omega (arith, r.1)) in
         let g : good s n names ≡ true = rw (t, l) in
-        body_items f s n names four h true (sym g) refl Readable (sym k ∙ hr ∙ pass_good f s names 0 (4 + 4 * n) n t r.1)
+        body_items f s n names four h true (sym g) refl (Ok tt) (sym k ∙ hr ∙ pass_good f s names 0 (4 + 4 * n) n t r.1)
 
     -- A refusal, behind the table.
-    pub body_refused : (r : Refusal) → res ≡ Refused r → (b : Bytes) → b ≡ s → (a : Check) →
-        a ≡ Refused (payload_refusal b n names r) → a ≡ checked (body f n names (drop 4 s))
+    pub body_refused : (r : Refusal) → res ≡ Err r → (b : Bytes) → b ≡ s → (a : Result (Unit {0}) Refusal) →
+        a ≡ Err (payload_refusal b n names r) → a ≡ checked (body f n names (drop 4 s))
     unfolding payload_refusal
     body_refused r k b hb a ha = go (good s n names) refl (rw hb at ha)
       where
-        go : (g : Bool) → g ≡ good s n names → a ≡ Refused (payload_refusal s n names r) → a ≡ checked (body f n names (drop 4 s))
+        go : (g : Bool) → g ≡ good s n names → a ≡ Err (payload_refusal s n names r) → a ≡ checked (body f n names (drop 4 s))
         go true e q =
             let w = good_says (sym e) in
             let p = pass_good f s names 0 (4 + 4 * n) n w.0 w.1 in

@@ -1,26 +1,25 @@
 -- The laws of `patch`, and of the promise of a function that writes. None of `patch` but `patch_eq` and `patch_zero` asks that the
 -- bytes fit: what falls outside is dropped on both sides.
 use mathlib.Core.Path.{◌≡◌, refl, sym, ap, ◌∙◌}
-use Prim.Native.Nat.{ℕ, suc, ◌+◌, ◌-◌, ◌/◌, ◌%◌, ◌^◌, ◌≤◌, ◌<◌, min}
+use Prim.Native.Nat.{ℕ, suc, ◌+◌, ◌-◌, ◌≤◌, ◌<◌, min}
 use native.Mathlib.Decide.{dec_le}
 use native.Mathlib.Nat.{add-zero, zero-add, add-suc, suc-add}
-use native.Mathlib.Numerals.{add-one, add-two, add-three}
 use native.Mathlib.Omega.{arith}
 use mathlib.Core.Bool.{cond}
 use mathlib.Core.List.{List, [], ◌∷◌, ◌++◌, append_assoc}
 use lib.Dec.{ltb}
 use lib.ListN.{length, take, drop, set, length-set, take-append-drop}
-use lib.Seq.{sets, sets-eq, set_comm, set_out, take_all, length-take-le}
+use lib.Seq.{sets, sets-eq, set_comm, set_out, take_all, length-take-le, drop-drop}
+use borrow.Rule.Slice.PartMut.{put_mid}
 use borrow.Author.Tests.{lt-ltb, le-ltb}
-use Rattle.layout.specs.Bytes.{Bytes, be32}
+use Rattle.layout.specs.Bytes.{Bytes}
 use Rattle.layout.specs.Patch.{patch}
 use Rattle.layout.specs.Ended.{Ended, Outcome, result, absence, refusal, into}
 use Rattle.layout.specs.Room.{EndedIn, Fits}
-use Rattle.layout.specs.declared.ending.Ending.{Ending}
-use Rattle.layout.specs.declared.ending.Ending.TheVariants.{Done, Refused}
 use Rattle.layout.specs.declared.refusal.Refusal.{Refusal}
 use Rattle.layout.specs.declared.refusal.Refusal.TheVariants.{Buffer}
-use Rattle.layout.proofs.Words.{be32_is}
+use Rattle.std.specs.Prelude.{Ok, Err, Some}
+use Rattle.layout.specs.Ended.{Ending}
 
 pub length_patch : (o : List ℕ) (at : ℕ) (bs : List ℕ) → length (patch o at bs) ≡ length o
 unfolding patch
@@ -38,12 +37,6 @@ pub patch_snoc : (o : List ℕ) (at : ℕ) (a : List ℕ) (x : ℕ)
     → set (patch o at a) (at + length a) x ≡ patch o at (a ++ (x ∷ []))
 unfolding patch
 patch_snoc o at a x = patch_append o at a (x ∷ [])
-
--- Four stores are the patch by a field.
-pub patch_four : (o o₁ o₂ o₃ o₄ : Bytes) (at v : ℕ) → o₁ ≡ set o at (v / 2 ^ 24 % 256) → o₂ ≡ set o₁ (at + 1) (v / 2 ^ 16 % 256)
-    → o₃ ≡ set o₂ (at + 2) (v / 2 ^ 8 % 256) → o₄ ≡ set o₃ (at + 3) (v % 256) → o₄ ≡ patch o at (be32 v)
-unfolding patch
-patch_four o o₁ o₂ o₃ o₄ at v e₁ e₂ e₃ e₄ = rw (be32_is v) (cc (add-one at, add-two at, add-three at))
 
 -- A buffer with no room stays as it is.
 pub patch_empty : (at : ℕ) (bs : List ℕ) → patch [] at bs ≡ []
@@ -103,22 +96,27 @@ pub patch_eq : (o : List ℕ) (at : ℕ) (bs : List ℕ) → at + length bs ≤ 
     → patch o at bs ≡ take at o ++ (bs ++ drop (at + length bs) o)
 patch_eq o at bs h = patch_sets o at bs ∙ sets-eq bs o at h ∙ append_assoc (take at o) bs (drop (at + length bs) o)
 
+-- So it is what the library's copy into a part leaves.
+pub patch_mid : (o : Bytes) (at k : ℕ) (ys bs : Bytes) → ys ≡ bs → k ≡ length bs → at + length bs ≤ length o
+    → put_mid at k o ys ≡ patch o at bs
+patch_mid o at k ys bs e q h = rw (e, q, drop-drop) (sym (patch_eq o at bs h))
+
 pub patch_zero : (o bs : List ℕ) → length bs ≤ length o → patch o 0 bs ≡ bs ++ drop (length bs) o
 patch_zero o bs h = patch_eq o 0 bs (omega arith) ∙ ap (λ (n : ℕ). bs ++ drop n o) (zero-add (length bs))
 
 -- ---- the promise of a function that writes
 
 -- A buffer too short is left as it is.
-pub ended_short : (b before : Bytes) → length before < length b → Ended (Refused Buffer) before before (into (length before) b)
+pub ended_short : (b before : Bytes) → length before < length b → Ended (Err Buffer) before before (into (length before) b)
 unfolding into
 ended_short b before h = rw (lt-ltb (length before) (length b) h) (record { answer = refl; bytes = refl })
 
 -- Otherwise the result was stored from the first byte on.
 pub ended_full : (b before after : Bytes) (n : ℕ) → length b ≤ length before → n ≡ length b → after ≡ patch before 0 b
-    → Ended (Done n) before after (into (length before) b)
+    → Ended (Ok (Some n)) before after (into (length before) b)
 unfolding into
 ended_full b before after n h e p =
-    rw (le-ltb (length before) (length b) h) (record { answer = ap Done e; bytes = p ∙ patch_zero before b h })
+    rw (le-ltb (length before) (length b) h) (record { answer = ap (λ x. Ok (Some x)) e; bytes = p ∙ patch_zero before b h })
 
 -- The same result in other words.
 pub ended_as : {r : Ending} {before after : Bytes} (n : ℕ) (a b : Bytes) → a ≡ b → Ended r before after (into n a)
@@ -128,19 +126,19 @@ ended_as n a b e h = rw e at h
 -- ---- the same with room beside the buffer
 
 -- A refusal leaves the buffer.
-pub in_refused : (o : Bytes) (p : Outcome) (x : Refusal) → p ≡ refusal x → EndedIn (Refused x) o o p
+pub in_refused : (o : Bytes) (p : Outcome) (x : Refusal) → p ≡ refusal x → EndedIn (Err x) o o p
 in_refused o p x e = rw e (record { answer = refl; bytes = refl })
 
 -- So does a room that is too short.
-pub in_short : (b before : Bytes) (room : ℕ) → room < length b → EndedIn (Refused Buffer) before before (into room b)
+pub in_short : (b before : Bytes) (room : ℕ) → room < length b → EndedIn (Err Buffer) before before (into room b)
 unfolding into
 in_short b before room h = rw (lt-ltb room (length b) h) (record { answer = refl; bytes = refl })
 
 -- Otherwise the result was stored, as far as it has a place.
 pub in_full : (b before : Bytes) (room : ℕ) (after : Bytes) (n : ℕ) → length b ≤ room → n ≡ length b → after ≡ patch before 0 b
-    → EndedIn (Done n) before after (into room b)
+    → EndedIn (Ok (Some n)) before after (into room b)
 unfolding into
-in_full b before room after n h e p = rw (le-ltb room (length b) h) (record { answer = ap Done e; bytes = p })
+in_full b before room after n h e p = rw (le-ltb room (length b) h) (record { answer = ap (λ x. Ok (Some x)) e; bytes = p })
 
 -- The same result in other words.
 pub in_as : {r : Ending} {before after : Bytes} (n : ℕ) (a b : Bytes) → a ≡ b → EndedIn r before after (into n a)

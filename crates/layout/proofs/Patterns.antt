@@ -1,26 +1,26 @@
 -- The laws of numbers as bytes: high byte first, and two's complement.
 use Prim.Native.Nat.{ℕ, zero, suc, ◌+◌, ◌-◌, ◌*◌, ◌/◌, ◌%◌, ◌^◌, ◌≤◌, ◌<◌}
-use mathlib.Core.Path.{◌≡◌, refl, sym, ap, subst, ◌∙◌}
+use mathlib.Core.Path.{◌≡◌, refl, sym, ap, ◌∙◌}
 use mathlib.Core.Bool.{Bool, true, false, cond, or-false}
 use mathlib.Core.List.{[], ◌∷◌, ◌++◌}
 use native.Mathlib.Decide.{dec_le, dec_lt}
 use native.Mathlib.Omega.{arith}
-use native.Mathlib.Nat.{add-zero, sub-zero, zero-add, mul_assoc, pow-suc, pow-le-pow_right, suc-mul, lt_trans, lt_of_lt_of_le, mod-eq_of_lt}
+use native.Mathlib.Nat.{zero-add, suc-add, mul_assoc, pow-suc, pow-le-pow_right, suc-mul, lt_of_lt_of_le, mod-eq_of_lt}
 use native.Mathlib.Numerals.{add-one}
 use borrow.Author.Tests.{ltb-true, lt-ltb, le-ltb, ne_eqb}
 use lib.Arith.{mod-mul, digits_mod}
 use lib.Dec.{T, ltb, eqb→eq, lit<}
-use lib.IntN.{ℤ, pos, negsuc, nat_abs, ◌-ℤ◌}
-use lib.ListN.{length, take, drop, get_or, set, length-append, length-drop, get_or-eq_default}
+use lib.IntN.{ℤ, pos, negsuc}
+use lib.ListN.{length, take, drop, get_or, length-append, length-drop, get_or-eq_default}
 use lib.Pow.{pow-add}
 use lib.Seq.{take-suc, take_all, get_or-drop}
-use lib.Signed.{mag, lt_z, non_neg}
-use mir.Syntax.{w64}
-use mir.Val.{Fits, SFits, to_z, of_z}
-use mir.ValLaws.{to_z-of_z, to_z_pos}
+use lib.Signed.{mag, non_neg}
+use mir.Syntax.{Width, w8, w16, w32, w64}
+use mir.Val.{SFits, sel}
+use mir.ValLaws.{to_z-of_z}
+use Rattle.std.specs.Int.{bytes_high_first, to_be_bytes, cast_signed, cast_unsigned}
 use Rattle.layout.specs.Bytes.{Bytes, be_bytes, be_value, part_word, word_at}
 use Rattle.layout.specs.Entry.{entry_at}
-use Rattle.layout.specs.Patch.{patch}
 use Rattle.layout.specs.Number.{is_width, signed, pattern, uint_width, int_width}
 
 -- A byte is eight bits.
@@ -28,31 +28,31 @@ pub pow_bytes : (k : ℕ) → 2 ^ (8 * k) ≡ 256 ^ k
 pow_bytes zero = refl
 pow_bytes (suc k) = let e : 8 * suc k ≡ 8 * k + 8 = omega arith in rw (e, pow-add 2 (8 * k) 8, pow_bytes k, pow-suc 256 k)
 
--- ---- storing the bytes of a number, from the high one on: what is still to be stored
+-- ---- storing the bytes of a number, from the high one on
 
 pub length_be_bytes : (n v : ℕ) → length (be_bytes n v) ≡ n
 unfolding be_bytes
 length_be_bytes zero v = refl
 length_be_bytes (suc n) v = ap suc (length_be_bytes n v)
 
-pub store_begins : (o : Bytes) (at n v : ℕ) → patch o (at + 0) (be_bytes (n - 0) v) ≡ patch o at (be_bytes n v)
-store_begins o at n v = rw (add-zero at, sub-zero n)
+-- The library's bytes of a number are these.
+library_bytes : (n v : ℕ) → bytes_high_first n v ≡ be_bytes n v
+unfolding be_bytes
+library_bytes zero v = refl
+library_bytes (suc zero) v = let whole : v / 1 ≡ v = omega arith in rw whole
+library_bytes (suc (suc n)) v = ap (λ b. v / 256 ^ suc n % 256 ∷ b) (library_bytes (suc n) v)
 
-pub store_turn : (o₀ o o' : Bytes) (at n v i : ℕ) → i < n
-    → patch o (at + i) (be_bytes (n - i) v) ≡ patch o₀ at (be_bytes n v)
-    → o' ≡ set o (at + i) (v / 2 ^ (8 * (n - 1 - i)) % 256)
-    → patch o' (at + (i + 1)) (be_bytes (n - (i + 1)) v) ≡ patch o₀ at (be_bytes n v)
-unfolding patch be_bytes
-store_turn o₀ o o' at n v i h inv e =
-    let k : n - i ≡ suc (n - (i + 1)) = omega arith in
-    let j : n - 1 - i ≡ n - (i + 1) = omega arith in
-    let a : at + (i + 1) ≡ suc (at + i) = omega arith in
-    rw (e, j, a, pow_bytes (n - (i + 1))) (rw k at inv)
+behind_high : (k n v : ℕ) → drop k (be_bytes (k + n) v) ≡ be_bytes n v
+unfolding be_bytes
+behind_high zero n v = rw (zero-add n)
+behind_high (suc k) n v = rw (suc-add k n) (behind_high k n v)
 
-pub store_ends : (o₀ o : Bytes) (at n v i : ℕ) → n ≤ i → patch o (at + i) (be_bytes (n - i) v) ≡ patch o₀ at (be_bytes n v)
-    → o ≡ patch o₀ at (be_bytes n v)
-unfolding patch be_bytes
-store_ends o₀ o at n v i h inv = let z : n - i ≡ 0 = omega arith in rw z at inv
+-- The last of a number's eight bytes are its low ones.
+pub low_bytes : (n v : ℕ) (b : Bytes) → n ≤ 8 → b ≡ to_be_bytes w64 v → take (8 - (8 - n)) (drop (8 - n) b) ≡ be_bytes n v
+low_bytes n v b h e =
+    let k : 8 ≡ 8 - n + n = omega arith in
+    let q : b ≡ be_bytes (8 - n + n) v = e ∙ library_bytes 8 v ∙ ap (λ m. be_bytes m v) k in
+    rw (q, behind_high (8 - n) n v) (take_all (8 - (8 - n)) (be_bytes n v) (omega (arith, length_be_bytes n v)))
 
 -- ---- reading them
 
@@ -78,11 +78,7 @@ read_bound i v x h k = rw (add-one i, pow-suc 256 i) (omega arith)
 pub read_room : (k i v n : ℕ) → v < 256 ^ i → i < n → n ≤ k + 1 → v < 256 ^ k
 read_room k i v n h l m = lt_of_lt_of_le h (pow-le-pow_right {n = 256} (lit< tt) {i = i} {j = k} (omega arith))
 
--- The bytes from a place on: none, none of them there, or one more.
-pub part_word_none : (s : Bytes) (at n : ℕ) → n ≡ 0 → (0 ≡ part_word s at n) × (0 < 256 ^ n)
-unfolding part_word
-part_word_none s at n z = rw z (refl, omega arith)
-
+-- Bytes from a place on of which none is there.
 pub part_word_out : (s : Bytes) (at n : ℕ) → length s ≤ at → (0 ≡ part_word s at n) × (0 < 256 ^ n)
 unfolding part_word
 part_word_out s at zero h = (refl, omega arith)
@@ -95,17 +91,6 @@ part_word_out s at (suc n) h =
 pub entry_out : (s : Bytes) (i : ℕ) → length s < 2 ^ 63 → 2 ^ 61 ≤ i → 0 ≡ entry_at s i
 unfolding entry_at word_at
 entry_out s i l h = (part_word_out s (4 + 4 * i) 4 (omega arith)).0
-
-pub part_word_more : (s : Bytes) (at n v x w : ℕ) → (n ≡ 0 → ⊥) → (v ≡ part_word s at (n - 1)) × (v < 256 ^ (n - 1))
-    → x ≡ get_or s (at + (n - 1)) 0 → (w ≡ x) × (w < 256) → (v * 256 + w ≡ part_word s at n) × (v * 256 + w < 256 ^ n)
-unfolding part_word
-part_word_more s at zero v x w z hv hx hw = absurd (z refl)
-part_word_more s at (suc n) v x w z hv hx hw =
-    let e : suc n - 1 ≡ n = omega arith in
-    let q : v ≡ part_word s at n = rw e at hv.0 in
-    let b : v < 256 ^ n = rw e at hv.1 in
-    let k : w ≡ get_or s (at + n) 0 = hw.0 ∙ rw e at hx in
-    (rw (q, k), rw (← add-one n) (read_bound n v w b hw.1))
 
 -- Where they are there, it is the number that they write.
 pub part_value : (s : Bytes) (at n : ℕ) → at + n ≤ length s → part_word s at n ≡ be_value (take n (drop at s))
@@ -144,93 +129,39 @@ width_le n h = by_order (dec_le n 8)
         absurd
         (rw (ne_eqb n 1 (λ e. omega arith), ne_eqb n 2 (λ e. omega arith), ne_eqb n 4 (λ e. omega arith), ne_eqb n 8 (λ e. omega arith)) at h)
 
-minus_one : (k : ℕ) → negsuc 0 -ℤ pos k ≡ negsuc k
-minus_one zero = refl
-minus_one (suc k) = ap (λ (j : ℕ). negsuc (suc j)) (zero-add k)
+-- The library's cast of a pattern is the number that it stands for, and the other way round.
+chosen : (b : Bool) (p q : ℤ) → sel b p q ≡ cond b p q
+chosen true p q = refl
+chosen false p q = refl
 
-from_minus_one : (k : ℕ) → negsuc 0 -ℤ negsuc k ≡ pos k
-from_minus_one k = rw (le-ltb (suc k) 1 (omega arith)) (ap pos (omega arith))
+pub signed_byte : (x : ℕ) → cast_signed w8 x ≡ signed 1 x
+unfolding signed
+signed_byte x = chosen (ltb x 128) (pos x) (negsuc (256 - suc x))
 
--- A pattern `x` of `n` bytes, where `max` is the greatest number that they hold.
-module _ (n x max : ℕ) (whole : 2 * max + 2 ≡ 256 ^ n) (small : max < 2 ^ 63) where
-  pub signed_low : x ≤ max → to_z w64 x ≡ signed n x
-  unfolding signed
-  signed_low h = to_z_pos w64 x (omega arith) ∙ rw (lt-ltb x (256 ^ n / 2) (omega arith))
+pub signed_half : (x : ℕ) → cast_signed w16 x ≡ signed 2 x
+unfolding signed
+signed_half x = chosen (ltb x 32768) (pos x) (negsuc (65536 - suc x))
 
-  module _ (low : max < x) (high : x < 256 ^ n) where
-    negated : negsuc 0 -ℤ to_z w64 (2 * max + 1 - x) ≡ negsuc (256 ^ n - suc x)
-    negated =
-        ap (λ (z : ℤ). negsuc 0 -ℤ z) (to_z_pos w64 (2 * max + 1 - x) (omega arith))
-        ∙ minus_one (2 * max + 1 - x)
-        ∙ ap negsuc (omega arith)
+pub signed_word : (x : ℕ) → cast_signed w32 x ≡ signed 4 x
+unfolding signed
+signed_word x = chosen (ltb x 2147483648) (pos x) (negsuc (4294967296 - suc x))
 
-    pub signed_high_fits : SFits w64 (negsuc 0 -ℤ to_z w64 (2 * max + 1 - x))
-    signed_high_fits = subst (λ (z : ℤ). SFits w64 z) (sym negated) (record { sfits = omega arith })
+pub signed_long : (x : ℕ) → cast_signed w64 x ≡ signed 8 x
+unfolding signed
+signed_long x = chosen (ltb x 9223372036854775808) (pos x) (negsuc (18446744073709551616 - suc x))
 
-    pub signed_high : to_z w64 (of_z w64 (negsuc 0 -ℤ to_z w64 (2 * max + 1 - x))) ≡ signed n x
-    unfolding signed
-    signed_high =
-        to_z-of_z w64 _ signed_high_fits ∙ negated ∙ rw (le-ltb x (256 ^ n / 2) (omega arith))
-
-cast_plain : (z : ℤ) → SFits w64 z → lt_z z (pos 0) ≡ false → T (non_neg z) × Fits w64 (nat_abs z)
-cast_plain (pos k) f q = (tt, record { fits = lt_trans f.sfits (lit< tt) })
-cast_plain (negsuc k) f q = let z : ◌≡◌ {A = ℕ} 0 1 = cc in absurd (omega arith)
-
-low_plain : (z : ℤ) → lt_z z (pos 0) ≡ false → nat_abs z ≡ pattern z
+pub pattern_is : (z : ℤ) → cast_unsigned w64 z ≡ pattern z
 unfolding pattern
-low_plain (pos k) q = refl
-low_plain (negsuc k) q = let z : ◌≡◌ {A = ℕ} 0 1 = cc in absurd (omega arith)
+pattern_is (pos k) = refl
+pattern_is (negsuc k) = refl
 
-turn_plain : (z : ℤ) → lt_z z (pos 0) ≡ true → negsuc 0 -ℤ z ≡ pos (mag z)
-turn_plain (pos k) q = absurd (let h : k < 0 = ltb-true k 0 q in omega arith)
-turn_plain (negsuc k) q = from_minus_one k
+-- What the machine reads where a number was put is the number, and so it is where a wider type holds it.
+pub pattern_held : (z : ℤ) → SFits w64 z → cast_unsigned w64 (cast_signed w64 (cast_unsigned w64 z)) ≡ pattern z
+pattern_held z f = ap (cast_unsigned w64) (to_z-of_z w64 z f) ∙ pattern_is z
 
-high_plain : (z : ℤ) → lt_z z (pos 0) ≡ true → 18446744073709551615 - mag z ≡ pattern z
-unfolding pattern
-high_plain (pos k) q = absurd (let h : k < 0 = ltb-true k 0 q in omega arith)
-high_plain (negsuc k) q = omega arith
-
--- What the machine reads where a number was put.
-abbrev held : ℤ → ℤ
-held v = to_z w64 (of_z w64 v)
-
-module _ (v : ℤ) (fits : SFits w64 v) where
-  pub pattern_held : pattern (to_z w64 (of_z w64 v)) ≡ pattern v
-  pattern_held = ap pattern (to_z-of_z w64 v fits)
-
-  module _ (q : lt_z (held v) (pos 0) ≡ false) where
-    plain : lt_z v (pos 0) ≡ false
-    plain = subst (λ (z : ℤ). lt_z z (pos 0) ≡ false) (to_z-of_z w64 v fits) q
-
-    pub pattern_cast : T (non_neg (held v)) × Fits w64 (nat_abs (held v))
-    pattern_cast = subst (λ (z : ℤ). T (non_neg z) × Fits w64 (nat_abs z)) (sym (to_z-of_z w64 v fits)) (cast_plain v fits plain)
-
-    pub pattern_low : nat_abs (held v) ≡ pattern v
-    pattern_low = ap nat_abs (to_z-of_z w64 v fits) ∙ low_plain v plain
-
-  module _ (q : lt_z (held v) (pos 0) ≡ true) where
-    below : lt_z v (pos 0) ≡ true
-    below = subst (λ (z : ℤ). lt_z z (pos 0) ≡ true) (to_z-of_z w64 v fits) q
-
-    turned : negsuc 0 -ℤ held v ≡ pos (mag v)
-    turned = ap (λ (z : ℤ). negsuc 0 -ℤ z) (to_z-of_z w64 v fits) ∙ turn_plain v below
-
-    pub turned_fits : SFits w64 (negsuc 0 -ℤ held v)
-    turned_fits = subst (λ (z : ℤ). SFits w64 z) (sym turned) (record { sfits = fits.sfits })
-
-    back : held (negsuc 0 -ℤ held v) ≡ pos (mag v)
-    back = to_z-of_z w64 _ turned_fits ∙ turned
-
-    pub turned_cast : T (non_neg (held (negsuc 0 -ℤ held v))) × Fits w64 (nat_abs (held (negsuc 0 -ℤ held v)))
-    turned_cast =
-        subst (λ (z : ℤ). T (non_neg z) × Fits w64 (nat_abs z)) (sym back)
-        (tt, record { fits = lt_trans fits.sfits (lit< tt) })
-
-    pub turned_within : nat_abs (held (negsuc 0 -ℤ held v)) ≤ 18446744073709551615
-    turned_within = subst (λ (z : ℤ). nat_abs z ≤ 18446744073709551615) (sym back) (omega (arith, fits.sfits))
-
-    pub pattern_high : 18446744073709551615 - nat_abs (held (negsuc 0 -ℤ held v)) ≡ pattern v
-    pattern_high = ap (λ (z : ℤ). 18446744073709551615 - nat_abs z) back ∙ high_plain v below
+pub widened : (w : Width) (r s z : ℤ) → SFits w64 r → SFits w s → r ≡ cast_signed w (cast_unsigned w s) → s ≡ z
+    → cast_signed w64 (cast_unsigned w64 r) ≡ z
+widened w r s z f g e h = to_z-of_z w64 r f ∙ e ∙ to_z-of_z w s g ∙ h
 
 -- A number that `n` bytes hold is what its pattern stands for.
 signed_at : (n : ℕ) (z : ℤ) (x h : ℕ) → 256 ^ n ≡ 2 * h → mag z < h

@@ -5,7 +5,7 @@ use mathlib.Core.Path.{◌≡◌, refl, ap, ◌∙◌}
 use lib.ListN.{take, drop}
 use Rattle.layout.specs.Bytes.{Bytes}
 use Rattle.layout.specs.Entry.{length_of, entry_at, lengths}
-use Rattle.layout.specs.Parts.{start_of, first_part, nth_part, part_payload, bytes_at, next_part, members_of, past, behind_member}
+use Rattle.layout.specs.Parts.{first_part, nth_part, bytes_at, past, behind_member}
 use Rattle.layout.specs.declared.parts.ItemAt.{ItemAt}
 use Rattle.layout.specs.declared.parts.MemberAt.{MemberAt}
 use Rattle.layout.specs.declared.parts.PartAt.{PartAt}
@@ -26,14 +26,6 @@ pub nth_is : (s : Bytes) (n k p : ℕ) (first : PartAt) → first ≡ first_part
     → record { index = k; place = p } ≡ nth_part s n k
 nth_is s n k p first f e = let z : k - 0 ≡ k = omega arith in rw (e, f, z)
 
-pub part_payload_is : (r s : Bytes) (p : PartAt) (e l : ℕ) → e ≡ entry_at s p.index → l ≡ length_of e
-    → r ≡ take l (drop p.place s) → r ≡ part_payload s p
-part_payload_is r s p e l he hl h = rw (h, hl, he)
-
-pub part_behind_is : (s : Bytes) (p : PartAt) (e l : ℕ) → e ≡ entry_at s p.index → l ≡ length_of e
-    → record { index = p.index + 1; place = p.place + l } ≡ next_part s p
-part_behind_is s p e l he hl = rw (hl, he)
-
 -- Places one after another: `total` is where the last one stands.
 pub place_more : (s : Bytes) (i n p total e l : ℕ) → i < n → total ≡ p + lengths s i (n - i) → e ≡ entry_at s i → l ≡ length_of e
     → total ≡ p + l + lengths s (i + 1) (n - (i + 1))
@@ -44,12 +36,6 @@ place_more s i n p total e l lt inv he hl =
 pub place_end : (s : Bytes) (i n p total : ℕ) → n ≤ i → total ≡ p + lengths s i (n - i) → p ≡ total
 unfolding lengths
 place_end s i n p total h inv = let k : n - i ≡ 0 = omega arith in rw inv (rw k (omega arith))
-
--- The places of the members of an object.
-pub members_places : (s : Bytes) (n p : ℕ) (first : PartAt) → first ≡ first_part (n + n)
-    → p ≡ first.place + lengths s first.index (n - first.index)
-    → record { key_jentry = 4; val_jentry = start_of n; key = first.place; val = p } ≡ members_of s n
-members_places s n p first f e = let z : n - 0 ≡ n = omega arith in rw (e, f, z)
 
 -- The places behind a member, by the lengths of its name and value.
 pub behind_is : (r at : Places) (m : MemberAt) (k v : ℕ) → k ≡ length_of m.key.jentry → v ≡ length_of m.val.jentry

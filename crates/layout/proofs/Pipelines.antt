@@ -3,7 +3,6 @@ use Prim.Native.Nat.{ℕ, ◌≤◌}
 use native.Mathlib.Omega.{arith}
 use mathlib.Core.Path.{◌≡◌, refl}
 use mathlib.Core.Bool.{Bool, true, false, not, cond}
-use mathlib.Core.Option.{Option, none as nothing, some}
 use lib.Dec.{T, ltb, nltb→le}
 use lib.ListN.{length}
 use Rattle.layout.specs.Bytes.{Bytes}
@@ -16,19 +15,19 @@ use Rattle.layout.specs.Room.{EndedIn, Fits}
 use Rattle.layout.specs.Pipeline.{found, written, on_record}
 use Rattle.layout.specs.declared.refusal.Refusal.{Refusal}
 use Rattle.layout.specs.declared.refusal.Refusal.TheVariants.{Buffer}
-use Rattle.layout.specs.declared.ending.Ending.{Ending}
-use Rattle.layout.specs.declared.ending.Ending.TheVariants.{Absent, Refused}
 use Rattle.layout.proofs.Patches.{in_refused, into_fits}
+use Rattle.std.specs.Prelude.{Ok, Err, Some, None, Option}
+use Rattle.layout.specs.Ended.{Ending}
 
 -- An edit that always finds something.
-pub found_written : (room : ℕ) (m : Answer Tree) → found room (m >>= λ v. gives (some v)) ≡ written room m
+pub found_written : (room : ℕ) (m : Answer Tree) → found room (m >>= λ v. gives (Some v)) ≡ written room m
 unfolding ◌>>=◌
 found_written room (gives t) = refl
 found_written room (refused x) = refl
 
 found_fits : (room : ℕ) (m : Answer (Option Tree)) → Fits room (found room m)
-found_fits room (gives nothing) = tt
-found_fits room (gives (some t)) = into_fits room (encode t)
+found_fits room (gives None) = tt
+found_fits room (gives (Some t)) = into_fits room (encode t)
 found_fits room (refused x) = tt
 
 -- A result, and what it is the record of; it goes into the room.
@@ -41,10 +40,10 @@ into_result room x b = go (ltb room (length x)) (nltb→le room (length x))
     go false h q = let e : b ≡ x = cc in (e, rw e (h tt))
 
 pub found_result : (room : ℕ) (m : Answer (Option Tree)) (b : Bytes) → found room m ≡ result b
-    → (v : Tree) × (m ≡ gives (some v)) × (b ≡ encode v) × (length b ≤ room)
+    → (v : Tree) × (m ≡ gives (Some v)) × (b ≡ encode v) × (length b ≤ room)
 found_result room (refused r) b e = let z : ◌≡◌ {A = ℕ} 0 1 = cc in let w : ⊥ = omega arith in absurd w
-found_result room (gives nothing) b e = let z : ◌≡◌ {A = ℕ} 0 1 = cc in let w : ⊥ = omega arith in absurd w
-found_result room (gives (some v)) b e = let i = into_result room (encode v) b e in (v, refl, i.0, i.1)
+found_result room (gives None) b e = let z : ◌≡◌ {A = ℕ} 0 1 = cc in let w : ⊥ = omega arith in absurd w
+found_result room (gives (Some v)) b e = let i = into_result room (encode v) b e in (v, refl, i.0, i.1)
 
 pub written_result : (room : ℕ) (m : Answer Tree) (b : Bytes) → written room m ≡ result b
     → (v : Tree) × (m ≡ gives v) × (b ≡ encode v) × (length b ≤ room)
@@ -63,13 +62,13 @@ module _ {P : Type 0} (beside : Bytes → Answer P) (edit : Tree → P → Answe
 
   module _ (o : Bytes) where
     -- The record is refused.
-    pub record_first : (x : Refusal) → read target ≡ refused x → EndedIn (Refused x) o o (on_record beside edit target other room)
+    pub record_first : (x : Refusal) → read target ≡ refused x → EndedIn (Err x) o o (on_record beside edit target other room)
     unfolding on_record
     record_first x e = in_refused o _ x (rw e)
 
     module _ (t : Tree) (ht : read target ≡ gives t) where
       -- What stands beside it is.
-      pub record_second : (x : Refusal) → beside other ≡ refused x → EndedIn (Refused x) o o (on_record beside edit target other room)
+      pub record_second : (x : Refusal) → beside other ≡ refused x → EndedIn (Err x) o o (on_record beside edit target other room)
       unfolding on_record
       record_second x e = in_refused o _ x (rw (ht, e))
 
@@ -79,12 +78,12 @@ module _ {P : Type 0} (beside : Bytes → Answer P) (edit : Tree → P → Answe
         unfolding on_record
         record_given m e = rw (ht, hp, e)
 
-        pub record_edit : (x : Refusal) → edit t p ≡ refused x → EndedIn (Refused x) o o (on_record beside edit target other room)
+        pub record_edit : (x : Refusal) → edit t p ≡ refused x → EndedIn (Err x) o o (on_record beside edit target other room)
         record_edit x e = in_refused o _ x (record_given (refused x) e)
 
-        pub record_absent : edit t p ≡ gives nothing → EndedIn Absent o o (on_record beside edit target other room)
-        record_absent e = rw (record_given (gives nothing) e) (record { answer = refl; bytes = refl })
+        pub record_absent : edit t p ≡ gives None → EndedIn (Ok None) o o (on_record beside edit target other room)
+        record_absent e = rw (record_given (gives None) e) (record { answer = refl; bytes = refl })
 
-        pub record_done : (v : Tree) → edit t p ≡ gives (some v) → (e : Ending) (o' : Bytes) → EndedIn e o o' (into room (encode v))
+        pub record_done : (v : Tree) → edit t p ≡ gives (Some v) → (e : Ending) (o' : Bytes) → EndedIn e o o' (into room (encode v))
             → EndedIn e o o' (on_record beside edit target other room)
-        record_done v q e o' h = rw (record_given (gives (some v)) q) h
+        record_done v q e o' h = rw (record_given (gives (Some v)) q) h

@@ -6,15 +6,13 @@ use mathlib.Core.Path.{◌≡◌, refl, ap, ◌∙◌}
 use mathlib.Core.Logic.{◌⊎◌, inl, inr, ⊎_elim}
 use mathlib.Core.Bool.{Bool, true, false, cond, ◌&&◌}
 use mathlib.Core.List.{List, [], ◌∷◌, ◌++◌}
-use mathlib.Core.Option.{Option, none as nothing, some}
 use borrow.Author.Tests.{le-leb, lt-leb, lt-ltb, le-ltb}
 use lib.Dec.{leb}
 use lib.ListN.{length}
 use Rattle.layout.specs.Bytes.{Bytes}
 use Rattle.layout.specs.Text.{between, lead, points_rest, code_points}
 use Rattle.layout.specs.CodePoints.{octet_sequence, encoded, CodePoints, Counted}
-use Rattle.layout.specs.declared.utf8.Lead.{Lead}
-use Rattle.layout.specs.declared.utf8.Lead.TheVariants.{Tails, Bad}
+use Rattle.std.specs.Prelude.{Some, None, Option}
 
 -- ---- what each range of first bytes asks for
 
@@ -31,11 +29,11 @@ above low high x h = rw (lt-leb x high h) (and_no (leb low x))
     and_no true = refl
     and_no false = refl
 
-lead_ascii : (x : ℕ) → x ≤ 0x7F → lead x ≡ Tails 0 0x80 0xBF
+lead_ascii : (x : ℕ) → x ≤ 0x7F → lead x ≡ Some (0, 0x80, 0xBF)
 unfolding lead
 lead_ascii x b = rw (within 0x00 0x7F x (omega arith) b)
 
-lead_tail : (x : ℕ) → 0x80 ≤ x → x ≤ 0xC1 → lead x ≡ Bad
+lead_tail : (x : ℕ) → 0x80 ≤ x → x ≤ 0xC1 → lead x ≡ None
 unfolding lead
 lead_tail x a b =
     rw (
@@ -51,16 +49,16 @@ lead_tail x a b =
     )
 
 -- The table from the row of E1 on, and from that of EE on.
-abbrev from_EE : ℕ → Lead
+abbrev from_EE : ℕ → Option (ℕ × ℕ × ℕ)
 from_EE x =
-    cond (between 0xEE 0xEF x) (Tails 2 0x80 0xBF)
-    (cond (between 0xF0 0xF0 x) (Tails 3 0x90 0xBF)
-    (cond (between 0xF1 0xF3 x) (Tails 3 0x80 0xBF)
-    (cond (between 0xF4 0xF4 x) (Tails 3 0x80 0x8F)
-    Bad)))
+    cond (between 0xEE 0xEF x) (Some (2, 0x80, 0xBF))
+    (cond (between 0xF0 0xF0 x) (Some (3, 0x90, 0xBF))
+    (cond (between 0xF1 0xF3 x) (Some (3, 0x80, 0xBF))
+    (cond (between 0xF4 0xF4 x) (Some (3, 0x80, 0x8F))
+    None)))
 
-abbrev from_E1 : ℕ → Lead
-from_E1 x = cond (between 0xE1 0xEC x) (Tails 2 0x80 0xBF) (cond (between 0xED 0xED x) (Tails 2 0x80 0x9F) (from_EE x))
+abbrev from_E1 : ℕ → Option (ℕ × ℕ × ℕ)
+from_E1 x = cond (between 0xE1 0xEC x) (Some (2, 0x80, 0xBF)) (cond (between 0xED 0xED x) (Some (2, 0x80, 0x9F)) (from_EE x))
 
 past_E0 : (x : ℕ) → 0xE1 ≤ x → lead x ≡ from_E1 x
 unfolding lead
@@ -69,37 +67,37 @@ past_E0 x a = rw (above 0x00 0x7F x (omega arith), above 0xC2 0xDF x (omega arit
 past_ED : (x : ℕ) → 0xEE ≤ x → lead x ≡ from_EE x
 past_ED x a = past_E0 x (omega arith) ∙ rw (above 0xE1 0xEC x (omega arith), above 0xED 0xED x (omega arith))
 
-lead_two : (x : ℕ) → 0xC2 ≤ x → x ≤ 0xDF → lead x ≡ Tails 1 0x80 0xBF
+lead_two : (x : ℕ) → 0xC2 ≤ x → x ≤ 0xDF → lead x ≡ Some (1, 0x80, 0xBF)
 unfolding lead
 lead_two x a b = rw (above 0x00 0x7F x (omega arith), within 0xC2 0xDF x a b)
 
-lead_E0 : (x : ℕ) → x ≡ 0xE0 → lead x ≡ Tails 2 0xA0 0xBF
+lead_E0 : (x : ℕ) → x ≡ 0xE0 → lead x ≡ Some (2, 0xA0, 0xBF)
 unfolding lead
 lead_E0 x e = rw e
 
-lead_E1_EC : (x : ℕ) → 0xE1 ≤ x → x ≤ 0xEC → lead x ≡ Tails 2 0x80 0xBF
+lead_E1_EC : (x : ℕ) → 0xE1 ≤ x → x ≤ 0xEC → lead x ≡ Some (2, 0x80, 0xBF)
 lead_E1_EC x a b = past_E0 x a ∙ rw (within 0xE1 0xEC x a b)
 
-lead_ED : (x : ℕ) → x ≡ 0xED → lead x ≡ Tails 2 0x80 0x9F
+lead_ED : (x : ℕ) → x ≡ 0xED → lead x ≡ Some (2, 0x80, 0x9F)
 unfolding lead
 lead_ED x e = rw e
 
-lead_EE_EF : (x : ℕ) → 0xEE ≤ x → x ≤ 0xEF → lead x ≡ Tails 2 0x80 0xBF
+lead_EE_EF : (x : ℕ) → 0xEE ≤ x → x ≤ 0xEF → lead x ≡ Some (2, 0x80, 0xBF)
 lead_EE_EF x a b = past_ED x a ∙ rw (within 0xEE 0xEF x a b)
 
-lead_F0 : (x : ℕ) → x ≡ 0xF0 → lead x ≡ Tails 3 0x90 0xBF
+lead_F0 : (x : ℕ) → x ≡ 0xF0 → lead x ≡ Some (3, 0x90, 0xBF)
 unfolding lead
 lead_F0 x e = rw e
 
-lead_F1_F3 : (x : ℕ) → 0xF1 ≤ x → x ≤ 0xF3 → lead x ≡ Tails 3 0x80 0xBF
+lead_F1_F3 : (x : ℕ) → 0xF1 ≤ x → x ≤ 0xF3 → lead x ≡ Some (3, 0x80, 0xBF)
 lead_F1_F3 x a b =
     past_ED x (omega arith) ∙ rw (above 0xEE 0xEF x (omega arith), above 0xF0 0xF0 x (omega arith), within 0xF1 0xF3 x a b)
 
-lead_F4 : (x : ℕ) → x ≡ 0xF4 → lead x ≡ Tails 3 0x80 0x8F
+lead_F4 : (x : ℕ) → x ≡ 0xF4 → lead x ≡ Some (3, 0x80, 0x8F)
 unfolding lead
 lead_F4 x e = rw e
 
-lead_high : (x : ℕ) → 0xF5 ≤ x → lead x ≡ Bad
+lead_high : (x : ℕ) → 0xF5 ≤ x → lead x ≡ None
 lead_high x a =
     past_ED x (omega arith)
     ∙ rw (
@@ -113,29 +111,29 @@ lead_high x a =
 
 -- The number behind `n` characters, where the next byte is a first one.
 abbrev rest : Bytes → ℕ → Option ℕ
-rest b n = points_rest b n (Tails 0 0x80 0xBF)
+rest b n = points_rest b n (Some (0, 0x80, 0xBF))
 
 -- A first byte, and a tail byte that is due.
-first_byte : (x n : ℕ) (b : Bytes) {l : Lead} → lead x ≡ l → rest (x ∷ b) n ≡ points_rest b (suc n) l
+first_byte : (x n : ℕ) (b : Bytes) {l : Option (ℕ × ℕ × ℕ)} → lead x ≡ l → rest (x ∷ b) n ≡ points_rest b (suc n) l
 first_byte x n b e = ap (points_rest b (suc n)) e
 
 tail_byte : (y k low high n : ℕ) (b : Bytes) → (low ≤ y) × (y ≤ high)
-    → points_rest (y ∷ b) n (Tails (suc k) low high) ≡ points_rest b n (Tails k 0x80 0xBF)
+    → points_rest (y ∷ b) n (Some ((suc k), low, high)) ≡ points_rest b n (Some (k, 0x80, 0xBF))
 tail_byte y k low high n b h = rw (within low high y h.0 h.1)
 
 abbrev Tail : ℕ → Type 0
 Tail y = (0x80 ≤ y) × (y ≤ 0xBF)
 
-two_bytes : (x y low high n : ℕ) (b : Bytes) → lead x ≡ Tails 1 low high → (low ≤ y) × (y ≤ high)
+two_bytes : (x y low high n : ℕ) (b : Bytes) → lead x ≡ Some (1, low, high) → (low ≤ y) × (y ≤ high)
     → rest (x ∷ y ∷ b) n ≡ rest b (suc n)
 two_bytes x y low high n b e h = first_byte x n (y ∷ b) e ∙ tail_byte y 0 low high (suc n) b h
 
-three_bytes : (x y z low high n : ℕ) (b : Bytes) → lead x ≡ Tails 2 low high → (low ≤ y) × (y ≤ high) → Tail z
+three_bytes : (x y z low high n : ℕ) (b : Bytes) → lead x ≡ Some (2, low, high) → (low ≤ y) × (y ≤ high) → Tail z
     → rest (x ∷ y ∷ z ∷ b) n ≡ rest b (suc n)
 three_bytes x y z low high n b e h t =
     first_byte x n (y ∷ z ∷ b) e ∙ (tail_byte y 1 low high (suc n) (z ∷ b) h ∙ tail_byte z 0 0x80 0xBF (suc n) b t)
 
-four_bytes : (x y z w low high n : ℕ) (b : Bytes) → lead x ≡ Tails 3 low high → (low ≤ y) × (y ≤ high) → Tail z → Tail w
+four_bytes : (x y z w low high n : ℕ) (b : Bytes) → lead x ≡ Some (3, low, high) → (low ≤ y) × (y ≤ high) → Tail z → Tail w
     → rest (x ∷ y ∷ z ∷ w ∷ b) n ≡ rest b (suc n)
 four_bytes x y z w low high n b e h t u =
     first_byte x n (y ∷ z ∷ w ∷ b) e
@@ -196,7 +194,7 @@ module _ (c n : ℕ) (b : Bytes) where
   counts_once top s (yes i) (yes j) (no k) = once_three j (omega arith) s (dec_le 0x1000 c) (dec_le 0xD000 c)
   counts_once top s (yes i) (yes j) (yes k) = once_four k top (dec_le 0x40000 c) (dec_le 0x100000 c)
 
-all_count : (cs : List ℕ) (n : ℕ) → CodePoints cs → rest (encoded cs) n ≡ some (n + length cs)
+all_count : (cs : List ℕ) (n : ℕ) → CodePoints cs → rest (encoded cs) n ≡ Some (n + length cs)
 all_count [] n h = let e : n + 0 ≡ n = omega arith in rw e
 all_count (c ∷ cs) n h =
     let e : n + length (c ∷ cs) ≡ suc n + length cs = omega arith in
@@ -204,23 +202,23 @@ all_count (c ∷ cs) n h =
 
 -- ---- the code points of a text
 
-never : {C : Type 0} {n : ℕ} → nothing ≡ some n → C
+never : {C : Type 0} {n : ℕ} → None ≡ Some n → C
 never e = let z : ◌≡◌ {A = ℕ} 0 1 = cc in let w : ⊥ = omega arith in absurd w
 
-bad_rest : {C : Type 0} (b : Bytes) (n m : ℕ) → points_rest b n Bad ≡ some m → C
+bad_rest : {C : Type 0} (b : Bytes) (n m : ℕ) → points_rest b n None ≡ Some m → C
 bad_rest [] n m e = never e
 bad_rest (x ∷ b) n m e = never e
 
 -- A tail byte that was due, and what is behind it.
 abbrev Next : Bytes → ℕ → ℕ → ℕ → ℕ → ℕ → Type 0
 Next b n k low high m =
-    (y : ℕ) × (r : Bytes) × (b ≡ y ∷ r) × (low ≤ y) × (y ≤ high) × (points_rest r n (Tails k 0x80 0xBF) ≡ some m)
+    (y : ℕ) × (r : Bytes) × (b ≡ y ∷ r) × (low ≤ y) × (y ≤ high) × (points_rest r n (Some (k, 0x80, 0xBF)) ≡ Some m)
 
-next : (b : Bytes) (n k low high m : ℕ) → points_rest b n (Tails (suc k) low high) ≡ some m → Next b n k low high m
+next : (b : Bytes) (n k low high m : ℕ) → points_rest b n (Some ((suc k), low, high)) ≡ Some m → Next b n k low high m
 next [] n k low high m e = never e
 next (y ∷ r) n k low high m e = go (dec_le low y) (dec_le y high) e
   where
-    go : Dec (low ≤ y) → Dec (y ≤ high) → cond (between low high y) (points_rest r n (Tails k 0x80 0xBF)) nothing ≡ some m
+    go : Dec (low ≤ y) → Dec (y ≤ high) → cond (between low high y) (points_rest r n (Some (k, 0x80, 0xBF))) None ≡ Some m
         → Next (y ∷ r) n k low high m
     go (no a) h q = never (rw (below low high y (omega arith)) at q)
     go (yes a) (no h) q = never (rw (above low high y (omega arith)) at q)
@@ -247,11 +245,11 @@ abbrev four_of : ℕ → ℕ → ℕ → ℕ → ℕ
 four_of x y z w = (x - 0xF0) * 262144 + (y - 0x80) * 4096 + (z - 0x80) * 64 + (w - 0x80)
 
 -- One code point, where the rest of the text is known to be some.
-module _ (most n m : ℕ) (again : (r : Bytes) → length r ≤ most → rest r (suc n) ≡ some m → Written r (suc n) m) where
-  from_one : (x : ℕ) (b : Bytes) → length b ≤ most → x ≤ 0x7F → rest b (suc n) ≡ some m → Written (x ∷ b) n m
+module _ (most n m : ℕ) (again : (r : Bytes) → length r ≤ most → rest r (suc n) ≡ Some m → Written r (suc n) m) where
+  from_one : (x : ℕ) (b : Bytes) → length b ≤ most → x ≤ 0x7F → rest b (suc n) ≡ Some m → Written (x ∷ b) n m
   from_one x b l h e = write x (x ∷ []) b n m (omega arith) (inl (omega arith)) (in_one x (omega arith)) (again b l e)
 
-  from_two : (x : ℕ) (b : Bytes) → length b ≤ most → 0xC2 ≤ x → x ≤ 0xDF → points_rest b (suc n) (Tails 1 0x80 0xBF) ≡ some m
+  from_two : (x : ℕ) (b : Bytes) → length b ≤ most → 0xC2 ≤ x → x ≤ 0xDF → points_rest b (suc n) (Some (1, 0x80, 0xBF)) ≡ Some m
       → Written (x ∷ b) n m
   from_two x b l lx hx e =
       let (y, r, eb, ly, hy, er) = next b (suc n) 0 0x80 0xBF m e in
@@ -265,7 +263,7 @@ module _ (most n m : ℕ) (again : (r : Bytes) → length r ≤ most → rest r 
   -- high.
   from_three : (x low high : ℕ) (b : Bytes) → length b ≤ most → (0xE0 ≤ x) × (x ≤ 0xEF) × (0x80 ≤ low) × (high ≤ 0xBF)
       → ((y : ℕ) → low ≤ y → y ≤ high → (0x800 ≤ three_of x y 0x80) × ((three_of x y 0x80 < 0xD800) ⊎ (0xDFFF < three_of x y 0x80)))
-      → points_rest b (suc n) (Tails 2 low high) ≡ some m → Written (x ∷ b) n m
+      → points_rest b (suc n) (Some (2, low, high)) ≡ Some m → Written (x ∷ b) n m
   from_three x low high b l within ok e =
       let (y, r, eb, ly, hy, er) = next b (suc n) 1 low high m e in
       let (z, s, es, lz, hz, ez) = next r (suc n) 0 0x80 0xBF m er in
@@ -281,7 +279,7 @@ module _ (most n m : ℕ) (again : (r : Bytes) → length r ≤ most → rest r 
 
   from_four : (x low high : ℕ) (b : Bytes) → length b ≤ most → (0xF0 ≤ x) × (x ≤ 0xF4) × (0x80 ≤ low) × (high ≤ 0xBF)
       → ((y : ℕ) → low ≤ y → y ≤ high → (0x10000 ≤ four_of x y 0x80 0x80) × (four_of x y 0x80 0x80 + 4096 ≤ 0x110000))
-      → points_rest b (suc n) (Tails 3 low high) ≡ some m → Written (x ∷ b) n m
+      → points_rest b (suc n) (Some (3, low, high)) ≡ Some m → Written (x ∷ b) n m
   from_four x low high b l within ok e =
       let (y, r, eb, ly, hy, er) = next b (suc n) 2 low high m e in
       let (z, s, es, lz, hz, ez) = next r (suc n) 1 0x80 0xBF m er in
@@ -299,7 +297,7 @@ module _ (most n m : ℕ) (again : (r : Bytes) → length r ≤ most → rest r 
       (again u (omega (arith, ap length eb, ap length es, ap length eu)) ev))
 
   -- By the range of the first byte.
-  module _ (x : ℕ) (b : Bytes) (l : length b ≤ most) (e : points_rest b (suc n) (lead x) ≡ some m) where
+  module _ (x : ℕ) (b : Bytes) (l : length b ≤ most) (e : points_rest b (suc n) (lead x) ≡ Some m) where
     from_F : 0xF0 ≤ x → Dec (x ≤ 0xF0) → Dec (x ≤ 0xF3) → Dec (x ≤ 0xF4) → Written (x ∷ b) n m
     from_F a (yes h) i j = from_four x 0x90 0xBF b l (omega arith) (λ y p q. omega arith) (rw (lead_F0 x (omega arith)) at e)
     from_F a (no h) (yes i) j = from_four x 0x80 0xBF b l (omega arith) (λ y p q. omega arith) (rw (lead_F1_F3 x (omega arith) i) at e)
@@ -323,11 +321,11 @@ module _ (most n m : ℕ) (again : (r : Bytes) → length r ≤ most → rest r 
     from_any (no h) (no i) (no j) (yes k) = from_E (omega arith) k (dec_le x 0xE0) (dec_le x 0xEC) (dec_le x 0xED)
     from_any (no h) (no i) (no j) (no k) = from_F (omega arith) (dec_le x 0xF0) (dec_le x 0xF3) (dec_le x 0xF4)
 
-none_written : (n m : ℕ) → some n ≡ some m → Written [] n m
+none_written : (n m : ℕ) → Some n ≡ Some m → Written [] n m
 none_written n m e = let z : n ≡ m = cc in ([], tt, refl, omega arith)
 
 -- By a bound of the length, since a code point takes away up to four bytes.
-all_written : (most : ℕ) (b : Bytes) (n m : ℕ) → length b ≤ most → rest b n ≡ some m → Written b n m
+all_written : (most : ℕ) (b : Bytes) (n m : ℕ) → length b ≤ most → rest b n ≡ Some m → Written b n m
 all_written zero [] n m l e = none_written n m e
 all_written zero (x ∷ b) n m l e = let z : ⊥ = omega arith in absurd z
 all_written (suc most) [] n m l e = none_written n m e

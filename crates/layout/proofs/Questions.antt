@@ -1,31 +1,23 @@
--- The questions that the code asks of a record, `ask_of`: what each asks of a number and of the names of an object, in the terms of
--- the code; two questions at once; and those that ask each name by itself.
-use Prim.Native.Nat.{ℕ, ◌+◌, ◌-◌, ◌<◌, ◌≤◌}
-use native.Mathlib.Omega.{arith}
+-- The questions that the code asks of a record: what soundness and the profile ask of the names of an object, in the terms of the
+-- code; two questions at once; and those that ask each name by itself.
+use Prim.Native.Nat.{ℕ}
 use mathlib.Core.Path.{◌≡◌, refl, ap, ap₂, ◌∙◌}
 use mathlib.Core.Bool.{Bool, true, false, ◌&&◌, and-true}
 use mathlib.Core.List.{List, [], ◌∷◌}
 use lib.Dec.{T}
-use lib.ListN.{take, drop}
 use Rattle.layout.specs.Bytes.{Bytes}
-use Rattle.layout.specs.Entry.{length_of, entry_at}
 use Rattle.layout.specs.Tree.{Tree, null, boolean, number, string, extension, array, object, Items, none, item, Members, empty, member, names}
 use Rattle.layout.specs.Encode.{Part}
 use Rattle.layout.specs.Text.{between, code_points}
 use Rattle.layout.specs.Check.{text_checked}
-use Rattle.layout.specs.Order.{rising}
-use Rattle.layout.specs.Place.{parts_at, rising_parts}
+use Rattle.layout.specs.Place.{rising_parts}
 use Rattle.layout.specs.Parts.{texts}
-use Rattle.layout.specs.Every.{Ask, every, every_items, every_members, kinds_ask, has_characters, each, names_ask}
-use Rattle.layout.specs.EveryAt.{both_ask, ask_of}
+use Rattle.layout.specs.Every.{Ask, every, every_items, every_members, sound_ask, kinds_ask, has_characters, each, names_ask}
+use Rattle.layout.specs.EveryAt.{both_ask, profile_ask}
 use Rattle.layout.specs.declared.refusal.Refusal.{Refusal}
-use Rattle.layout.specs.declared.utf8.TextCheck.{TextCheck}
-use Rattle.layout.specs.declared.utf8.TextCheck.TheVariants.{Passed, Refused as NoText}
-use Rattle.layout.specs.declared.every.Question.{Question}
-use Rattle.layout.specs.declared.every.Question.TheVariants.{Sound, Profile}
 use Rattle.layout.proofs.Texts.{passed_some, refused_none}
-use Rattle.layout.proofs.Checks.{parts_step}
 use Rattle.layout.proofs.Sounds.{texts_rise}
+use Rattle.std.specs.Prelude.{Ok, Err, Result}
 
 -- ---- two questions at once
 
@@ -104,48 +96,20 @@ module _ (a : Ask) (p : Apiece a) where
 
 -- ---- the characters of a name
 
-module _ (b : Bytes) (r : TextCheck) (longest : ℕ) (hr : r ≡ text_checked (code_points b)) where
-  pub so_many_characters : (n : ℕ) → r ≡ Passed n → between 1 longest n ≡ has_characters 1 longest b
+module _ (b : Bytes) (r : Result ℕ Refusal) (longest : ℕ) (hr : r ≡ text_checked (code_points b)) where
+  pub so_many_characters : (n : ℕ) → r ≡ Ok n → between 1 longest n ≡ has_characters 1 longest b
   unfolding has_characters
   so_many_characters n q = rw (passed_some (code_points b) r n hr q)
 
-  pub no_characters : (x : Refusal) → r ≡ NoText x → false ≡ has_characters 1 longest b
+  pub no_characters : (x : Refusal) → r ≡ Err x → false ≡ has_characters 1 longest b
   unfolding has_characters
   no_characters x q = rw (refused_none (code_points b) r x hr q).0
 
--- Names in turn: the answer for all of the `n` is that for those from the `i`th on, the first of them at `p`.
-module _ (f : Bytes → Bool) (s : Bytes) (start i p n : ℕ)
-    (inv : each f (texts (parts_at s 0 start n)) ≡ each f (texts (parts_at s i p (n - i)))) where
-  module _ (e l : ℕ) (g : Bool) (lt : i < n) (he : e ≡ entry_at s i) (hl : l ≡ length_of e) (b : Bytes)
-      (hb : b ≡ take l (drop p s)) (hg : g ≡ f b) where
-    each_turn : each f (texts (parts_at s 0 start n)) ≡ (g && each f (texts (parts_at s (i + 1) (p + l) (n - (i + 1)))))
-    each_turn =
-        let le : length_of (entry_at s i) ≡ l = cc in
-        inv ∙ rw (parts_step s i p n lt, le, ← hb, ← hg)
+-- ---- what a question asks of names
 
-    pub each_stop : g ≡ false → false ≡ each f (texts (parts_at s 0 start n))
-    each_stop q = rw (each_turn, q)
+pub sound_names : (ps : List Part) (r : Bool) → r ≡ rising_parts ps → r ≡ sound_ask.names (texts ps)
+sound_names ps r hr = hr ∙ texts_rise ps
 
-    pub each_more : g ≡ true → each f (texts (parts_at s 0 start n)) ≡ each f (texts (parts_at s (i + 1) (p + l) (n - (i + 1))))
-    each_more q = rw (each_turn, q)
-
-  pub each_end : n ≤ i → true ≡ each f (texts (parts_at s 0 start n))
-  unfolding parts_at
-  each_end le = let z : n - i ≡ 0 = omega arith in rw (inv, z)
-
--- ---- what a question asks
-
-pub profile_number : (q : Question) (longest : ℕ) → q ≡ Profile longest → (b : Bytes) (g : Bool) → g ≡ (ask_of (Profile longest)).number b
-    → g ≡ (ask_of q).number b
-profile_number q longest h b g e = rw h e
-
-module _ (q : Question) (ps : List Part) (r : Bool) (hr : r ≡ rising_parts ps) where
-  rise : r ≡ rising (texts ps)
-  rise = hr ∙ texts_rise ps
-
-  pub sound_names : q ≡ Sound → r ≡ (ask_of q).names (texts ps)
-  sound_names h = rw h rise
-
-  pub profile_names : (longest : ℕ) → q ≡ Profile longest → (g : Bool) → g ≡ each (has_characters 1 longest) (texts ps)
-      → (r && g) ≡ (ask_of q).names (texts ps)
-  profile_names longest h g hg = rw (h, rise, hg, and-true (each (has_characters 1 longest) (texts ps)))
+pub profile_names : (ps : List Part) (longest : ℕ) (r g : Bool) → r ≡ rising_parts ps → g ≡ each (has_characters 1 longest) (texts ps)
+    → (r && g) ≡ (profile_ask longest).names (texts ps)
+profile_names ps longest r g hr hg = rw (hr, texts_rise ps, hg, and-true (each (has_characters 1 longest) (texts ps)))

@@ -17,10 +17,11 @@ use Rattle.layout.specs.Pipeline.{within}
 use Rattle.layout.specs.declared.item.Kind.{Kind}
 use Rattle.layout.specs.declared.item.Kind.TheVariants.{Null, String, Number, False, True, Container, Extension}
 use Rattle.layout.specs.declared.refusal.Refusal.{Refusal}
-use Rattle.layout.specs.declared.refusal.Refusal.TheVariants.{Short, Layout, Limit, Text, Number as NotListed, Result}
+use Rattle.layout.specs.declared.refusal.Refusal.TheVariants.{Short, Layout, Limit, Text, Number as NotListed, Result as NoResult}
 use Rattle.layout.specs.declared.util.Header.{Header}
-use Rattle.layout.specs.declared.util.Header.TheVariants.{Array, Object, Scalar, Refused}
+use Rattle.layout.specs.declared.util.Header.TheVariants.{Array, Object, Scalar}
 use Rattle.layout.proofs.Decoding.{read_is}
+use Rattle.std.specs.Prelude.{Ok, Err, Result}
 
 abbrev pub RefusedBy : {A : Type 0} → (Refusal → Type 0) → Answer A → Type 0
 RefusedBy P (gives a) = Unit {0}
@@ -51,22 +52,22 @@ module _ (P : Refusal → Type 0) where
   by_cond false a x h = h
 
   -- 9's test.
-  pub within_by : P Result → (t : Tree) → RefusedBy P (within t)
+  pub within_by : P NoResult → (t : Tree) → RefusedBy P (within t)
   unfolding within
-  within_by h t = by_require _ Result _ h tt
+  within_by h t = by_require _ NoResult _ h tt
 
   module _ (sent : Sent P) where
-    abbrev Headed : Header → Type 0
-    Headed (Refused x) = P x
-    Headed (Scalar n) = Unit {0}
-    Headed (Array n) = Unit {0}
-    Headed (Object n) = Unit {0}
+    abbrev Headed : Result Header Refusal → Type 0
+    Headed (Err x) = P x
+    Headed (Ok (Scalar n)) = Unit {0}
+    Headed (Ok (Array n)) = Unit {0}
+    Headed (Ok (Object n)) = Unit {0}
 
     header_by : (b : Bytes) → Headed (header b)
     unfolding header
     header_by b = go (ltb (length b) 4) (eqb (sort_of (word b)) 4) (eqb (sort_of (word b)) 2) (eqb (sort_of (word b)) 1) (count_of (word b))
       where
-        go : (s a o c : Bool) (n : ℕ) → Headed (cond s (Refused Short) (cond a (Array n) (cond o (Object n) (cond c (Scalar n) (Refused Layout)))))
+        go : (s a o c : Bool) (n : ℕ) → Headed (cond s (Err Short) (cond a (Ok (Array n)) (cond o (Ok (Object n)) (cond c (Ok (Scalar n)) (Err Layout)))))
         go true a o c n = sent.short
         go false true o c n = tt
         go false false true c n = tt
@@ -121,11 +122,11 @@ module _ (P : Refusal → Type 0) where
           by_bind (parts (n + n) n b) _ (parts_by (n + n) n b) λ ps.
           by_bind (names_in (take n ps)) _ (names_by (take n ps)) λ ns. by_bind (items_in inner (drop n ps)) _ (items_by (drop n ps)) λ ts. tt
 
-      container_by : (h : Header) → Headed h → (b : Bytes) → RefusedBy P (container_in inner h b)
-      container_by (Refused x) hx b = hx
-      container_by (Scalar n) hx b = sent.layout
-      container_by (Array n) hx b = array_by n b
-      container_by (Object n) hx b = object_by n b
+      container_by : (h : Result Header Refusal) → Headed h → (b : Bytes) → RefusedBy P (container_in inner h b)
+      container_by (Err x) hx b = hx
+      container_by (Ok (Scalar n)) hx b = sent.layout
+      container_by (Ok (Array n)) hx b = array_by n b
+      container_by (Ok (Object n)) hx b = object_by n b
 
     scalar_by : (n : ℕ) (b : Bytes) → RefusedBy P (scalar_in n b)
     scalar_by n b =
@@ -133,22 +134,22 @@ module _ (P : Refusal → Type 0) where
         by_bind (entry false (word b)) _ (entry_by false (word b)) λ e.
         by_require _ Layout _ sent.layout (payload_by (λ _. refused Layout) (λ _. sent.layout) e.kind (drop 4 b))))
 
-    deep_by : (h : Header) → Headed h → RefusedBy P (too_deep h)
-    deep_by (Refused x) hx = hx
-    deep_by (Scalar n) hx = sent.layout
-    deep_by (Array n) hx = sent.limit
-    deep_by (Object n) hx = sent.limit
+    deep_by : (h : Result Header Refusal) → Headed h → RefusedBy P (too_deep h)
+    deep_by (Err x) hx = hx
+    deep_by (Ok (Scalar n)) hx = sent.layout
+    deep_by (Ok (Array n)) hx = sent.limit
+    deep_by (Ok (Object n)) hx = sent.limit
 
     nested_by : (k : ℕ) (b : Bytes) → RefusedBy P (nested k b)
     unfolding nested
     nested_by zero b = deep_by (header b) (header_by b)
     nested_by (suc k) b = container_by (nested k) (nested_by k) (header b) (header_by b) (drop 4 b)
 
-    root_by : (h : Header) → Headed h → (b : Bytes) → RefusedBy P (root_in h b)
-    root_by (Refused x) hx b = hx
-    root_by (Scalar n) hx b = scalar_by n b
-    root_by (Array n) hx b = array_by (nested 63) (nested_by 63) n b
-    root_by (Object n) hx b = object_by (nested 63) (nested_by 63) n b
+    root_by : (h : Result Header Refusal) → Headed h → (b : Bytes) → RefusedBy P (root_in h b)
+    root_by (Err x) hx b = hx
+    root_by (Ok (Scalar n)) hx b = scalar_by n b
+    root_by (Ok (Array n)) hx b = array_by (nested 63) (nested_by 63) n b
+    root_by (Ok (Object n)) hx b = object_by (nested 63) (nested_by 63) n b
 
     pub read_by : (b : Bytes) → RefusedBy P (read b)
     read_by b = rw (read_is b) (by_require _ Limit _ sent.limit (root_by (header b) (header_by b) (drop 4 b)))

@@ -1,32 +1,24 @@
 -- Soundness: the test says what `Sound` says, and the code's way through a readable record comes to that test.
-use Prim.Native.Nat.{ℕ, zero, suc, ◌+◌, ◌-◌, ◌<◌, ◌≤◌}
-use native.Mathlib.Omega.{arith}
-use mathlib.Core.Path.{◌≡◌, refl, sym, ap, ◌∙◌}
+use mathlib.Core.Path.{◌≡◌, refl, ap, ◌∙◌}
 use mathlib.Core.Logic.{◌↔◌}
-use mathlib.Core.Bool.{Bool, true, false, cond, ◌&&◌}
+use mathlib.Core.Bool.{Bool, true, false, ◌&&◌}
 use mathlib.Core.List.{List, [], ◌∷◌}
 use lib.Dec.{T}
-use lib.ListN.{take, drop}
 use Rattle.layout.specs.Bytes.{Bytes, Octets}
 use Rattle.layout.specs.Answer.{Answer, gives, refused}
-use Rattle.layout.specs.Entry.{length_of, entry_at}
 use Rattle.layout.specs.Tree.{Tree, null, boolean, number, string, extension, array, object, Items, none, item, Members, empty, member, names}
 use Rattle.layout.specs.Encode.{Part, name_parts}
 use Rattle.layout.specs.Read.{read}
 use Rattle.layout.specs.Order.{before, rising}
 use Rattle.layout.specs.Sound.{Rising, Sound, SoundItems, SoundMembers}
-use Rattle.layout.specs.Place.{parts_at, rising_from, rising_parts}
+use Rattle.layout.specs.Place.{rising_from, rising_parts}
 use Rattle.layout.specs.Parts.{texts}
 use Rattle.layout.specs.Every.{every_items, every_members, sound_ask, is_sound}
 use Rattle.layout.specs.EveryAt.{sound_at}
 use Rattle.layout.specs.Check.{checked, soundness}
-use Rattle.layout.specs.declared.refusal.Refusal.{Refusal}
-use Rattle.layout.specs.declared.check.Check.{Check}
-use Rattle.layout.specs.declared.check.Check.TheVariants.{Readable, Refused as NotReadable}
-use Rattle.layout.specs.declared.sound.Soundness.TheVariants.{Sound as IsSound, Unsound, Refused as NoRecord}
 use Rattle.layout.proofs.Orders.{before_is}
-use Rattle.layout.proofs.Checks.{parts_step}
 use Rattle.layout.proofs.Asks.{texts_names, every_read}
+use Rattle.std.specs.Prelude.{Ok, true, false, Bool}
 
 -- The test and what it says.
 
@@ -75,57 +67,8 @@ texts_rise (p ∷ ps) = texts_rise_from p.bytes ps
 pub rising_names : (ns : List Bytes) → rising_parts (name_parts ns) ≡ rising ns
 rising_names ns = texts_rise (name_parts ns) ∙ ap rising (texts_names ns)
 
--- In the terms of the code.
-
--- Names one after another: the one at `place`, of `len` bytes, is the last that was looked at.
-module _ (s : Bytes) (start i place len n e l : ℕ) (g : Bool) (lt : i < n)
-    (inv : rising_parts (parts_at s 0 start n) ≡ rising_from (take len (drop place s)) (parts_at s i (place + len) (n - i)))
-    (he : e ≡ entry_at s i) (hl : l ≡ length_of e) (a b : Bytes) (ha : a ≡ take len (drop place s)) (hb : b ≡ take l (drop (place + len) s))
-    (hg : g ≡ before a b) where
-  rising_turn : rising_parts (parts_at s 0 start n) ≡ (g && rising_from (take l (drop (place + len) s)) (parts_at s (i + 1) (place + len + l) (n - (i + 1))))
-  unfolding rising_from
-  rising_turn =
-      let le : length_of (entry_at s i) ≡ l = cc in
-      inv ∙ rw (parts_step s i (place + len) n lt, le, ← ha, ← hb, ← hg)
-
-  pub rising_stop : g ≡ false → false ≡ rising_parts (parts_at s 0 start n)
-  rising_stop q = rw (rising_turn, q)
-
-  pub rising_more : g ≡ true →
-      rising_parts (parts_at s 0 start n) ≡ rising_from (take l (drop (place + len) s)) (parts_at s (i + 1) (place + len + l) (n - (i + 1)))
-  rising_more q = rw (rising_turn, q)
-
-pub rising_start : (s : Bytes) (start n e l : ℕ) → (n ≡ 0 → ⊥) → e ≡ entry_at s 0 → l ≡ length_of e →
-    rising_parts (parts_at s 0 start n) ≡ rising_from (take l (drop start s)) (parts_at s 1 (start + l) (n - 1))
-unfolding rising_parts parts_at
-rising_start s start zero e l z he hl = absurd (z refl)
-rising_start s start (suc n) e l z he hl =
-    let le : length_of (entry_at s 0) ≡ l = cc in
-    let m : suc n - 1 ≡ n = omega arith in
-    rw (le, m)
-
-pub rising_none : (s : Bytes) (start n : ℕ) → n ≡ 0 → true ≡ rising_parts (parts_at s 0 start n)
-unfolding rising_parts parts_at
-rising_none s start n z = rw z
-
-pub rising_end : (s : Bytes) (start i p n : ℕ) (name : Bytes) → n ≤ i → rising_parts (parts_at s 0 start n) ≡ rising_from name (parts_at s i p (n - i)) →
-    true ≡ rising_parts (parts_at s 0 start n)
-unfolding rising_from parts_at
-rising_end s start i p n name le inv = let z : n - i ≡ 0 = omega arith in rw (inv, z)
-
--- The answer.
-pub answer_refused : (m : Answer Tree) (c : Check) (r : Refusal) → c ≡ checked m → c ≡ NotReadable r → NoRecord r ≡ soundness m
-answer_refused (gives t) c r e q = cc
-answer_refused (refused x) c r e q = let z : x ≡ r = cc in rw z
-
-answer_of : (s : Bytes) (m : Answer Tree) (g : Bool) → Octets s → read s ≡ m → Readable ≡ checked m → g ≡ sound_at 64 s → cond g IsSound Unsound ≡ soundness m
+-- The answer, in the terms of the code.
+pub answer_of : (s : Bytes) (m : Answer Tree) (g : Bool) → Octets s → read s ≡ m → Ok tt ≡ checked m → g ≡ sound_at 64 s → Ok g ≡ soundness m
 answer_of s (refused r) g o e q h = cc
 answer_of s (gives t) g o e q h =
     rw (h, every_read sound_ask s t o e)
-
-module _ (s : Bytes) (c : Check) (g : Bool) (o : Octets s) (hc : c ≡ checked (read s)) (q : c ≡ Readable) (hg : g ≡ sound_at 64 s) where
-  pub answer_sound : g ≡ true → IsSound ≡ soundness (read s)
-  answer_sound t = rw t at (answer_of s (read s) g o refl (sym q ∙ hc) hg)
-
-  pub answer_unsound : g ≡ false → Unsound ≡ soundness (read s)
-  answer_unsound t = rw t at (answer_of s (read s) g o refl (sym q ∙ hc) hg)

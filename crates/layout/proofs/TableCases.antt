@@ -6,10 +6,8 @@ use Rattle.layout.specs.Entry.{top_of, code_of, length_of, kind_of, entry_at, le
 use Rattle.layout.specs.Walk.{item_of, item_at, ends_with, array_step, member_at, member_step, object_step}
 use Rattle.layout.specs.Table.{table_place, nth_member, array_at, object_at}
 use Rattle.layout.specs.declared.item.Kind.TheVariants.{String, Number, True}
-use Rattle.layout.specs.declared.item.Characters.TheVariants.{Count, NoText}
-use Rattle.layout.specs.declared.iterator.ArrayStep.TheVariants.{Item}
-use Rattle.layout.specs.declared.iterator.ObjectStep.TheVariants.{Member}
 use Rattle.layout.proofs.Cases.{◌▸◌}
+use Rattle.std.specs.Prelude.{Ok, Some, None}
 
 -- ["aa", 0, "b"]: 16 bytes of header and table, then 2 bytes, 1 and 1.
 abbrev items : Bytes
@@ -30,23 +28,24 @@ members_stand = (refl, refl, refl, refl, refl)
 
 -- The walks there: before item 1, and before member 1.
 items_walked : array_step items (array_at items 3 1)
-    ≡ Item (record { kind = Number; place = 18; length = 1; characters = NoText }) (record { jentry_offset = 12; item_offset = 19; remaining = 1 })
+    ≡ Ok (Some ((record { kind = Number; place = 18; length = 1; characters = None }), (record { jentry_offset = 12; item_offset = 19; remaining = 1 })))
 unfolding array_step item_at item_of ends_with entry_good inside lengths entry_at word_at word top_of code_of length_of kind_of be32
 items_walked = refl
 
 members_walked : object_step members (object_at members 2 1)
-    ≡ Member
-    (record {
-      key = record { kind = String; place = 21; length = 1; characters = Count 1 };
-      val = record { kind = True; place = 24; length = 0; characters = NoText };
-    })
-    (record {
-      key_jentry_offset = 12;
-      val_jentry_offset = 20;
-      key_offset = 22;
-      val_offset = 24;
-      remaining = 0;
-    })
+    ≡ Ok (Some (
+      (record {
+        key = record { kind = String; place = 21; length = 1; characters = Some 1 };
+        val = record { kind = True; place = 24; length = 0; characters = None };
+      }),
+      (record {
+        key_jentry_offset = 12;
+        val_jentry_offset = 20;
+        key_offset = 22;
+        val_offset = 24;
+        remaining = 0;
+      }),
+    ))
 unfolding object_step member_step member_at item_at item_of ends_with entry_good inside lengths entry_at word_at word top_of code_of
     length_of kind_of be32
 members_walked = refl

@@ -5,7 +5,6 @@ use native.Mathlib.Omega.{arith}
 use mathlib.Core.Path.{◌≡◌, refl, sym, ap, ◌∙◌}
 use mathlib.Core.Bool.{Bool, true, false, not, ◌&&◌, ◌||◌}
 use mathlib.Core.List.{List}
-use mathlib.Core.Option.{some}
 use lib.Dec.{ltb, eqb}
 use lib.ListN.{length, take, drop}
 use borrow.Author.Tests.{le-leb, lt-ltb, ne_eqb, eqb-true}
@@ -24,18 +23,12 @@ use Rattle.layout.specs.Table.{table_place, nth_member, ItemCarried, ArrayCarrie
 use Rattle.layout.specs.Walk.{array_opened, array_open, object_opened, object_open, walked, object_walked, paired}
 use Rattle.layout.specs.declared.item.Kind.{Kind}
 use Rattle.layout.specs.declared.item.Kind.TheVariants.{Null, String, Number, False, True, Container, Extension}
-use Rattle.layout.specs.declared.item.Characters.{Characters}
-use Rattle.layout.specs.declared.item.Characters.TheVariants.{Count, NoText}
 use Rattle.layout.specs.declared.refusal.Refusal.{Refusal}
 use Rattle.layout.specs.declared.refusal.Refusal.TheVariants.{Layout}
 use Rattle.layout.specs.declared.util.Header.{Header}
-use Rattle.layout.specs.declared.util.Header.TheVariants.{Array, Object, Scalar, Refused as NoHeader}
+use Rattle.layout.specs.declared.util.Header.TheVariants.{Array, Object, Scalar}
 use Rattle.layout.specs.declared.iterator.ArrayIterator.{ArrayIterator}
-use Rattle.layout.specs.declared.iterator.ArrayOpen.TheVariants.{Opened, Absent, Refused as NotOpened}
-use Rattle.layout.specs.declared.iterator.ArrayStep.TheVariants.{Item}
 use Rattle.layout.specs.declared.iterator.ObjectIterator.{ObjectIterator}
-use Rattle.layout.specs.declared.iterator.ObjectOpen.TheVariants.{Opened as OpenedObject, Absent as NoObject, Refused as NotOpenedObject}
-use Rattle.layout.specs.declared.iterator.ObjectStep.TheVariants.{Member}
 use Rattle.layout.proofs.Answers.{from_bind, from_require, refused_gives, gives_inj}
 use Rattle.layout.proofs.Texts.{utf8_some}
 use Rattle.layout.proofs.Decoding.{text_is, text_valid, read_is}
@@ -43,6 +36,7 @@ use Rattle.layout.proofs.Places.{and_both, table_head, table_split, lengths_spli
 use Rattle.layout.proofs.Checks.{one_less, told_array, told_object}
 use Rattle.layout.proofs.Carries.{place_behind, part_start, object_start}
 use Rattle.layout.proofs.Walks.{array_opens, object_opens, array_other, object_other}
+use Rattle.std.specs.Prelude.{Ok, Err, Some, None, Result, Option}
 
 -- One entry of a table.
 lengths_cons : (s : Bytes) (i n : ℕ) → lengths s i (suc n) ≡ length_of (entry_at s i) + lengths s (i + 1) n
@@ -71,7 +65,7 @@ good_item false e q = q
 -- What reads as a text, or as an item of any kind, is handed out.
 module _ (s : Bytes) (e p : ℕ) where
   abbrev Given : Type 0
-  Given = (c : Characters) × (item_at s e p ≡ gives (item_of e p c))
+  Given = (c : Option ℕ) × (item_at s e p ≡ gives (item_of e p c))
 
   text_given : (x : Bytes) → text (take (length_of e) (drop p s)) ≡ gives x → Given
   unfolding item_at characters_of counted ◌>>=◌
@@ -79,9 +73,9 @@ module _ (s : Bytes) (e p : ℕ) where
       let n = utf8_some (take (length_of e) (drop p s)) (rw (text_is (take (length_of e) (drop p s)) h) at (text_valid _ x h)) in
       by_code n.0 n.1 (eqb (code_of e) 1) refl
     where
-      by_code : (n : ℕ) → code_points (take (length_of e) (drop p s)) ≡ some n → (b : Bool) → eqb (code_of e) 1 ≡ b → Given
-      by_code n h true q = (Count n, rw (q, h))
-      by_code n h false q = (NoText, rw q)
+      by_code : (n : ℕ) → code_points (take (length_of e) (drop p s)) ≡ Some n → (b : Bool) → eqb (code_of e) 1 ≡ b → Given
+      by_code n h true q = (Some n, rw (q, h))
+      by_code n h false q = (None, rw q)
 
   item_given : (inner : Bytes → Answer Tree) (t : Tree) → payload_in inner (kind_of (code_of e)) (take (length_of e) (drop p s)) ≡ gives t → Given
   unfolding item_at characters_of kind_of ◌>>=◌
@@ -89,7 +83,7 @@ module _ (s : Bytes) (e p : ℕ) where
     where
       by_code : (b : Bool) → eqb (code_of e) 1 ≡ b → Given
       by_code true q = from_bind (rw (eqb-true (code_of e) 1 q) at h) λ x hx _. text_given x hx
-      by_code false q = (NoText, rw q)
+      by_code false q = (None, rw q)
 
 -- The walk at entry `i` and payload place `p`, with `k` items left.
 abbrev walk_at : ℕ → ℕ → ℕ → ArrayIterator
@@ -97,8 +91,8 @@ walk_at i p k = record { jentry_offset = 4 + 4 * i; item_offset = p; remaining =
 
 step_at : (s : Bytes) (i p k : ℕ) → entry_good false (entry_at s i) ≡ true
     → 4 + 4 * (i + 1) ≤ length s → p + length_of (entry_at s i) ≤ length s
-    → (c : Characters) → item_at s (entry_at s i) p ≡ gives (item_of (entry_at s i) p c)
-    → array_step s (walk_at i p (suc k)) ≡ Item (item_of (entry_at s i) p c) (walk_at (i + 1) (p + length_of (entry_at s i)) k)
+    → (c : Option ℕ) → item_at s (entry_at s i) p ≡ gives (item_of (entry_at s i) p c)
+    → array_step s (walk_at i p (suc k)) ≡ Ok (Some ((item_of (entry_at s i) p c), (walk_at (i + 1) (p + length_of (entry_at s i)) k)))
 unfolding array_step ends_with entry_at
 step_at s i p k good table payload c given =
     let a : 4 + 4 * i + 4 ≡ 4 + 4 * (i + 1) = omega arith in
@@ -125,8 +119,8 @@ pub record ItemsAhead (s : Bytes) (m i p k : ℕ) : Type 0 where
 
 -- A step hands out the first of them, and is then before the others.
 item_step : (s : Bytes) (m i p k : ℕ) → ItemsAhead s m i p (suc k)
-    → (c : Characters)
-    × (array_step s (walk_at i p (suc k)) ≡ Item (item_of (entry_at s i) p c) (walk_at (i + 1) (p + length_of (entry_at s i)) k))
+    → (c : Option ℕ)
+    × (array_step s (walk_at i p (suc k)) ≡ Ok (Some ((item_of (entry_at s i) p c), (walk_at (i + 1) (p + length_of (entry_at s i)) k))))
     × ItemsAhead s m (i + 1) (p + length_of (entry_at s i)) k
 unfolding parts_at
 item_step s m i p k a =
@@ -147,7 +141,7 @@ item_step s m i p k a =
     )
 
 -- So a walk over them hands out their parts, and ends.
-walked_at : (s : Bytes) (m i p k : ℕ) → ItemsAhead s m i p k → walked s (walk_at i p k) (suc k) ≡ some (parts_at s i p k)
+walked_at : (s : Bytes) (m i p k : ℕ) → ItemsAhead s m i p k → walked s (walk_at i p k) (suc k) ≡ Some (parts_at s i p k)
 unfolding walked array_step item_of parts_at
 walked_at s m i p zero a = refl
 walked_at s m i p (suc k) a =
@@ -168,7 +162,7 @@ items_behind s m i p (suc j) (suc k) h a =
 
 -- The walk before the first item of an array of `n` hands out its `n` parts in turn, and then answers the end; and it carries their places.
 pub walked_array : (s : Bytes) (n : ℕ) → ItemsAhead s 0 0 (4 + 4 * n) n
-    → walked s (array_walk n) (suc n) ≡ some (parts_at s 0 (4 + 4 * n) n)
+    → walked s (array_walk n) (suc n) ≡ Some (parts_at s 0 (4 + 4 * n) n)
 unfolding array_walk
 walked_array s n a = walked_at s 0 0 (4 + 4 * n) n a
 
@@ -193,11 +187,10 @@ walk_over i j q p k =
 step_over : (s : Bytes) (i j q p k : ℕ) → entry_good true (entry_at s i) ≡ true → entry_good false (entry_at s j) ≡ true
     → 4 + 4 * (i + 1) ≤ length s → 4 + 4 * (j + 1) ≤ length s
     → q + length_of (entry_at s i) ≤ length s → p + length_of (entry_at s j) ≤ length s
-    → (c c' : Characters) → item_at s (entry_at s i) q ≡ gives (item_of (entry_at s i) q c)
+    → (c c' : Option ℕ) → item_at s (entry_at s i) q ≡ gives (item_of (entry_at s i) q c)
     → item_at s (entry_at s j) p ≡ gives (item_of (entry_at s j) p c')
     → object_step s (walk_over i j q p (suc k))
-    ≡ Member (record { key = item_of (entry_at s i) q c; val = item_of (entry_at s j) p c' })
-    (walk_over (i + 1) (j + 1) (q + length_of (entry_at s i)) (p + length_of (entry_at s j)) k)
+    ≡ Ok (Some ((record { key = item_of (entry_at s i) q c; val = item_of (entry_at s j) p c' }), (walk_over (i + 1) (j + 1) (q + length_of (entry_at s i)) (p + length_of (entry_at s j)) k)))
 unfolding object_step member_step member_at ends_with entry_at ◌>>=◌
 step_over s i j q p k name value table table' payload payload' c c' given given' =
     let a : 4 + 4 * i + 4 ≡ 4 + 4 * (i + 1) = omega arith in
@@ -234,10 +227,9 @@ pub record MembersAhead (s : Bytes) (m i j q p k : ℕ) : Type 0 where
   pub trees_read : items_in inner (parts_at s j p k) ≡ gives trees
 
 member_step_on : (s : Bytes) (m i j q p k : ℕ) → MembersAhead s m i j q p (suc k)
-    → (c : Characters) × (c' : Characters)
+    → (c : Option ℕ) × (c' : Option ℕ)
     × (object_step s (walk_over i j q p (suc k))
-    ≡ Member (record { key = item_of (entry_at s i) q c; val = item_of (entry_at s j) p c' })
-    (walk_over (i + 1) (j + 1) (q + length_of (entry_at s i)) (p + length_of (entry_at s j)) k))
+    ≡ Ok (Some ((record { key = item_of (entry_at s i) q c; val = item_of (entry_at s j) p c' }), (walk_over (i + 1) (j + 1) (q + length_of (entry_at s i)) (p + length_of (entry_at s j)) k))))
     × MembersAhead s m (i + 1) (j + 1) (q + length_of (entry_at s i)) (p + length_of (entry_at s j)) k
 unfolding parts_at
 member_step_on s m i j q p k a =
@@ -272,7 +264,7 @@ member_step_on s m i j q p k a =
     )
 
 walked_over : (s : Bytes) (m i j q p k : ℕ) → MembersAhead s m i j q p k
-    → object_walked s (walk_over i j q p k) (suc k) ≡ some (paired (parts_at s i q k) (parts_at s j p k))
+    → object_walked s (walk_over i j q p k) (suc k) ≡ Some (paired (parts_at s i q k) (parts_at s j p k))
 unfolding object_walked object_step item_of parts_at
 walked_over s m i j q p zero a = refl
 walked_over s m i j q p (suc k) a =
@@ -302,7 +294,7 @@ ObjectAhead s n = MembersAhead s n 0 n (4 + 8 * n) (4 + 8 * n + lengths s 0 n) n
 
 pub walked_object : (s : Bytes) (n : ℕ) → ObjectAhead s n
     → object_walked s (object_walk s n) (suc n)
-    ≡ some (paired (parts_at s 0 (4 + 8 * n) n) (parts_at s n (4 + 8 * n + lengths s 0 n) n))
+    ≡ Some (paired (parts_at s 0 (4 + 8 * n) n) (parts_at s n (4 + 8 * n + lengths s 0 n) n))
 unfolding object_walk
 walked_object s n a = walked_over s n 0 n (4 + 8 * n) (4 + 8 * n + lengths s 0 n) n a
 
@@ -354,20 +346,20 @@ scalar_flat n b t e =
 pub record ArrayWalked (s : Bytes) (ts : Items) : Type 0 where
   pub count : ℕ
   pub each : List Part
-  pub opened : array_open s ≡ Opened (array_walk count)
-  pub handed_out : walked s (array_walk count) (suc count) ≡ some each
+  pub opened : array_open s ≡ Ok (Some (array_walk count))
+  pub handed_out : walked s (array_walk count) (suc count) ≡ Some each
   pub carried : ArrayCarried s count
   pub items : items_in (nested 63) each ≡ gives ts
 
-array_by : (s : Bytes) (ts : Items) (h : Header) → h ≡ header s → read s ≡ gives (array ts)
+array_by : (s : Bytes) (ts : Items) (h : Result Header Refusal) → h ≡ header s → read s ≡ gives (array ts)
     → root_in h (drop 4 s) ≡ gives (array ts) → ArrayWalked s ts
 unfolding opening array_opened
-array_by s ts (NoHeader r) hh e q = refused_gives q
-array_by s ts (Scalar n) hh e q = absurd ((scalar_flat n (drop 4 s) _ q).0 ts refl)
-array_by s ts (Object n) hh e q =
+array_by s ts (Err r) hh e q = refused_gives q
+array_by s ts (Ok (Scalar n)) hh e q = absurd ((scalar_flat n (drop 4 s) _ q).0 ts refl)
+array_by s ts (Ok (Object n)) hh e q =
     from_bind q λ ps hp q₁. from_bind q₁ λ ns hn q₂. from_bind q₂ λ us hu q₃.
     let z : ◌≡◌ {A = ℕ} 0 1 = cc in let w : ⊥ = omega arith in absurd w
-array_by s ts (Array n) hh e q =
+array_by s ts (Ok (Array n)) hh e q =
     from_bind q λ ps hp q₁. from_bind q₁ λ us hu q₂.
     let l = laid s n 0 ps (told_array s _ hh n refl).0 hp in
     let same : us ≡ ts = cc in
@@ -399,8 +391,8 @@ pub record ObjectWalked (s : Bytes) (ms : Members) : Type 0 where
   pub vals : List Part
   pub texts : List Bytes
   pub trees : Items
-  pub opened : object_open s ≡ OpenedObject (object_walk s count)
-  pub handed_out : object_walked s (object_walk s count) (suc count) ≡ some (paired keys vals)
+  pub opened : object_open s ≡ Ok (Some (object_walk s count))
+  pub handed_out : object_walked s (object_walk s count) (suc count) ≡ Some (paired keys vals)
   pub carried : ObjectCarried s count
   pub all_keys : length keys ≡ count
   pub all_vals : length vals ≡ count
@@ -408,15 +400,15 @@ pub record ObjectWalked (s : Bytes) (ms : Members) : Type 0 where
   pub items : items_in (nested 63) vals ≡ gives trees
   pub members : ms ≡ pair texts trees
 
-object_by : (s : Bytes) (ms : Members) (h : Header) → h ≡ header s → read s ≡ gives (object ms)
+object_by : (s : Bytes) (ms : Members) (h : Result Header Refusal) → h ≡ header s → read s ≡ gives (object ms)
     → root_in h (drop 4 s) ≡ gives (object ms) → ObjectWalked s ms
 unfolding opening object_opened
-object_by s ms (NoHeader r) hh e q = refused_gives q
-object_by s ms (Scalar n) hh e q = absurd ((scalar_flat n (drop 4 s) _ q).1 ms refl)
-object_by s ms (Array n) hh e q =
+object_by s ms (Err r) hh e q = refused_gives q
+object_by s ms (Ok (Scalar n)) hh e q = absurd ((scalar_flat n (drop 4 s) _ q).1 ms refl)
+object_by s ms (Ok (Array n)) hh e q =
     from_bind q λ ps hp q₁. from_bind q₁ λ us hu q₂.
     let z : ◌≡◌ {A = ℕ} 0 1 = cc in let w : ⊥ = omega arith in absurd w
-object_by s ms (Object n) hh e q =
+object_by s ms (Ok (Object n)) hh e q =
     from_bind q λ ps hp q₁. from_bind q₁ λ ns hn q₂. from_bind q₂ λ us hu q₃.
     let l = laid s (n + n) n ps (told_object s _ hh n refl).0 hp in
     let a : 4 + 4 * (n + n) ≡ 4 + 8 * n = omega arith in
@@ -461,21 +453,21 @@ pub object_walks : (s : Bytes) (ms : Members) → read s ≡ gives (object ms) �
 object_walks s ms e = from_require _ _ _ (sym (read_is s) ∙ e) λ _ q. object_by s ms (header s) refl e q
 
 -- Of any other record there is no walk: a refusal is the check's, and another kind is an absence.
-pub array_refusal : (s : Bytes) (r : Refusal) → read s ≡ refused r → array_open s ≡ NotOpened r
+pub array_refusal : (s : Bytes) (r : Refusal) → read s ≡ refused r → array_open s ≡ Err r
 unfolding opening
 array_refusal s r e = rw e
 
-pub object_refusal : (s : Bytes) (r : Refusal) → read s ≡ refused r → object_open s ≡ NotOpenedObject r
+pub object_refusal : (s : Bytes) (r : Refusal) → read s ≡ refused r → object_open s ≡ Err r
 unfolding opening
 object_refusal s r e = rw e
 
-pub array_absence : (s : Bytes) (t : Tree) → read s ≡ gives t → ((ts : Items) → t ≡ array ts → ⊥) → array_open s ≡ Absent
+pub array_absence : (s : Bytes) (t : Tree) → read s ≡ gives t → ((ts : Items) → t ≡ array ts → ⊥) → array_open s ≡ Ok None
 unfolding opening
 array_absence s t e other =
     from_require _ _ _ (sym (read_is s) ∙ e) λ _ q.
     rw e (sym (array_other (header s) λ n h. from_bind (rw h at q) λ ps hp q₁. from_bind q₁ λ us hu q₂. other us (sym (gives_inj q₂))))
 
-pub object_absence : (s : Bytes) (t : Tree) → read s ≡ gives t → ((ms : Members) → t ≡ object ms → ⊥) → object_open s ≡ NoObject
+pub object_absence : (s : Bytes) (t : Tree) → read s ≡ gives t → ((ms : Members) → t ≡ object ms → ⊥) → object_open s ≡ Ok None
 unfolding opening
 object_absence s t e other =
     from_require _ _ _ (sym (read_is s) ∙ e) λ _ q.

@@ -1,9 +1,10 @@
 -- Fields of four bytes, and lists of bytes.
 use Prim.Native.Nat.{ℕ, zero, suc, ◌+◌, ◌*◌, ◌/◌, ◌%◌, ◌^◌, ◌<◌, ◌≤◌}
 use native.Mathlib.Omega.{arith}
-use mathlib.Core.Path.{◌≡◌, refl, ap}
+use mathlib.Core.Path.{◌≡◌, refl, sym, ap}
 use mathlib.Core.List.{[], ◌∷◌, ◌++◌}
 use lib.ListN.{length, take, drop, get_or}
+use Rattle.std.specs.Int.{w32, to_be_bytes}
 use Rattle.std.proofs.Common.{Fits, w8}
 use Rattle.layout.specs.Bytes.{Bytes, be32, word, Octets}
 
@@ -78,3 +79,7 @@ octets_of (x ∷ b) h = (h 0, octets_of b (λ i. h (suc i)))
 
 pub slice_octets : (b : Bytes) → ((i : ℕ) → Fits w8 (get_or b i 0)) → Octets b
 slice_octets b h = octets_of b (λ i. omega (arith, h i))
+
+-- The library's bytes of a field.
+pub field_bytes : (w : ℕ) → to_be_bytes w32 w ≡ be32 w
+field_bytes w = sym (be32_is w)

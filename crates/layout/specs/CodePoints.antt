@@ -1,6 +1,5 @@
 -- The code points of a text in the words of RFC 3629, section 3, and what they have to do with `code_points`, which the promises cite.
-use Rattle.std.specs.Prelude.{ℕ, ◌+◌, ◌/◌, ◌%◌, ◌^◌, ◌<◌, ◌≡◌, ◌⊎◌, ◌↔◌, cond, List, [], ◌∷◌, ◌++◌, ltb, length}
-use Rattle.std.proofs.Math.Option.{some}
+use Rattle.std.specs.Prelude.{ℕ, ◌+◌, ◌/◌, ◌%◌, ◌^◌, ◌<◌, ◌≡◌, ◌⊎◌, ◌↔◌, cond, List, [], ◌∷◌, ◌++◌, ltb, length, Some}
 use Rattle.layout.specs.Bytes.{Bytes}
 use Rattle.layout.specs.Text.{code_points}
 
@@ -25,4 +24,4 @@ CodePoints (c ∷ cs) = (c < 0x110000) × ((c < 0xD800) ⊎ (0xDFFF < c)) × Cod
 
 -- Bytes are a text of `n` code points exactly where they are the octets of `n` code points, one behind the other.
 abbrev pub Counted : Type 0
-Counted = (b : Bytes) (n : ℕ) → (code_points b ≡ some n) ↔ ((cs : List ℕ) × CodePoints cs × (encoded cs ≡ b) × (length cs ≡ n))
+Counted = (b : Bytes) (n : ℕ) → (code_points b ≡ Some n) ↔ ((cs : List ℕ) × CodePoints cs × (encoded cs ≡ b) × (length cs ≡ n))

@@ -1,11 +1,9 @@
 -- How a call that writes ends: document 01, "A success gives the length and fills that many first bytes; those after them are
 -- unchanged", and demand 1, "a number or an absence changes no byte lent".
-use Rattle.std.specs.Prelude.{ℕ, ◌≡◌, cond, ◌++◌, ltb, length, drop}
+use Rattle.std.specs.Prelude.{ℕ, ◌≡◌, cond, ◌++◌, ltb, length, drop, Ok, Err, Some, None, Result, Option}
 use Rattle.layout.specs.Bytes.{Bytes}
 use Rattle.layout.specs.declared.refusal.Refusal.{Refusal}
 use Rattle.layout.specs.declared.refusal.Refusal.TheVariants.{Buffer}
-use Rattle.layout.specs.declared.ending.Ending.{Ending}
-use Rattle.layout.specs.declared.ending.Ending.TheVariants.{Done, Absent, Refused}
 
 -- What document 01 gives a call: a result, an absence, or a number.
 pub data Outcome : Type 0 where
@@ -17,10 +15,14 @@ pub data Outcome : Type 0 where
 unfoldable pub into : ℕ → Bytes → Outcome
 into room b = cond (ltb room (length b)) (refusal Buffer) (result b)
 
+-- The answer of such a call: the alias of ending.rt.
+abbrev pub Ending : Type 0
+Ending = Result (Option ℕ) Refusal
+
 abbrev pub ending : Outcome → Ending
-ending (result b) = Done (length b)
-ending absence = Absent
-ending (refusal r) = Refused r
+ending (result b) = Ok (Some (length b))
+ending absence = Ok None
+ending (refusal r) = Err r
 
 abbrev pub filled : Outcome → Bytes → Bytes
 filled (result b) before = b ++ drop (length b) before

@@ -1,8 +1,7 @@
 -- A question asked of everything in the tree that a record reads as: of each number, of each extension and of the names of each
 -- object, at every level. Soundness is one such question; document 02 asks others. The code asks them by places in the bytes
 -- (EveryAt.antt).
-use Rattle.std.specs.Prelude.{ℕ, Bool, true, false, ◌&&◌, List, [], ◌∷◌}
-use Rattle.std.proofs.Math.Option.{Option, none as nothing, some}
+use Rattle.std.specs.Prelude.{ℕ, Bool, true, false, ◌&&◌, List, [], ◌∷◌, Some, None, Option}
 use Rattle.layout.specs.Bytes.{Bytes}
 use Rattle.layout.specs.Tree.{Tree, null, boolean, number, string, extension, array, object, Items, none, item, Members, empty, member, names}
 use Rattle.layout.specs.Text.{between, code_points}
@@ -47,8 +46,8 @@ kinds_ask = record { number = is_integer; extension = λ b. false; names = λ ns
 
 -- Names "of 1 to 32 characters", which are code points by document 02 §2: of `low` to `high`. Nothing else is asked.
 abbrev pub is_between : ℕ → ℕ → Option ℕ → Bool
-is_between low high nothing = false
-is_between low high (some n) = between low high n
+is_between low high None = false
+is_between low high (Some n) = between low high n
 
 unfoldable pub has_characters : ℕ → ℕ → Bytes → Bool
 unfolding code_points

@@ -31,6 +31,7 @@ pub mod Place
 pub mod Table
 -- Forms again.
 pub mod Parts
+pub mod Left
 pub mod EveryAt
 -- Forms that follow the code, inside the crate.
 pub mod Pass

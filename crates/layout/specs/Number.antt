@@ -1,13 +1,14 @@
 -- Number payloads: document 01, "Number payloads".
-use Rattle.std.specs.Prelude.{ℕ, zero, suc, ◌-◌, ◌/◌, ◌^◌, Bool, true, false, cond, ◌&&◌, ◌||◌, ltb, eqb}
+use Rattle.std.specs.Prelude.{ℕ, zero, suc, ◌-◌, ◌/◌, ◌^◌, Bool, true, false, cond, ◌&&◌, ◌||◌, ltb, eqb, Err, Result, Ok}
 use Rattle.std.specs.Prelude.{List, [], ◌∷◌, ◌++◌, ℤ, pos, negsuc, Float, length, take, get_or}
 use Rattle.std.specs.Int.Signed.{mag}
 use Rattle.std.specs.Float.{nan, inf, fin, binary64}
 use Rattle.std.specs.Float.Ieee.{to_bits}
 use Rattle.layout.specs.Bytes.{Bytes, be_bytes, be_value}
 use Rattle.layout.specs.declared.number.Number.{Number}
-use Rattle.layout.specs.declared.number.Number.TheVariants.{Nan, Infinity, NegInfinity, Int64, UInt64, Float64, Decimal64, WideDecimal, Refused}
+use Rattle.layout.specs.declared.number.Number.TheVariants.{Nan, Infinity, NegInfinity, Int64, UInt64, Float64, Decimal64, WideDecimal}
 use Rattle.layout.specs.declared.refusal.Refusal.TheVariants.{Number as NotListed}
+use Rattle.layout.specs.declared.refusal.Refusal.{Refusal}
 
 -- `x` is one of these.
 abbrev pub one_of : List ℕ → ℕ → Bool
@@ -66,9 +67,9 @@ number_of x b =
     (decimal_of b)))))))
 
 -- "A payload not listed is 4."
-unfoldable pub decoded : Bytes → Number
-decoded [] = Refused NotListed
-decoded (x ∷ b) = cond (listed (x ∷ b)) (number_of x b) (Refused NotListed)
+unfoldable pub decoded : Bytes → Result Number Refusal
+decoded [] = Err NotListed
+decoded (x ∷ b) = cond (listed (x ∷ b)) (Ok (number_of x b)) (Err NotListed)
 
 -- ---- making: "The writer takes the shortest width for an integer and 00 for 0."
 

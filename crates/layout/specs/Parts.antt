@@ -1,29 +1,30 @@
 -- The parts of a container by their places, as the code meets them: part `i` of one container, by the number of its entry; and
 -- members, of one object or of an array of names and one of values, by the places of their two entries and payloads. A part with its
 -- kind and bytes is `part_at` of Place.antt.
-use Rattle.std.specs.Prelude.{ℕ, zero, suc, ◌+◌, ◌*◌, ◌<◌, ◌≡◌, Bool, List, [], ◌∷◌, length, take, drop}
+use Rattle.std.specs.Prelude.{ℕ, zero, suc, ◌+◌, ◌*◌, ◌<◌, ◌≡◌, Bool, List, [], ◌∷◌, length, take, drop, Ok, Err, Result}
 use Rattle.layout.specs.Bytes.{Bytes, word_at}
 use Rattle.layout.specs.Entry.{length_of, entry_at}
 use Rattle.layout.specs.Table.{table_place}
 use Rattle.layout.specs.Encode.{Part}
 use Rattle.layout.specs.Place.{part_at, parts_at, rising_parts}
 use Rattle.layout.specs.declared.util.Header.{Header}
-use Rattle.layout.specs.declared.util.Header.TheVariants.{Array, Object, Scalar, Refused}
+use Rattle.layout.specs.declared.util.Header.TheVariants.{Array, Object, Scalar}
 use Rattle.layout.specs.declared.parts.ItemAt.{ItemAt}
 use Rattle.layout.specs.declared.parts.MemberAt.{MemberAt}
 use Rattle.layout.specs.declared.parts.Places.{Places}
 use Rattle.layout.specs.declared.parts.PartAt.{PartAt}
+use Rattle.layout.specs.declared.refusal.Refusal.{Refusal}
 
 -- Where the payloads of `n` parts start.
 abbrev pub start_of : ℕ → ℕ
 start_of n = 4 + 4 * n
 
 -- How many parts a container has, names and values each counting as one; and the parts of a container of `n`.
-abbrev pub count_parts : Header → ℕ
-count_parts (Array n) = n
-count_parts (Object n) = n + n
-count_parts (Scalar n) = 0
-count_parts (Refused r) = 0
+abbrev pub count_parts : Result Header Refusal → ℕ
+count_parts (Ok (Array n)) = n
+count_parts (Ok (Object n)) = n + n
+count_parts (Ok (Scalar n)) = 0
+count_parts (Err r) = 0
 
 abbrev pub parts_of : Bytes → ℕ → List Part
 parts_of s n = parts_at s 0 (start_of n) n

@@ -1,8 +1,7 @@
 -- From an edit on trees to an edit on bytes: document 01, "Order: left record, right record, path, 7, absence, 8, 9, 10". The record is
 -- read, then what stands beside it (another record, a path, a pointer), by its own reader; then the edit says 7, an absence, 8 and 9 in
 -- its own lines; 10 comes last.
-use Rattle.std.specs.Prelude.{ℕ, ◌&&◌, leb}
-use Rattle.std.proofs.Math.Option.{Option, none as nothing, some}
+use Rattle.std.specs.Prelude.{ℕ, ◌&&◌, leb, Some, None, Option}
 use Rattle.layout.specs.Bytes.{Bytes}
 use Rattle.layout.specs.Answer.{Answer, gives, refused, ◌>>=◌, require}
 use Rattle.layout.specs.Tree.{Tree}
@@ -20,8 +19,8 @@ within t = do
 
 -- What an edit gives goes into a buffer of `room` bytes: "10 shorter than the result". Where it finds nothing, that is an absence.
 abbrev pub found : ℕ → Answer (Option Tree) → Outcome
-found room (gives (some t)) = into room (encode t)
-found room (gives nothing) = absence
+found room (gives (Some t)) = into room (encode t)
+found room (gives None) = absence
 found room (refused r) = refusal r
 
 -- The same of an edit that always finds something.

@@ -1,6 +1,6 @@
 -- The reading of a record: document 01, "Readable and sound", rules 1 to 6 in their order. The first fault decides. A record
 -- that reads as a tree is what document 01 calls readable.
-use Rattle.std.specs.Prelude.{ℕ, zero, suc, ◌+◌, ◌*◌, Bool, true, false, not, cond, ◌&&◌, ◌||◌, List, [], ◌∷◌, leb, ltb, eqb, length, take, drop}
+use Rattle.std.specs.Prelude.{ℕ, zero, suc, ◌+◌, ◌*◌, Bool, true, false, not, cond, ◌&&◌, ◌||◌, List, [], ◌∷◌, leb, ltb, eqb, length, take, drop, Ok, Err, Result}
 use Rattle.layout.specs.Bytes.{Bytes, word}
 use Rattle.layout.specs.Answer.{Answer, gives, refused, ◌>>=◌, require}
 use Rattle.layout.specs.Entry.{top_of, code_of, length_of, kind_of, entry_good, sort_of, count_of}
@@ -12,17 +12,18 @@ use Rattle.layout.specs.declared.item.Kind.{Kind}
 use Rattle.layout.specs.declared.item.Kind.TheVariants.{Null, String, Number, False, True, Container, Extension}
 use Rattle.layout.specs.declared.refusal.Refusal.TheVariants.{Short, Layout, Limit, Text, Number as NotListed}
 use Rattle.layout.specs.declared.util.Header.{Header}
-use Rattle.layout.specs.declared.util.Header.TheVariants.{Array, Object, Scalar, Refused}
+use Rattle.layout.specs.declared.util.Header.TheVariants.{Array, Object, Scalar}
+use Rattle.layout.specs.declared.refusal.Refusal.{Refusal}
 
 -- Rule 2: "Under 4 bytes: 1. Top bits of no known kind: 2."
-unfoldable pub header : Bytes → Header
+unfoldable pub header : Bytes → Result Header Refusal
 unfolding sort_of count_of word
 header b =
-    cond (ltb (length b) 4) (Refused Short)
-    (cond (eqb (sort_of (word b)) 4) (Array (count_of (word b)))
-    (cond (eqb (sort_of (word b)) 2) (Object (count_of (word b)))
-    (cond (eqb (sort_of (word b)) 1) (Scalar (count_of (word b)))
-    (Refused Layout))))
+    cond (ltb (length b) 4) (Err Short)
+    (cond (eqb (sort_of (word b)) 4) (Ok (Array (count_of (word b))))
+    (cond (eqb (sort_of (word b)) 2) (Ok (Object (count_of (word b))))
+    (cond (eqb (sort_of (word b)) 1) (Ok (Scalar (count_of (word b))))
+    (Err Layout))))
 
 -- Rule 5: "bit 31 set, code 7, a name whose code is not 1, or null, true or false with a length: 2". `entry_good` is the
 -- first three. In the rule's order, one test a line, it is `entry_in_lines` of proofs/Entries.antt.
@@ -132,18 +133,18 @@ scalar_in n b = do
   payload_in (λ _. refused Layout) e.kind (drop 4 b)
 
 -- A container by its header; a scalar "inside another record 2".
-abbrev pub container_in : (Bytes → Answer Tree) → Header → Bytes → Answer Tree
-container_in inner (Refused r) b = refused r
-container_in inner (Scalar n) b = refused Layout
-container_in inner (Array n) b = array_in inner n b
-container_in inner (Object n) b = object_in inner n b
+abbrev pub container_in : (Bytes → Answer Tree) → Result Header Refusal → Bytes → Answer Tree
+container_in inner (Err r) b = refused r
+container_in inner (Ok (Scalar n)) b = refused Layout
+container_in inner (Ok (Array n)) b = array_in inner n b
+container_in inner (Ok (Object n)) b = object_in inner n b
 
 -- Rule 4: "deeper than 64 is 5", behind rules 2 and 3.
-abbrev pub too_deep : Header → Answer Tree
-too_deep (Refused r) = refused r
-too_deep (Scalar n) = refused Layout
-too_deep (Array n) = refused Limit
-too_deep (Object n) = refused Limit
+abbrev pub too_deep : Result Header Refusal → Answer Tree
+too_deep (Err r) = refused r
+too_deep (Ok (Scalar n)) = refused Layout
+too_deep (Ok (Array n)) = refused Limit
+too_deep (Ok (Object n)) = refused Limit
 
 -- A nested container, where `k` levels are left: "by the same rules on its own bytes, one level deeper".
 unfoldable pub nested : ℕ → Bytes → Answer Tree
@@ -151,11 +152,11 @@ nested zero b = too_deep (header b)
 nested (suc k) b = container_in (nested k) (header b) (drop 4 b)
 
 -- "A root container is at depth 1": below it 63 levels are left.
-abbrev pub root_in : Header → Bytes → Answer Tree
-root_in (Refused r) b = refused r
-root_in (Scalar n) b = scalar_in n b
-root_in (Array n) b = array_in (nested 63) n b
-root_in (Object n) b = object_in (nested 63) n b
+abbrev pub root_in : Result Header Refusal → Bytes → Answer Tree
+root_in (Err r) b = refused r
+root_in (Ok (Scalar n)) b = scalar_in n b
+root_in (Ok (Array n)) b = array_in (nested 63) n b
+root_in (Ok (Object n)) b = object_in (nested 63) n b
 
 -- A record. Rule 1: "Over 65,536 bytes: 5."
 unfoldable pub read : Bytes → Answer Tree

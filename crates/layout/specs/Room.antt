@@ -5,7 +5,7 @@ use Rattle.std.specs.Prelude.{ℕ, ◌≤◌, ◌≡◌, length}
 use Rattle.layout.specs.Bytes.{Bytes}
 use Rattle.layout.specs.Patch.{patch}
 use Rattle.layout.specs.Ended.{Outcome, result, absence, refusal, ending}
-use Rattle.layout.specs.declared.ending.Ending.{Ending}
+use Rattle.layout.specs.Ended.{Ending}
 
 abbrev pub placed : Outcome → Bytes → Bytes
 placed (result b) before = patch before 0 b

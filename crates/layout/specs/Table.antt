@@ -2,20 +2,17 @@
 -- Here is the place that the table gives, and what a pass meets there, for each item by itself: nothing is carried from one to the
 -- next. `Carried` and its neighbours say that a pass has kept to it; the theorems are in proofs/Carries.antt and proofs/Walked.antt, and
 -- in proofs/Carries.antt of the crates above.
-use Rattle.std.specs.Prelude.{ℕ, zero, suc, ◌+◌, ◌*◌, ◌-◌, ◌<◌, ◌≡◌, List, [], ◌∷◌}
+use Rattle.std.specs.Prelude.{ℕ, zero, suc, ◌+◌, ◌*◌, ◌-◌, ◌<◌, ◌≡◌, List, [], ◌∷◌, Ok, Some, Option}
 use Rattle.layout.specs.Bytes.{Bytes}
 use Rattle.layout.specs.Entry.{entry_at, lengths}
 use Rattle.layout.specs.Encode.{Part}
 use Rattle.layout.specs.Place.{part_at}
 use Rattle.layout.specs.Walk.{item_of, array_step, object_step, array_walk, object_walk}
-use Rattle.layout.specs.declared.item.Characters.{Characters}
 use Rattle.layout.specs.declared.parts.ItemAt.{ItemAt}
 use Rattle.layout.specs.declared.parts.MemberAt.{MemberAt}
 use Rattle.layout.specs.declared.parts.Places.{Places}
 use Rattle.layout.specs.declared.iterator.ArrayIterator.{ArrayIterator}
-use Rattle.layout.specs.declared.iterator.ArrayStep.TheVariants.{Item}
 use Rattle.layout.specs.declared.iterator.ObjectIterator.{ObjectIterator}
-use Rattle.layout.specs.declared.iterator.ObjectStep.TheVariants.{Member}
 
 -- The place that a table of `n` entries gives item `i`: behind the header, the table, and the payloads before it.
 abbrev pub table_place : Bytes → ℕ → ℕ → ℕ
@@ -79,21 +76,22 @@ object_at s n i =
 -- walk that starts before the first keeps to the table.
 abbrev pub ItemCarried : Bytes → ℕ → ℕ → Type 0
 ItemCarried s n i =
-    (c : Characters) × (array_step s (array_at s n i) ≡ Item (item_of (entry_at s i) (table_place s n i) c) (array_at s n (i + 1)))
+    (c : Option ℕ) × (array_step s (array_at s n i) ≡ Ok (Some ((item_of (entry_at s i) (table_place s n i) c), (array_at s n (i + 1)))))
 
 abbrev pub ArrayCarried : Bytes → ℕ → Type 0
 ArrayCarried s n = (array_walk n ≡ array_at s n 0) × ((i : ℕ) → i < n → ItemCarried s n i)
 
 abbrev pub MemberCarried : Bytes → ℕ → ℕ → Type 0
 MemberCarried s n i =
-    (c : Characters) × (d : Characters)
+    (c : Option ℕ) × (d : Option ℕ)
     × (object_step s (object_at s n i)
-    ≡ Member
-    (record {
-      key = item_of (entry_at s i) (table_place s (n + n) i) c;
-      val = item_of (entry_at s (n + i)) (table_place s (n + n) (n + i)) d;
-    })
-    (object_at s n (i + 1)))
+    ≡ Ok (Some (
+      (record {
+        key = item_of (entry_at s i) (table_place s (n + n) i) c;
+        val = item_of (entry_at s (n + i)) (table_place s (n + n) (n + i)) d;
+      }),
+      (object_at s n (i + 1)),
+    )))
 
 abbrev pub ObjectCarried : Bytes → ℕ → Type 0
 ObjectCarried s n = (object_walk s n ≡ object_at s n 0) × ((i : ℕ) → i < n → MemberCarried s n i)

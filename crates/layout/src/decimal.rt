@@ -5,10 +5,8 @@ ghost use Rattle.layout.specs.Patch.{patch};
 
 use crate::writer::put;
 
-// The digit 0.
-const DIGIT_ZERO: u64 = 48;
-
-// Stores the decimal digits of a number below 10^most, and gives the place behind them.
+// Stores the decimal digits of a number below 10^most, and gives the place behind them. The library writes digits into a formatter or
+// a text of its own: to bring them from there into the buffer, no more than `most` of them, takes as many lines.
 pub fn put_decimal(v: u64, most: u32, out: &mut [u8], at: usize) -> usize
     requires { (most ≤ 20) × (at ≤ 2 ^ 40) }
     ensures is { (result ≡ at + length (decimal most v)) × (length (decimal most v) ≤ most) }
@@ -18,10 +16,10 @@ pub fn put_decimal(v: u64, most: u32, out: &mut [u8], at: usize) -> usize
         return at;
     }
     if v < 10 {
-        put(out, at, (DIGIT_ZERO + v) as u8);
+        put(out, at, b'0' + v as u8);
         return at + 1;
     }
     let end = put_decimal(v / 10, most - 1, out, at);
-    put(out, end, (DIGIT_ZERO + v % 10) as u8);
+    put(out, end, b'0' + (v % 10) as u8);
     end + 1
 }

@@ -1,11 +1,6 @@
 // How a call ends that writes into a lent buffer.
 use crate::refusal::Refusal;
 
-// The length of the result, which fills that many first bytes of the buffer; an absence; or a refusal. The last two change
-// no byte.
-#[derive(Clone, Copy)]
-pub enum Ending {
-    Done(usize),
-    Absent,
-    Refused(Refusal),
-}
+// The length of the result, which fills that many first bytes of the buffer; none, which is an absence; or a refusal. The last two
+// change no byte.
+pub type Ending = Result<Option<usize>, Refusal>;

@@ -1,7 +1,7 @@
 // What an entry describes.
 
 // The kinds of an item, one for each type code.
-#[derive(Clone, Copy)]
+#[derive(Clone, Copy, Debug, PartialEq, Eq)]
 pub enum Kind {
     Null,
     String,
@@ -12,18 +12,12 @@ pub enum Kind {
     Extension,
 }
 
-// The characters of an item: the number of code points of a name or a string; what is no text has none.
-#[derive(Clone, Copy)]
-pub enum Characters {
-    Count(usize),
-    NoText,
-}
-
-// An item of a record: its kind, where its payload stands, and its characters.
+// An item of a record: its kind, where its payload stands, and its characters, the number of code points of a name or a string; what
+// is no text has none.
 #[derive(Clone, Copy)]
 pub struct JsonbItem {
     pub kind: Kind,
     pub place: usize,
     pub length: usize,
-    pub characters: Characters,
+    pub characters: Option<usize>,
 }

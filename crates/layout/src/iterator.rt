@@ -1,19 +1,19 @@
 // Walks over arrays and objects, after the Rust's iterator.rs. A walk is a small value: a step takes it and the slice to read
 // in, and gives the next one. Every walk is taken, one made by hand too, on every slice.
 ghost use Rattle.std.specs.Prelude.{◌≡◌, ◌+◌, ◌^◌, ◌≤◌, ◌<◌, length};
-ghost use Rattle.layout.specs.Pass.{handed};
+ghost use Rattle.layout.specs.Pass.{handed, entry_told, length_told};
 ghost use Rattle.layout.specs.Walk.{item_of, item_at};
 ghost use Rattle.layout.specs.Walk.{array_step, array_walk, array_open};
 ghost use Rattle.layout.specs.Walk.{object_step, member_step};
 ghost use Rattle.layout.specs.Walk.{object_walk, object_open};
 
-use crate::check::{Check, check_record};
+use crate::check::check_record;
 use crate::constants::{HEADER_SIZE, JENTRY_SIZE, STRING_CODE};
-use crate::item::{Characters, JsonbItem};
+use crate::item::JsonbItem;
 use crate::jentry::{is_item_jentry, kind_of, payload_len, type_code};
 use crate::parts::{first_part, members_of};
 use crate::refusal::Refusal;
-use crate::utf8::{TextCheck, check_text};
+use crate::utf8::check_text;
 use crate::util::{Header, is_inside, read_header, read_u32, slice};
 
 // Where the next entry and the next payload stand, and how many items are left.
@@ -22,23 +22,6 @@ pub struct ArrayIterator {
     pub jentry_offset: usize,
     pub item_offset: usize,
     pub remaining: usize,
-}
-
-// How opening ends; absent is the walk over a readable record of another kind.
-#[derive(Clone, Copy)]
-pub enum ArrayOpen {
-    Opened(ArrayIterator),
-    Absent,
-    Refused(Refusal),
-}
-
-// How a step ends: the item and the walk behind it, the end past the last item, or a refusal. A refused step has not moved:
-// the walk that it took can be used again.
-#[derive(Clone, Copy)]
-pub enum ArrayStep {
-    Item(JsonbItem, ArrayIterator),
-    End,
-    Refused(Refusal),
 }
 
 // Where the entries and the payloads of the next name and the next value stand, and how many members are left.
@@ -52,73 +35,70 @@ pub struct ObjectIterator {
 }
 
 #[derive(Clone, Copy)]
-pub enum ObjectOpen {
-    Opened(ObjectIterator),
-    Absent,
-    Refused(Refusal),
-}
-
-#[derive(Clone, Copy)]
 pub struct ObjectMember {
     pub key: JsonbItem,
     pub val: JsonbItem,
 }
 
-#[derive(Clone, Copy)]
-pub enum ObjectStep {
-    Member(ObjectMember, ObjectIterator),
-    End,
-    Refused(Refusal),
-}
-
 // The item of an entry whose payload stands at a place, with its characters.
-fn jentry_to_jsonb_item(jentry: u32, place: usize, characters: Characters) -> JsonbItem
+fn jentry_to_jsonb_item(jentry: u32, place: usize, characters: Option<usize>) -> JsonbItem
     ensures { result ≡ item_of jentry place characters }
 {
     JsonbItem {
         kind: kind_of(type_code(jentry)),
-        place: place,
+        place,
         length: payload_len(jentry) as usize,
-        characters: characters,
+        characters,
     }
 }
 
-// What a step hands out of an entry: the item, or the refusal of a string that is no text.
-#[derive(Clone, Copy)]
-enum Handed {
-    Item(JsonbItem),
-    Refused(Refusal),
-}
-
-// The text of a string is tested, and its characters are counted.
-fn hand_out(s: &[u8], jentry: u32, place: usize) -> Handed
+// The item that a step hands out of an entry, or the refusal of a string that is no text: its text is tested, and its characters are
+// counted.
+fn hand_out(s: &[u8], jentry: u32, place: usize) -> Result<JsonbItem, Refusal>
     ensures { result ≡ handed (item_at s.now jentry place) }
 {
     if type_code(jentry) != STRING_CODE {
-        return Handed::Item(jentry_to_jsonb_item(jentry, place, Characters::NoText));
+        return Ok(jentry_to_jsonb_item(jentry, place, None));
     }
-    match check_text(slice(s, place, payload_len(jentry) as usize)) {
-        TextCheck::Passed(count) => Handed::Item(jentry_to_jsonb_item(
-            jentry,
-            place,
-            Characters::Count(count),
-        )),
-        TextCheck::Refused(refusal) => Handed::Refused(refusal),
+    let count = check_text(slice(s, place, payload_len(jentry) as usize))?;
+    Ok(jentry_to_jsonb_item(jentry, place, Some(count)))
+}
+
+// The entry at a place, or why a step is refused there: 1 where it is not whole in the slice, 2 where it is no entry, or not a name's.
+fn entry_in(s: &[u8], place: usize, is_name: bool) -> Result<u32, Refusal>
+    ensures { result ≡ entry_told s.now place is_name }
+{
+    if !is_inside(s, place, JENTRY_SIZE) {
+        return Err(Refusal::Short);
     }
+    let jentry = read_u32(s, place);
+    if !is_item_jentry(is_name, jentry) {
+        return Err(Refusal::Layout);
+    }
+    Ok(jentry)
+}
+
+// The length of the payload of an entry, or the refusal where it is not whole in the slice.
+fn length_in(s: &[u8], place: usize, jentry: u32) -> Result<usize, Refusal>
+    ensures { result ≡ length_told s.now place jentry }
+{
+    let length = payload_len(jentry) as usize;
+    if !is_inside(s, place, length) {
+        return Err(Refusal::Layout);
+    }
+    Ok(length)
 }
 
 impl ArrayIterator {
     // The walk over a readable array; on a readable record of another kind there is none.
-    pub fn new(s: &[u8]) -> ArrayOpen
+    pub fn new(s: &[u8]) -> Result<Option<ArrayIterator>, Refusal>
         ensures { result ≡ array_open s.now }
     {
-        if let Check::Refused(refusal) = check_record(s) {
-            return ArrayOpen::Refused(refusal);
-        }
-        let Header::Array(count) = read_header(s) else {
-            return ArrayOpen::Absent;
+        check_record(s)?;
+        let Header::Array(count) = read_header(s)? else {
+            return Ok(None);
         };
-        ArrayOpen::Opened(ArrayIterator::new_with_len(count))
+        Ok(Some(ArrayIterator::new_with_len(count)))
     }
 
     // The walk from the first item on, of an array of `count`.
@@ -134,50 +114,35 @@ impl ArrayIterator {
         }
     }
 
-    // The next item and the walk behind it.
-    pub fn next(self, s: &[u8]) -> ArrayStep
+    // The next item and the walk behind it; none past the last. A refused step has not moved: the walk that it took can be used again.
+    pub fn next(self, s: &[u8]) -> Result<Option<(JsonbItem, ArrayIterator)>, Refusal>
         ensures { result ≡ array_step s.now self }
     {
         if self.remaining == 0 {
-            return ArrayStep::End;
+            return Ok(None);
         }
-        if !is_inside(s, self.jentry_offset, JENTRY_SIZE) {
-            return ArrayStep::Refused(Refusal::Short);
-        }
-        let jentry = read_u32(s, self.jentry_offset);
-        if !is_item_jentry(false, jentry) {
-            return ArrayStep::Refused(Refusal::Layout);
-        }
-        let length = payload_len(jentry) as usize;
-        if !is_inside(s, self.item_offset, length) {
-            return ArrayStep::Refused(Refusal::Layout);
-        }
-        match hand_out(s, jentry, self.item_offset) {
-            Handed::Item(item) => ArrayStep::Item(
-                item,
-                ArrayIterator {
-                    jentry_offset: self.jentry_offset + JENTRY_SIZE,
-                    item_offset: self.item_offset + length,
-                    remaining: self.remaining - 1,
-                },
-            ),
-            Handed::Refused(refusal) => ArrayStep::Refused(refusal),
-        }
+        let jentry = entry_in(s, self.jentry_offset, false)?;
+        let length = length_in(s, self.item_offset, jentry)?;
+        let item = hand_out(s, jentry, self.item_offset)?;
+        let next = ArrayIterator {
+            jentry_offset: self.jentry_offset + JENTRY_SIZE,
+            item_offset: self.item_offset + length,
+            remaining: self.remaining - 1,
+        };
+        Ok(Some((item, next)))
     }
 }
 
 impl ObjectIterator {
     // The walk over a readable object; on a readable record of another kind there is none.
-    pub fn new(s: &[u8]) -> ObjectOpen
+    pub fn new(s: &[u8]) -> Result<Option<ObjectIterator>, Refusal>
         ensures { result ≡ object_open s.now }
     {
-        if let Check::Refused(refusal) = check_record(s) {
-            return ObjectOpen::Refused(refusal);
-        }
-        let Header::Object(count) = read_header(s) else {
-            return ObjectOpen::Absent;
+        check_record(s)?;
+        let Header::Object(count) = read_header(s)? else {
+            return Ok(None);
         };
-        ObjectOpen::Opened(ObjectIterator::new_with_len(s, count))
+        Ok(Some(ObjectIterator::new_with_len(s, count)))
     }
 
     // The walk from the first member on, of an object of `count`.
@@ -195,60 +160,42 @@ impl ObjectIterator {
         }
     }
 
-    // The next member and the walk behind it. Both entries are tested before either payload, and both payloads before either text.
-    pub fn next(self, s: &[u8]) -> ObjectStep
+    // The next member and the walk behind it; none past the last. Both entries are tested before either payload, and both payloads
+    // before either text.
+    pub fn next(self, s: &[u8]) -> Result<Option<(ObjectMember, ObjectIterator)>, Refusal>
         ensures { result ≡ object_step s.now self }
     {
         if self.remaining == 0 {
-            return ObjectStep::End;
+            return Ok(None);
         }
-        if !is_inside(s, self.key_jentry_offset, JENTRY_SIZE) {
-            return ObjectStep::Refused(Refusal::Short);
-        }
-        let key_jentry = read_u32(s, self.key_jentry_offset);
-        if !is_item_jentry(true, key_jentry) {
-            return ObjectStep::Refused(Refusal::Layout);
-        }
-        if !is_inside(s, self.val_jentry_offset, JENTRY_SIZE) {
-            return ObjectStep::Refused(Refusal::Short);
-        }
-        let val_jentry = read_u32(s, self.val_jentry_offset);
-        if !is_item_jentry(false, val_jentry) {
-            return ObjectStep::Refused(Refusal::Layout);
-        }
+        let key_jentry = entry_in(s, self.key_jentry_offset, true)?;
+        let val_jentry = entry_in(s, self.val_jentry_offset, false)?;
         self.next_member(s, key_jentry, val_jentry)
     }
 
     // The step behind the tests of both entries.
-    fn next_member(self, s: &[u8], key_jentry: u32, val_jentry: u32) -> ObjectStep
+    fn next_member(
+        self,
+        s: &[u8],
+        key_jentry: u32,
+        val_jentry: u32,
+    ) -> Result<Option<(ObjectMember, ObjectIterator)>, Refusal>
         requires { (0 < self.remaining)
             × (self.key_jentry_offset + 4 ≤ length s.now)
             × (self.val_jentry_offset + 4 ≤ length s.now) }
         ensures { result ≡ member_step s.now self key_jentry val_jentry }
     {
-        let key_length = payload_len(key_jentry) as usize;
-        if !is_inside(s, self.key_offset, key_length) {
-            return ObjectStep::Refused(Refusal::Layout);
-        }
-        let val_length = payload_len(val_jentry) as usize;
-        if !is_inside(s, self.val_offset, val_length) {
-            return ObjectStep::Refused(Refusal::Layout);
-        }
-        match hand_out(s, key_jentry, self.key_offset) {
-            Handed::Refused(refusal) => ObjectStep::Refused(refusal),
-            Handed::Item(key) => match hand_out(s, val_jentry, self.val_offset) {
-                Handed::Refused(refusal) => ObjectStep::Refused(refusal),
-                Handed::Item(val) => ObjectStep::Member(
-                    ObjectMember { key: key, val: val },
-                    ObjectIterator {
-                        key_jentry_offset: self.key_jentry_offset + JENTRY_SIZE,
-                        val_jentry_offset: self.val_jentry_offset + JENTRY_SIZE,
-                        key_offset: self.key_offset + key_length,
-                        val_offset: self.val_offset + val_length,
-                        remaining: self.remaining - 1,
-                    },
-                ),
-            },
-        }
+        let key_length = length_in(s, self.key_offset, key_jentry)?;
+        let val_length = length_in(s, self.val_offset, val_jentry)?;
+        let key = hand_out(s, key_jentry, self.key_offset)?;
+        let val = hand_out(s, val_jentry, self.val_offset)?;
+        let next = ObjectIterator {
+            key_jentry_offset: self.key_jentry_offset + JENTRY_SIZE,
+            val_jentry_offset: self.val_jentry_offset + JENTRY_SIZE,
+            key_offset: self.key_offset + key_length,
+            val_offset: self.val_offset + val_length,
+            remaining: self.remaining - 1,
+        };
+        Ok(Some((ObjectMember { key, val }, next)))
     }
 }

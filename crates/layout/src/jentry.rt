@@ -36,7 +36,9 @@ pub fn encoded(code: u32, len: u32) -> u32
     ((code & JENTRY_CODE_MASK) << JENTRY_CODE_SHIFT) | (len & JENTRY_OFF_LEN_MASK)
 }
 
-// The kind of a type code. Null is also what the code without a meaning counts as: no readable record has it.
+// The kind of a type code. Null is also what the code without a meaning counts as: no readable record has it. Codes are numbers and
+// no enum with a `TryFrom`: the check and a walk made by hand meet code 7 as well, and `kind_of` of the definitions gives every number
+// a kind, so that each caller would turn the conversion's error back into what is said here.
 pub fn kind_of(code: u32) -> Kind
     ensures { result ≡ kind_of code }
 {
@@ -75,7 +77,7 @@ pub fn read_jentry(s: &[u8], i: usize) -> u32
 }
 
 // What a walk's step and the check both ask of an entry by itself. Rule 5 asks more: a step hands out null, true and false with
-// their length.
+// their length. `is_name` is a flag and no enum: the loop over a table has it from a comparison, and here it is joined with others.
 pub(crate) fn is_item_jentry(is_name: bool, entry: u32) -> bool
     ensures { result ≡ entry_good is_name entry }
 {

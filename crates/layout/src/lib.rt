@@ -14,6 +14,7 @@ pub mod order;
 pub mod parts;
 pub mod refusal;
 pub mod sound;
+pub mod table;
 pub mod utf8;
 pub mod util;
 pub mod writer;

@@ -87,10 +87,8 @@ pub fn place_after(s: &[u8], from: PartAt, to: usize) -> usize
     ensures { result ≡ from.place + lengths s.now from.index (to - from.index) }
 {
     let mut place = from.place;
-    let mut i = from.index;
-    while i < to {
+    for i in from.index..to {
         place += payload_len(jentry_at(s, i)) as usize;
-        i += 1;
     }
     place
 }

@@ -3,7 +3,7 @@
 ghost use Rattle.std.specs.Prelude.{◌≡◌};
 ghost use Rattle.layout.specs.Refusal.{number};
 
-#[derive(Clone, Copy)]
+#[derive(Clone, Copy, Debug, PartialEq, Eq)]
 pub enum Refusal {
     // The sender of a record.
     Short,
@@ -26,7 +26,8 @@ pub enum Refusal {
 }
 
 impl Refusal {
-    // The number that the documents give the refusal.
+    // The number that the documents give the refusal. A method and no `From`: its name says which number it is, and it is the word of
+    // the contracts that speak of it.
     pub fn number(self) -> u64
         ensures { result ≡ number self }
     {

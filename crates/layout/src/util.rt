@@ -1,8 +1,8 @@
 // Reading bytes, fields and headers, after the Rust's util.rs. What lies outside the slice counts as 0 or is left out, so no
 // caller owes that it lies inside.
-ghost use Rattle.std.specs.Prelude.{◌≡◌, ◌+◌, ◌*◌, ◌^◌, ◌<◌, ◌≤◌, length, take, drop, get_or};
+ghost use Rattle.std.specs.Prelude.{◌≡◌, ◌+◌, ◌≤◌, length, take, drop, get_or};
 ghost use Rattle.layout.specs.Entry.{sort_of, count_of};
-ghost use Rattle.layout.specs.Bytes.{inside, word_at, part_word};
+ghost use Rattle.layout.specs.Bytes.{inside, word_at};
 ghost use Rattle.layout.specs.Read.{header};
 
 use crate::constants::{
@@ -11,64 +11,34 @@ use crate::constants::{
 };
 use crate::refusal::Refusal;
 
-// What the first four bytes of a record say: its sort with its count, or why it is none.
+// What the first four bytes of a record say: its sort with its count.
 #[derive(Clone, Copy)]
 pub enum Header {
     Array(usize),
     Object(usize),
     Scalar(usize),
-    Refused(Refusal),
 }
 
 // The byte at a place, and 0 past the end.
 pub fn byte(s: &[u8], at: usize) -> u8
     ensures { result ≡ get_or s.now at 0 }
 {
-    if at < s.len() { s[at] } else { 0 }
+    s.get(at).copied().unwrap_or(0)
 }
 
 // Whether the n bytes from a place on lie in the slice. A sum beyond the machine's word does not.
 pub fn is_inside(s: &[u8], at: usize, n: usize) -> bool
     ensures { result ≡ inside s.now at n }
 {
-    if s.len() < n {
-        return false;
-    }
-    at <= s.len() - n
+    n <= s.len() && at <= s.len() - n
 }
 
 // The n bytes from a place on, or as many as there are.
 pub fn slice(s: &[u8], at: usize, n: usize) -> &[u8]
     ensures { result.now ≡ take n (drop at s.now) }
 {
-    if at <= s.len() {
-        let room = s.len() - at;
-        if n <= room {
-            let end = at + n;
-            &s[at..end]
-        } else {
-            &s[at..]
-        }
-    } else {
-        &s[0..0]
-    }
-}
-
-fn wide(x: u8) -> u32
-    ensures { (result ≡ x) × (result < 256) }
-{
-    x as u32
-}
-
-// Four bytes as one number, the high byte first.
-fn word_of(a: u8, b: u8, c: u8, d: u8) -> u32
-    ensures { result ≡ ((a * 256 + b) * 256 + c) * 256 + d }
-{
-    let a = wide(a);
-    let b = wide(b);
-    let c = wide(c);
-    let d = wide(d);
-    ((a * 256 + b) * 256 + c) * 256 + d
+    let rest = s.get(at..).unwrap_or(&[]);
+    rest.get(..n).unwrap_or(rest)
 }
 
 // The field at a place where the slice has it whole.
@@ -76,22 +46,24 @@ pub(crate) fn read_whole(s: &[u8], at: usize) -> u32
     requires { at + 4 ≤ length s.now }
     ensures { result ≡ word_at s.now at }
 {
-    word_of(s[at], s[at + 1], s[at + 2], s[at + 3])
+    u32::from_be_bytes([s[at], s[at + 1], s[at + 2], s[at + 3]])
 }
 
-// The number that the n bytes from a place on write, the high byte first; a byte that is missing counts as 0. It calls itself, so
-// that it stays apart from the reading of a whole field, which is then one read.
-fn read_part(s: &[u8], at: usize, n: usize) -> u32
-    requires { n ≤ 4 }
-    ensures { (result ≡ part_word s.now at n) × (result < 256 ^ n) }
+// The field at a place where a byte of it is missing: that counts as 0. It stays apart from the reading of a whole field, which is
+// then one read.
+#[inline(never)]
+fn read_part(s: &[u8], at: usize) -> u32
+    ensures { result ≡ word_at s.now at }
 {
-    if n == 0 {
-        return 0;
-    }
     if s.len() <= at {
         return 0;
     }
-    read_part(s, at, n - 1) * 256 + wide(byte(s, at + (n - 1)))
+    u32::from_be_bytes([
+        byte(s, at),
+        byte(s, at + 1),
+        byte(s, at + 2),
+        byte(s, at + 3),
+    ])
 }
 
 // The field at a place, the high byte first.
@@ -101,7 +73,7 @@ pub fn read_u32(s: &[u8], at: usize) -> u32
     if is_inside(s, at, 4) {
         return read_whole(s, at);
     }
-    read_part(&s[0..], at, 4)
+    read_part(s, at)
 }
 
 // The top three bits.
@@ -118,23 +90,23 @@ fn header_len(header: u32) -> u32
 }
 
 // Rule 2 of document 01's check.
-pub fn read_header(s: &[u8]) -> Header
+pub fn read_header(s: &[u8]) -> Result<Header, Refusal>
     ensures { result ≡ header s.now }
 {
     if s.len() < HEADER_SIZE {
-        return Header::Refused(Refusal::Short);
+        return Err(Refusal::Short);
     }
     let header = read_u32(s, 0);
     let sort = header_type(header);
     let count = header_len(header) as usize;
     if sort == ARRAY_CONTAINER_TAG >> CONTAINER_HEADER_TYPE_SHIFT {
-        return Header::Array(count);
+        return Ok(Header::Array(count));
     }
     if sort == OBJECT_CONTAINER_TAG >> CONTAINER_HEADER_TYPE_SHIFT {
-        return Header::Object(count);
+        return Ok(Header::Object(count));
     }
     if sort == SCALAR_CONTAINER_TAG >> CONTAINER_HEADER_TYPE_SHIFT {
-        return Header::Scalar(count);
+        return Ok(Header::Scalar(count));
     }
-    Header::Refused(Refusal::Layout)
+    Err(Refusal::Layout)
 }

@@ -29,6 +29,3 @@ invariant-check_items-loop-i l =
     (l.place ≤ length l.s)
     × (items_checked (nested l.allowance) l.s l.from l.start (l.n - l.from) ≡ items_checked (nested l.allowance) l.s l.i l.place (l.n - l.i))
     × Carried l.s l.from l.start l.i l.place
-
-abbrev pub decreases-check_items-loop-i : goal.decreases-check_items-loop-i
-decreases-check_items-loop-i l = l.n - l.i

@@ -1,17 +1,10 @@
 -- `layout::check::is_table` meets its contract.
 -- The loop keeps that the table passes where the rest of it does, and the sum of the lengths passed.
-use native.Mathlib.Nat.{sub-zero, zero-add}
 use native.Mathlib.Omega.{arith}
 use borrow.Author.Rules.{rules}
 use Rattle.layout.proofs.Fields.{length_lt}
 use Rattle.layout.proofs.Checks.{table_bad, table_more, lengths_more, table_end}
 use Rattle.layout.proofs.check.is_table.Goals as goal
-
-pub loop-i-init : goal.loop-i-init
-loop-i-init c = (search rules, search rules, rw sub-zero, rw (sub-zero, zero-add))
-
-pub overflow_add-sum : goal.overflow_add-sum
-overflow_add-sum c = rw c.payload_len.ensures (omega (arith, length_lt c.jentry_at-entry.result))
 
 pub returns-else-is_jentry : goal.returns-else-is_jentry
 returns-else-is_jentry c =

@@ -8,10 +8,7 @@ use Rattle.layout.proofs.check.is_table.Given as goal
 
 abbrev pub invariant-loop-i : goal.invariant-loop-i
 invariant-loop-i l =
-    (l.i ≤ l.n)
+    (l.i ≤ l.table.entries)
     × (l.sum ≤ 268435456 * l.i)
-    × (table_ok l.s l.names 0 l.n ≡ table_ok l.s l.names l.i (l.n - l.i))
-    × (lengths l.s 0 l.n ≡ l.sum + lengths l.s l.i (l.n - l.i))
-
-abbrev pub decreases-loop-i : goal.decreases-loop-i
-decreases-loop-i l = l.n - l.i
+    × (table_ok l.s l.table.names 0 l.table.entries ≡ table_ok l.s l.table.names l.i (l.table.entries - l.i))
+    × (lengths l.s 0 l.table.entries ≡ l.sum + lengths l.s l.i (l.table.entries - l.i))

@@ -1,21 +1,14 @@
 -- `layout::check::names_end` meets its contract.
 -- The loop keeps that the end of all names is the end of the rest, and that its place is the table's.
-use native.Mathlib.Nat.{sub-zero}
 use native.Mathlib.Omega.{arith}
 use Rattle.layout.proofs.Fields.{length_lt}
 use Rattle.layout.proofs.Passes.{names_bad, names_more, names_long, names_at}
-use Rattle.layout.proofs.Carries.{carried_start, carried_on}
+use Rattle.layout.proofs.Carries.{carried_on}
 use borrow.Author.Rules.{rules}
 use Rattle.layout.proofs.check.names_end.Goals as goal
 
-pub loop-i-init : goal.loop-i-init
-loop-i-init c = (search rules, search rules, rw sub-zero, carried_start _ _ _)
-
 pub returns-then-entry-ne-STRING_CODE : goal.returns-then-entry-ne-STRING_CODE
 returns-then-entry-ne-STRING_CODE c = names_bad _ _ c.loop-i.i c.loop-i.place _ c.loop-i.invariant.2 c.loop-i-test.true _ c.jentry_at-entry.ensures c.if-entry-ne-STRING_CODE.true
-
-pub overflow_add-place : goal.overflow_add-place
-overflow_add-place c = rw c.payload_len.ensures (omega (arith, length_lt c.jentry_at-entry.result))
 
 pub loop-i-preserved : goal.loop-i-preserved
 loop-i-preserved c = (

@@ -12,6 +12,3 @@ invariant-loop-i l =
     × (l.place ≤ l.start + 268435456 * l.i)
     × (names_end l.s 0 l.start l.names ≡ names_end l.s l.i l.place (l.names - l.i))
     × Carried l.s 0 l.start l.i l.place
-
-abbrev pub decreases-loop-i : goal.decreases-loop-i
-decreases-loop-i l = l.names - l.i

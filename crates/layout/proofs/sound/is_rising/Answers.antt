@@ -1,37 +1,16 @@
 -- `layout::sound::is_rising` meets its contract.
--- The loop keeps that all names rise where those from the last one looked at do, and that the next one's place is the table's.
-use native.Mathlib.Omega.{arith}
-use Rattle.layout.proofs.Fields.{length_lt}
-use Rattle.layout.proofs.Sounds.{rising_none, rising_start, rising_more, rising_stop, rising_end}
-use Rattle.layout.proofs.Carries.{carried_start, carried_on}
+use mathlib.Core.Path.{◌∙◌}
+use borrow.Author.Tests.{tests}
+use Rattle.std.proofs.Common.{rules}
+use Rattle.std.proofs.lemmas.Iterator.Consumers.{YieldsList-from_first}
+use Rattle.layout.specs.Order.{before}
+use Rattle.layout.specs.Left.{Placed, left, shown}
+use Rattle.layout.proofs.Lefts.{names_rise}
+use Rattle.layout.proofs.Neighbours.{sorted_from_yields_List}
 use Rattle.layout.proofs.sound.is_rising.Goals as goal
 
-pub returns-then-n-eq0 : goal.returns-then-n-eq0
-returns-then-n-eq0 c = rising_none c.args.s.now c.args.start c.args.n c.if-n-eq0.true
-
-pub loop-i-init : goal.loop-i-init
-loop-i-init c = (
-  omega arith,
-  rw c.payload_len-len.ensures (omega (arith, length_lt c.read_jentry.result)),
-  rising_start _ _ _ _ _ c.if-n-eq0.false c.read_jentry.ensures c.payload_len-len.ensures,
-  carried_on _ _ _ 0 _ _ _ (carried_start _ 0 _) c.read_jentry.ensures c.payload_len-len.ensures,
-)
-
-pub loop-i-preserved : goal.loop-i-preserved
-loop-i-preserved c = (
-  omega arith,
-  rw c.payload_len-next_len.ensures (omega (arith, length_lt c.jentry_at.result)),
-  rising_more _ _ c.loop-i.i c.loop-i.place c.loop-i.len _ _ _ _ c.loop-i-test.true
-      c.loop-i.invariant.2 c.jentry_at.ensures c.payload_len-next_len.ensures _ _ c.slice.ensures
-      c.slice-in-loop-i.ensures c.is_before.ensures c.if-is_before.true,
-  carried_on _ _ _ _ _ _ _ c.loop-i.invariant.3 c.jentry_at.ensures c.payload_len-next_len.ensures,
-)
-
-pub returns-in-loop-i : goal.returns-in-loop-i
-returns-in-loop-i c =
-    rising_stop _ _ c.loop-i.i c.loop-i.place c.loop-i.len _ _ _ _ c.loop-i-test.true c.loop-i.invariant.2
-    c.jentry_at.ensures c.payload_len-next_len.ensures _ _ c.slice.ensures c.slice-in-loop-i.ensures
-    c.is_before.ensures c.if-is_before.false
-
 pub returns : goal.returns
-returns c = rising_end _ _ c.loop-i.i _ _ _ c.loop-i-test.false c.loop-i.invariant.2
+returns c =
+    sorted_from_yields_List _ (λ (x y : Placed). before x.bytes y.bytes) _ (λ x y r q k. search (rules, tests)) _
+    c.is_sorted_by.ensures.ran (YieldsList-from_first shown left _ c.starting_at.ensures)
+    ∙ names_rise c.args.s.now _ _

@@ -1,18 +1,15 @@
--- `layout::utf8::is_ascii` meets its contract.
--- The loop keeps that all are below 128 exactly where the greatest so far and the rest are.
-use Rattle.layout.proofs.Texts.{ascii_start, ascii_greater, ascii_smaller, ascii_end}
-use Rattle.layout.proofs.utf8.is_ascii.Goals.{then-greatest-x, else-greatest-x}
+-- `layout::utf8::is_ascii` meets its contract: bytes are below 128 exactly where the greatest of them is.
+use Prim.Native.Nat.{max}
+use mathlib.Core.Path.{ap, ◌∙◌}
+use borrow.Author.Rules.{rules}
+use lib.Dec.{ltb}
+use Rattle.std.proofs.lemmas.Iterator.{YieldsList-from_slice}
+use Rattle.std.proofs.lemmas.Iterator.Consumers.{fold_from_yields_List}
+use Rattle.layout.proofs.Texts.{greatest_test}
 use Rattle.layout.proofs.utf8.is_ascii.Goals as goal
 
-pub loop-i-init : goal.loop-i-init
-loop-i-init c = ascii_start _
-
-pub loop-i-preserved : goal.loop-i-preserved
-loop-i-preserved c =
-    elim c.if-greatest-x.branch [
-      | then-greatest-x w ↦ ascii_greater c.args.s.now c.loop-i.i c.loop-i.greatest c.loop-i.invariant c.loop-i-test.true w.if-greatest-x.true _ w.greatest-is
-      | else-greatest-x w ↦ ascii_smaller c.args.s.now c.loop-i.i c.loop-i.greatest c.loop-i.invariant c.loop-i-test.true w.if-greatest-x.false _ w.greatest-is
-    ]
-
 pub returns : goal.returns
-returns c = ascii_end c.args.s.now c.loop-i.i c.loop-i.greatest c.loop-i.invariant c.loop-i-test.false
+returns c =
+    ap (λ g. ltb g 0x80)
+    (fold_from_yields_List _ max 0 c.fold.result c.fold.ensures.ran (YieldsList-from_slice c.args.s.now c.iter.ensures.rest) (λ a x b q k. search rules))
+    ∙ greatest_test 0 c.args.s.now

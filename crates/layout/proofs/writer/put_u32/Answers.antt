@@ -1,14 +1,25 @@
 -- `layout::writer::put_u32` meets its contract.
-use mathlib.Core.Path.{sym}
+use Prim.Native.Nat.{◌-◌, ◌+◌}
+use mathlib.Core.Path.{ap, ◌∙◌}
+use native.Mathlib.Omega.{arith}
+use Rattle.layout.specs.Patch.{patch}
 use Rattle.layout.proofs.Fields.{inside_le}
-use Rattle.layout.proofs.Patches.{patch_out, patch_four}
+use Rattle.layout.proofs.Patches.{patch_mid}
+use Rattle.layout.proofs.Words.{field_bytes, length_be32}
 use Rattle.layout.proofs.writer.put_u32.Goals as goal
 
-pub put_whole-requires : goal.put_whole-requires
-put_whole-requires c = inside_le _ _ _ _ c.is_inside.ensures c.if-is_inside.true
+pub overflow_add-at : goal.overflow_add-at
+overflow_add-at c = let h = inside_le _ _ _ _ c.is_inside.ensures c.if-is_inside.true in omega (arith, h)
 
-pub returns-then-at-out : goal.returns-then-at-out
-returns-then-at-out c = patch_four _ _ _ _ _ _ _ c.put.ensures c.put-then-at-out.ensures c.put-then-at-out-2.ensures c.put-then-at-out-3.ensures
+pub slice_bounds-copy_from_slice-end : goal.slice_bounds-copy_from_slice-end
+slice_bounds-copy_from_slice-end c = inside_le _ _ _ _ c.is_inside.ensures c.if-is_inside.true
 
-pub returns-else-at-out : goal.returns-else-at-out
-returns-else-at-out c = sym (patch_out _ _ _ c.if-at-out.false)
+pub returns-then-is_inside : goal.returns-then-is_inside
+returns-then-is_inside c =
+    let h = inside_le _ _ _ _ c.is_inside.ensures c.if-is_inside.true in
+    patch_mid c.args.out.now c.args.at (c.args.at + 4 - c.args.at) _ _
+    (c.copy_from_slice.ensures.after ∙ c.to_be_bytes-bytes.ensures ∙ field_bytes c.args.v)
+    (omega (arith, length_be32 c.args.v)) (omega (arith, h, length_be32 c.args.v))
+
+pub returns-else-is_inside : goal.returns-else-is_inside
+returns-else-is_inside c = c.copy.ensures ∙ ap (patch c.args.out.now c.args.at) (c.to_be_bytes-bytes.ensures ∙ field_bytes c.args.v)
