@@ -13,15 +13,9 @@ use Rattle.layout.specs.Limits.{depth_items, record_length}
 use Rattle.layout.specs.Check.{checked, nesting}
 use Rattle.layout.specs.Room.{EndedIn}
 use Rattle.layout.specs.declared.refusal.Refusal.{Refusal}
-use Rattle.layout.specs.declared.refusal.Refusal.TheVariants.{Kind, Result}
-use Rattle.layout.specs.declared.ending.Ending.{Ending}
-use Rattle.layout.specs.declared.ending.Ending.TheVariants.{Refused}
+use Rattle.layout.specs.declared.refusal.Refusal.TheVariants.{Kind, Result as NoResult}
 use Rattle.layout.specs.declared.util.Header.{Header}
 use Rattle.layout.specs.declared.util.Header.TheVariants.{Array}
-use Rattle.layout.specs.declared.check.Check.{Check}
-use Rattle.layout.specs.declared.check.Check.TheVariants.{Readable, Refused as NotReadable}
-use Rattle.layout.specs.declared.check.Nesting.{Nesting}
-use Rattle.layout.specs.declared.check.Nesting.TheVariants.{Deep, Refused as NotNested}
 use Rattle.layout.proofs.Readables.{record_of_length, length_encode}
 use Rattle.layout.proofs.Nestings.{head_of, readable_gives, refused_as}
 use Rattle.builders.specs.Build.{items_of, join, append, on_two}
@@ -32,6 +26,8 @@ use Rattle.builders.specs.declared.join.Given.TheVariants.{Table}
 use Rattle.builders.proofs.Knowns.{Known, known, BothOctets, no_array, an_array, nested_gives, nested_refused, deep_nesting, fits_nesting}
 use Rattle.builders.proofs.Joins.{Gives, array_gives, one_gives, joined_encode}
 use Rattle.builders.proofs.Twos.{two_left, two_right, two_edit, two_deep, two_sized}
+use Rattle.std.specs.Prelude.{Ok, Err, Bool, Result, false}
+use Rattle.layout.specs.Ended.{Ending}
 
 -- What a readable record gives.
 module _ (a : Bytes) (n : ℕ) (ts : Items) (k : Known a (array ts)) (e : n ≡ length (item_parts ts)) where
@@ -84,31 +80,31 @@ one_more a k b g l e = or_shifted 1 31 (k + 1) (omega (arith, l.starts, l.short)
 -- What the tests so far have shown of the array and the item, one record for each test passed.
 pub record ArrayRead (a b : Bytes) : Type 0 where
   pub octets : BothOctets a b
-  pub array : checked (read a) ≡ Readable
+  pub array : checked (read a) ≡ Ok tt
 
 pub record BothRead (a b : Bytes) : Type 0 where
   pub before : ArrayRead a b
-  pub item : (x : Refusal) → nesting (read b) ≡ NotNested x → ⊥
+  pub item : (x : Refusal) → nesting (read b) ≡ Err x → ⊥
 
 pub record Counted (a b : Bytes) (k : ℕ) : Type 0 where
   pub before : BothRead a b
-  pub count : header a ≡ Array k
+  pub count : header a ≡ Ok (Array k)
 
 -- The first test that fails decides the answer.
 abbrev Answers : Bytes → Bytes → Bytes → ℕ → Ending → Type 0
 Answers a b o room e = EndedIn e o o (on_two append a b room)
 
 module _ {a b : Bytes} where
-  pub append_left : BothOctets a b → {o : Bytes} (room : ℕ) {c : Check} → c ≡ checked (read a) → {x : Refusal} → c ≡ NotReadable x
-      → Answers a b o room (Refused x)
+  pub append_left : BothOctets a b → {o : Bytes} (room : ℕ) {c : Result (Unit {0}) Refusal} → c ≡ checked (read a) → {x : Refusal} → c ≡ Err x
+      → Answers a b o room (Err x)
   append_left s {o} room {c} hc {x} q = two_left append a b o room x (refused_as (read a) c x hc q)
 
   module _ (s : ArrayRead a b) where
     left : (t : Tree) × Known a t
-    left = let w = readable_gives (read a) Readable (sym s.array) refl in (w.0, known a w.0 s.octets.left w.1)
+    left = let w = readable_gives (read a) (Ok tt) (sym s.array) refl in (w.0, known a w.0 s.octets.left w.1)
 
-    pub append_right : {o : Bytes} (room : ℕ) {n : Nesting} → n ≡ nesting (read b) → {x : Refusal} → n ≡ NotNested x
-        → Answers a b o room (Refused x)
+    pub append_right : {o : Bytes} (room : ℕ) {n : Result Bool Refusal} → n ≡ nesting (read b) → {x : Refusal} → n ≡ Err x
+        → Answers a b o room (Err x)
     append_right {o} room {n} hn {x} q = two_right append a b o room left.0 left.1.reads x (nested_refused (read b) n x hn q)
 
   module _ (s : BothRead a b) where
@@ -118,8 +114,8 @@ module _ {a b : Bytes} where
     right : (u : Tree) × Known b u
     right = let w = nested_gives (read b) (nesting (read b)) refl s.item in (w.0, known b w.0 s.before.octets.right w.1)
 
-    pub append_kind : {o : Bytes} (room : ℕ) {h : Header} → h ≡ header a → ((k : ℕ) → h ≡ Array k → ⊥)
-        → Answers a b o room (Refused Kind)
+    pub append_kind : {o : Bytes} (room : ℕ) {h : Result Header Refusal} → h ≡ header a → ((k : ℕ) → h ≡ Ok (Array k) → ⊥)
+        → Answers a b o room (Err Kind)
     append_kind {o} room hh q =
         two_edit append a b o room array_at.0 array_at.1.reads right.0 right.1.reads Kind
         (append_other array_at.0 right.0 (no_array array_at.0 (λ k e. q k (hh ∙ array_at.1.head ∙ e))))
@@ -137,17 +133,20 @@ module _ {a b : Bytes} where
     an_items : Known a (array items.0)
     an_items = rw items.1 at array_of.1
 
-    pub append_deep : {o : Bytes} (room : ℕ) {n : Nesting} → n ≡ nesting (read b) → n ≡ Deep → Answers a b o room (Refused Result)
+    pub append_deep : {o : Bytes} (room : ℕ) {n : Result Bool Refusal} → n ≡ nesting (read b) → n ≡ Ok false → Answers a b o room (Err NoResult)
     append_deep {o} room hn q =
         let d = deep_nesting item_of.0 (sym q ∙ hn ∙ ap nesting item_of.1.reads) in
         two_deep append a b o room (array items.0) an_items.reads item_of.0 item_of.1.reads _
         (append_array items.0 item_of.0) (omega (arith, depth_join items.0 (item item_of.0 none)))
 
-    module _ {g : Given} (hg : g ≡ as_one (header b)) where
-      pub append_lies : Lies a (Table k) × Lies b g
-      append_lies = (array_lies a k items.0 an_items items.2, one_lies b g item_of.0 item_of.1 hg)
+    pub array_left : Lies a (Table k)
+    array_left = array_lies a k items.0 an_items items.2
 
-      pub append_ends : {n : Nesting} → n ≡ nesting (read b) → (n ≡ Deep → ⊥) → {o o' : Bytes} (room : ℕ) {e : Ending}
+    module _ {g : Given} (hg : g ≡ as_one (header b)) where
+      pub append_lies : Lies b g
+      append_lies = one_lies b g item_of.0 item_of.1 hg
+
+      pub append_ends : {n : Result Bool Refusal} → n ≡ nesting (read b) → (n ≡ Ok false → ⊥) → {o o' : Bytes} (room : ℕ) {e : Ending}
           → EndedIn e o o' (sized room (joined (bit_or (2 ^ 31) (k + 1)) a (Table k) b g))
           → EndedIn e o o' (on_two append a b room)
       append_ends {n} hn q {o} {o'} room {e} h =
@@ -157,5 +156,5 @@ module _ {a b : Bytes} where
           (append_array items.0 item_of.0) e o' (joined (bit_or (2 ^ 31) (k + 1)) a (Table k) b g)
           (omega (arith, depth_join items.0 (item item_of.0 none), an_items.deep))
           (joined_encode (bit_or (2 ^ 31) (k + 1)) a (Table k) items.0 b g (item item_of.0 none)
-          (items_given a k items.0 an_items items.2) one (one_more a k b g append_lies.0 one.count))
+          (items_given a k items.0 an_items items.2) one (one_more a k b g array_left one.count))
           h

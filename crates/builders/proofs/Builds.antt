@@ -23,12 +23,8 @@ use Rattle.layout.specs.Room.{EndedIn}
 use Rattle.layout.specs.Patch.{patch}
 use Rattle.layout.specs.declared.refusal.Refusal.{Refusal}
 use Rattle.layout.specs.declared.refusal.Refusal.TheVariants.{Kind, Repeated}
-use Rattle.layout.specs.declared.ending.Ending.{Ending}
-use Rattle.layout.specs.declared.ending.Ending.TheVariants.{Done, Refused}
 use Rattle.layout.specs.declared.util.Header.{Header}
 use Rattle.layout.specs.declared.util.Header.TheVariants.{Array}
-use Rattle.layout.specs.declared.check.Check.{Check}
-use Rattle.layout.specs.declared.check.Check.TheVariants.{Readable, Refused as NotReadable}
 use Rattle.layout.proofs.Words.{drop_be32}
 use Rattle.layout.proofs.Fields.{code_lt}
 use Rattle.layout.proofs.Decoding.{names_pair, parts_pair, payloads_append}
@@ -44,8 +40,6 @@ use Rattle.builders.specs.Build.{items_of, texts_of, count, build, on_two}
 use Rattle.builders.specs.Join.{given_start, Lies, joined}
 use Rattle.builders.specs.Room.{room_for, sized}
 use Rattle.builders.specs.declared.search.Kept.TheVariants.{All}
-use Rattle.builders.specs.declared.room.Room.{Room}
-use Rattle.builders.specs.declared.room.Room.TheVariants.{Serves, Refused as NoRoom}
 use Rattle.layout.specs.Parts.{texts, name_in, value_in, members_at, pairs_of, parts_of}
 use Rattle.builders.specs.Names.{strings_at, Pairs}
 use Rattle.builders.specs.Search.{kept_of}
@@ -63,6 +57,8 @@ use Rattle.builders.proofs.Rooms.{sized_refused, sized_done}
 use Rattle.builders.proofs.Knowns.{Known, known, BothOctets, no_array, an_array}
 use Rattle.builders.proofs.Appends.{array_lies, items_given}
 use Rattle.builders.proofs.Twos.{two_left, two_right, two_edit, two_sized}
+use Rattle.std.specs.Prelude.{Ok, Err, Some, Result}
+use Rattle.layout.specs.Ended.{Ending}
 
 -- Items that are all strings are names.
 abbrev all_strings : List Part → Bool
@@ -216,7 +212,7 @@ module _ (ks vs : Bytes) (n : ℕ) (ts us : Items) (kk : Known ks (array ts)) (k
         two_sized build ks vs o room (array ts) kk.reads (array us) kv.reads (object (in_order ms)) (built true d) e o' b deep q h
 
     pub build_repeated : distinct (texts (parts_of ks n)) ≡ false
-        → EndedIn (Refused Repeated) o o (on_two build ks vs room)
+        → EndedIn (Err Repeated) o o (on_two build ks vs room)
     build_repeated q =
         two_edit build ks vs o room (array ts) kk.reads (array us) kv.reads Repeated
         (built false (ap (λ ps. distinct (texts ps)) (sym parts_are) ∙ q))
@@ -314,21 +310,21 @@ module _ (ks vs : Bytes) (n : ℕ) (ts us : Items) (kk : Known ks (array ts)) (k
           fk (array_parts vs n us kv eu).1 e₁ e₂ (behind_header vs us kv) e₃ in
           rw (← ln) at all
 
-      module _ (len : ℕ) (el : len ≡ length ks + (length vs - 4)) (serves : Room) (hs : serves ≡ room_for len room) where
-        pub sorted_refused : (x : Refusal) → serves ≡ NoRoom x → EndedIn (Refused x) o o (on_two build ks vs room)
+      module _ (len : ℕ) (el : len ≡ length ks + (length vs - 4)) (serves : Result (Unit {0}) Refusal) (hs : serves ≡ room_for len room) where
+        pub sorted_refused : (x : Refusal) → serves ≡ Err x → EndedIn (Err x) o o (on_two build ks vs room)
         sorted_refused x q =
             ends _ o _ distinct_ns refl (sized_refused (encode (object (in_order ms))) o room len (el ∙ result_length) serves hs x q)
 
         -- Lent no bytes, nothing is stored.
-        pub sorted_measured : serves ≡ Serves → length o ≡ 0 → EndedIn (Done len) o o (on_two build ks vs room)
+        pub sorted_measured : serves ≡ Ok tt → length o ≡ 0 → EndedIn (Ok (Some len)) o o (on_two build ks vs room)
         sorted_measured qs h =
             let b = encode (object (in_order ms)) in
             ends _ o _ distinct_ns refl (sized_done b o room len (el ∙ result_length) serves hs o qs (patch_none o 0 b h))
 
-        pub sorted_done : (w : ℕ) (o₁ o₂ : Bytes) → serves ≡ Serves → w ≡ bit_or (2 ^ 30) n → o₁ ≡ patch o 0 (be32 w)
+        pub sorted_done : (w : ℕ) (o₁ o₂ : Bytes) → serves ≡ Ok tt → w ≡ bit_or (2 ^ 30) n → o₁ ≡ patch o 0 (be32 w)
             → o₂ ≡ woven (name_in ks) (value_in vs) own_entry o₁ 4 (4 + 4 * n) (4 + 4 * n + 4 * n) (length ks + 4 * n)
             (sorted (name_in ks) (members_at ks vs from n))
-            → EndedIn (Done len) o o₂ (on_two build ks vs room)
+            → EndedIn (Ok (Some len)) o o₂ (on_two build ks vs room)
         sorted_done w o₁ o₂ qs ew e₁ e₂ =
             let d : length ks + 4 * n ≡ 4 + 4 * n + 4 * n + length (payloads (name_parts (names (in_order ms)))) =
             omega (arith, length_keys, name_bytes, in_order_names ms distinct_ms) in
@@ -339,10 +335,10 @@ module _ (ks vs : Bytes) (n : ℕ) (ts us : Items) (kk : Known ks (array ts)) (k
             ends _ o₂ _ distinct_ns refl (sized_done (encode (object (in_order ms))) o room len (el ∙ result_length) serves hs o₂ qs r)
 
 -- What a readable array is.
-pub array_known : (s : Bytes) (n : ℕ) → Octets s → checked (read s) ≡ Readable → header s ≡ Array n
+pub array_known : (s : Bytes) (n : ℕ) → Octets s → checked (read s) ≡ Ok tt → header s ≡ Ok (Array n)
     → (ts : Items) × Known s (array ts) × (n ≡ length (item_parts ts))
 array_known s n o c h =
-    let w = readable_gives (read s) Readable (sym c) refl in
+    let w = readable_gives (read s) (Ok tt) (sym c) refl in
     let k = known s w.0 o w.1 in
     let a = an_array w.0 n (sym k.head ∙ h) in
     (a.0, rw a.1 at k, a.2)
@@ -389,7 +385,7 @@ module _ {ks vs : Bytes} {n : ℕ} (p : Paired ks vs n) where
     abbrev On : Ending → Bytes → Type 0
     On e o' = EndedIn e o o' (on_two build ks vs room)
 
-    pub pairs_repeated : distinct (texts (parts_of ks n)) ≡ false → On (Refused Repeated) o
+    pub pairs_repeated : distinct (texts (parts_of ks n)) ≡ false → On (Err Repeated) o
     pairs_repeated =
         build_repeated ks vs n keys_known.0 vals_known.0 keys_known.1 vals_known.1 keys_known.2 vals_known.2
         p.pairs.strings o room
@@ -401,22 +397,22 @@ module _ {ks vs : Bytes} {n : ℕ} (p : Paired ks vs n) where
         p.pairs.strings o room
 
     module _ (dist : distinct (texts (parts_of ks n)) ≡ true) (len : ℕ) (el : len ≡ length ks + (length vs - 4))
-        (serves : Room) (hs : serves ≡ room_for len room) where
-      pub pairs_refused : (x : Refusal) → serves ≡ NoRoom x → On (Refused x) o
+        (serves : Result (Unit {0}) Refusal) (hs : serves ≡ room_for len room) where
+      pub pairs_refused : (x : Refusal) → serves ≡ Err x → On (Err x) o
       pairs_refused =
           sorted_refused ks vs n keys_known.0 vals_known.0 keys_known.1 vals_known.1 keys_known.2 vals_known.2
           p.pairs.strings o room dist len el serves hs
 
-      pub pairs_measured : serves ≡ Serves → length o ≡ 0 → On (Done len) o
+      pub pairs_measured : serves ≡ Ok tt → length o ≡ 0 → On (Ok (Some len)) o
       pairs_measured =
           sorted_measured ks vs n keys_known.0 vals_known.0 keys_known.1 vals_known.1 keys_known.2 vals_known.2
           p.pairs.strings o room dist len el serves hs
 
-      pub pairs_done : (w : ℕ) (o₁ o₂ : Bytes) → serves ≡ Serves → w ≡ bit_or (2 ^ 30) n → o₁ ≡ patch o 0 (be32 w)
+      pub pairs_done : (w : ℕ) (o₁ o₂ : Bytes) → serves ≡ Ok tt → w ≡ bit_or (2 ^ 30) n → o₁ ≡ patch o 0 (be32 w)
           → o₂ ≡ woven (name_in ks) (value_in vs) own_entry o₁ 4 (4 + 4 * n) (4 + 4 * n + 4 * n) (length ks + 4 * n)
           (sorted (name_in ks)
           (kept_of All 0 (members_at ks vs (pairs_of n) n)))
-          → On (Done len) o₂
+          → On (Ok (Some len)) o₂
       pairs_done w o₁ o₂ qs ew e₁ e₂ =
           sorted_done ks vs n keys_known.0 vals_known.0 keys_known.1 vals_known.1 keys_known.2 vals_known.2
           p.pairs.strings o room dist len el serves hs w o₁ o₂ qs ew e₁ (rw (kept_all 0) at e₂)
@@ -424,35 +420,35 @@ module _ {ks vs : Bytes} {n : ℕ} (p : Paired ks vs n) where
 -- Before the pairs are known: what the tests so far have shown of the names and the values, one record for each test passed.
 pub record NamesRead (ks vs : Bytes) : Type 0 where
   pub octets : BothOctets ks vs
-  pub names : checked (read ks) ≡ Readable
+  pub names : checked (read ks) ≡ Ok tt
 
 pub record BothRead (ks vs : Bytes) : Type 0 where
   pub before : NamesRead ks vs
-  pub values : checked (read vs) ≡ Readable
+  pub values : checked (read vs) ≡ Ok tt
 
 pub record NamesCounted (ks vs : Bytes) (n : ℕ) : Type 0 where
   pub before : BothRead ks vs
-  pub count : header ks ≡ Array n
+  pub count : header ks ≡ Ok (Array n)
 
 pub record BothCounted (ks vs : Bytes) (n m : ℕ) : Type 0 where
   pub before : NamesCounted ks vs n
-  pub count : header vs ≡ Array m
+  pub count : header vs ≡ Ok (Array m)
 
 -- The first test that fails decides the answer.
 abbrev Answers : Bytes → Bytes → Bytes → ℕ → Ending → Type 0
 Answers ks vs o room e = EndedIn e o o (on_two build ks vs room)
 
 module _ {ks vs : Bytes} where
-  pub build_left : BothOctets ks vs → {o : Bytes} (room : ℕ) {c : Check} → c ≡ checked (read ks) → {x : Refusal} → c ≡ NotReadable x
-      → Answers ks vs o room (Refused x)
+  pub build_left : BothOctets ks vs → {o : Bytes} (room : ℕ) {c : Result (Unit {0}) Refusal} → c ≡ checked (read ks) → {x : Refusal} → c ≡ Err x
+      → Answers ks vs o room (Err x)
   build_left s {o} room {c} hc {x} q = two_left build ks vs o room x (refused_as (read ks) c x hc q)
 
   module _ (s : NamesRead ks vs) where
     left : (t : Tree) × Known ks t
-    left = let w = readable_gives (read ks) Readable (sym s.names) refl in (w.0, known ks w.0 s.octets.left w.1)
+    left = let w = readable_gives (read ks) (Ok tt) (sym s.names) refl in (w.0, known ks w.0 s.octets.left w.1)
 
-    pub build_right : {o : Bytes} (room : ℕ) {d : Check} → d ≡ checked (read vs) → {x : Refusal} → d ≡ NotReadable x
-        → Answers ks vs o room (Refused x)
+    pub build_right : {o : Bytes} (room : ℕ) {d : Result (Unit {0}) Refusal} → d ≡ checked (read vs) → {x : Refusal} → d ≡ Err x
+        → Answers ks vs o room (Err x)
     build_right {o} room {d} hd {x} q = two_right build ks vs o room left.0 left.1.reads x (refused_as (read vs) d x hd q)
 
   module _ (s : BothRead ks vs) where
@@ -461,18 +457,18 @@ module _ {ks vs : Bytes} where
 
     right : (u : Tree) × Known vs u
     right =
-        let w = readable_gives (read vs) Readable (sym s.values) refl in
+        let w = readable_gives (read vs) (Ok tt) (sym s.values) refl in
         (w.0, known vs w.0 s.before.octets.right w.1)
 
-    kind : {o : Bytes} (room : ℕ) → build keys_at.0 right.0 ≡ refused Kind → Answers ks vs o room (Refused Kind)
+    kind : {o : Bytes} (room : ℕ) → build keys_at.0 right.0 ≡ refused Kind → Answers ks vs o room (Err Kind)
     kind {o} room = two_edit build ks vs o room keys_at.0 keys_at.1.reads right.0 right.1.reads Kind
 
-    pub build_no_names : {o : Bytes} (room : ℕ) {h : Header} → h ≡ header ks → ((k : ℕ) → h ≡ Array k → ⊥)
-        → Answers ks vs o room (Refused Kind)
+    pub build_no_names : {o : Bytes} (room : ℕ) {h : Result Header Refusal} → h ≡ header ks → ((k : ℕ) → h ≡ Ok (Array k) → ⊥)
+        → Answers ks vs o room (Err Kind)
     build_no_names room hh q = kind room (no_names keys_at.0 right.0 (no_array keys_at.0 (λ k e. q k (hh ∙ keys_at.1.head ∙ e))))
 
-    pub build_no_values : {o : Bytes} (room : ℕ) {j : Header} → j ≡ header vs → ((k : ℕ) → j ≡ Array k → ⊥)
-        → Answers ks vs o room (Refused Kind)
+    pub build_no_values : {o : Bytes} (room : ℕ) {j : Result Header Refusal} → j ≡ header vs → ((k : ℕ) → j ≡ Ok (Array k) → ⊥)
+        → Answers ks vs o room (Err Kind)
     build_no_values room hj q = kind room (no_values keys_at.0 right.0 (no_array right.0 (λ k e. q k (hj ∙ right.1.head ∙ e))))
 
   module _ {n m : ℕ} (s : BothCounted ks vs n m) where
@@ -485,13 +481,13 @@ module _ {ks vs : Bytes} where
     vals : (us : Items) × ((right both).0 ≡ array us) × (m ≡ length (item_parts us))
     vals = an_array (right both).0 m (sym (right both).1.head ∙ s.count)
 
-    pub build_unequal : {o : Bytes} (room : ℕ) → (n ≡ m → ⊥) → Answers ks vs o room (Refused Kind)
+    pub build_unequal : {o : Bytes} (room : ℕ) → (n ≡ m → ⊥) → Answers ks vs o room (Err Kind)
     build_unequal room q =
         kind both room (rw (keys.1, vals.1) (unequal keys.0 vals.0
         (λ e. q (keys.2 ∙ sym (count_item_parts keys.0) ∙ e ∙ count_item_parts vals.0 ∙ sym vals.2))))
 
     module _ (e : n ≡ m) {g : Bool} (hg : g ≡ strings_at ks 0 n) where
-      pub build_no_strings : {o : Bytes} (room : ℕ) → g ≡ false → Answers ks vs o room (Refused Kind)
+      pub build_no_strings : {o : Bytes} (room : ℕ) → g ≡ false → Answers ks vs o room (Err Kind)
       build_no_strings room q =
           kind both room (rw (keys.1, vals.1) (texts_none ks vs n keys.0 vals.0
           (rw keys.1 at (left both.before).1) (rw vals.1 at (right both).1) keys.2 (e ∙ vals.2) (sym hg ∙ q)))
@@ -502,6 +498,6 @@ module _ {ks vs : Bytes} where
             names = both.before.names;
             values = both.values;
             keys = s.before.count;
-            vals = s.count ∙ ap Array (sym e);
+            vals = s.count ∙ ap (λ x. Ok (Array x)) (sym e);
             strings = sym hg ∙ q;
           }

@@ -6,14 +6,13 @@ use mathlib.Core.Path.{◌≡◌, refl, ap, ap₂, sym, ◌∙◌, subst}
 use mathlib.Core.Logic.{inl, ◌↔◌}
 use mathlib.Core.Bool.{true}
 use mathlib.Core.List.{◌∷◌}
-use mathlib.Core.Option.{some}
 use Rattle.layout.specs.Bytes.{Bytes}
 use Rattle.layout.specs.Tree.{Tree, null, boolean, number, string, extension, array, object, Items, none, item, Members, empty, member, names}
 use Rattle.layout.specs.Limits.{depth, depth_items, depth_members, size, size_items, size_members, record_length}
 use Rattle.layout.specs.Sound.{Sound, SoundItems, SoundMembers}
 use Rattle.layout.specs.Value.{Same, SameItems, SameMembers}
-use Rattle.layout.specs.declared.order.Ordering.{Ordering}
-use Rattle.layout.specs.declared.order.Ordering.TheVariants.{Less, Equal, Greater}
+use Rattle.std.specs.declared.cmp.Ordering.{Ordering}
+use Rattle.std.specs.declared.cmp.Ordering.TheVariants.{Less, Equal, Greater}
 use Rattle.layout.proofs.Values.{sound_same}
 use Rattle.layout.proofs.Sames.{same_sym, same_trans}
 use Rattle.layout.specs.Order.{order}
@@ -21,6 +20,7 @@ use Rattle.builders.specs.Order.{by, in_order, find, distinct}
 use Rattle.builders.proofs.InOrders.{in_order_rising, in_order_sound, in_order_same, in_order_size, gather, gather_in_order, find_in_order}
 use Rattle.builders.specs.Canon.{canon, canon_items, canon_members, canon_found}
 use Rattle.builders.proofs.Proper.{Proper, ProperItems, ProperMembers, same_proper}
+use Rattle.std.specs.Prelude.{Some}
 
 pub canon_names : (ms : Members) → names (canon_members ms) ≡ names ms
 canon_names empty = refl
@@ -31,7 +31,7 @@ canon_finds n empty = refl
 canon_finds n (member m t ms) = first (order n m) (canon_finds n ms)
   where
     first : (o : Ordering) → find n (canon_members ms) ≡ canon_found (find n ms)
-        → by o (find n (canon_members ms)) (some (canon t)) (find n (canon_members ms)) ≡ canon_found (by o (find n ms) (some t) (find n ms))
+        → by o (find n (canon_members ms)) (Some (canon t)) (find n (canon_members ms)) ≡ canon_found (by o (find n ms) (Some t) (find n ms))
     first Less e = e
     first Equal e = refl
     first Greater e = e

@@ -11,8 +11,8 @@ use Rattle.layout.proofs.Lists.{Each}
 use Rattle.layout.proofs.Carries.{object_members, pairs_members}
 use Rattle.builders.specs.Search.{Bound, kept_of, least}
 use Rattle.builders.specs.declared.search.Kept.{Kept}
-use Rattle.builders.specs.declared.search.Found.TheVariants.{Nothing, At}
 use Rattle.builders.proofs.Searches.{least_each, each_kept}
+use Rattle.std.specs.Prelude.{Some, None}
 
 -- The `n` members of two tables, from items `i` and `j` on: the one behind `r` others.
 module _ (ks : Bytes) (a i : ℕ) (vs : Bytes) (b j n : ℕ) where
@@ -32,16 +32,16 @@ module _ (ks : Bytes) (a i : ℕ) (vs : Bytes) (b j n : ℕ) where
 
   -- What the search finds among them, some left out or none.
   pub search_carries : (kept : Kept) (last : Bound) (m : MemberAt)
-      → least (name_in ks) last Nothing (kept_of kept 0 (members_by_table ks a i vs b j n)) ≡ At m → OfTables m
+      → least (name_in ks) last None (kept_of kept 0 (members_by_table ks a i vs b j n)) ≡ Some m → OfTables m
   search_carries kept last m e =
       least_each (name_in ks) OfTables last (kept_of kept 0 (members_by_table ks a i vs b j n))
       (each_kept OfTables kept 0 (members_by_table ks a i vs b j n) each_of_tables) m e
 
 -- As `next_member` promises it: among the members of an object of `n`, and among `n` names and `n` values.
 pub object_search_carries : (s : Bytes) (n : ℕ) (kept : Kept) (last : Bound) (m : MemberAt)
-    → least (name_in s) last Nothing (kept_of kept 0 (members_at s s (members_of s n) n)) ≡ At m → OfTables s (n + n) 0 s (n + n) n n m
+    → least (name_in s) last None (kept_of kept 0 (members_at s s (members_of s n) n)) ≡ Some m → OfTables s (n + n) 0 s (n + n) n n m
 object_search_carries s n kept last m e = search_carries s (n + n) 0 s (n + n) n n kept last m (rw (object_members s n) at e)
 
 pub pairs_search_carries : (ks vs : Bytes) (n : ℕ) (kept : Kept) (last : Bound) (m : MemberAt)
-    → least (name_in ks) last Nothing (kept_of kept 0 (members_at ks vs (pairs_of n) n)) ≡ At m → OfTables ks n 0 vs n 0 n m
+    → least (name_in ks) last None (kept_of kept 0 (members_at ks vs (pairs_of n) n)) ≡ Some m → OfTables ks n 0 vs n 0 n m
 pairs_search_carries ks vs n kept last m e = search_carries ks n 0 vs n 0 n kept last m (rw (pairs_members ks vs n) at e)

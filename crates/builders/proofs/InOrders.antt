@@ -5,7 +5,6 @@ use mathlib.Core.Path.{◌≡◌, refl, ap, sym, ◌∙◌}
 use mathlib.Core.Logic.{◌⊎◌, inl, inr, ⊎_elim}
 use mathlib.Core.Bool.{Bool, true, false, not, ◌&&◌, ◌||◌}
 use mathlib.Core.List.{List, [], ◌∷◌}
-use mathlib.Core.Option.{Option, none, some}
 use lib.Dec.{T}
 use lib.ListN.{length, length-append}
 use Rattle.layout.specs.Bytes.{Bytes}
@@ -17,13 +16,14 @@ use Rattle.layout.specs.Order.{order, same_bytes}
 use Rattle.layout.specs.Sound.{◌≺◌, Rising, Sound, SoundMembers}
 use Rattle.layout.specs.Every.{Ask, every}
 use Rattle.layout.specs.Value.{Taken, SameMembers}
-use Rattle.layout.specs.declared.order.Ordering.{Ordering}
-use Rattle.layout.specs.declared.order.Ordering.TheVariants.{Less, Equal, Greater}
+use Rattle.std.specs.declared.cmp.Ordering.{Ordering}
+use Rattle.std.specs.declared.cmp.Ordering.TheVariants.{Less, Equal, Greater}
 use Rattle.layout.proofs.Values.{≺-irrefl, ≺-trans, In, rising_tail, rising_all, same_refl}
 use Rattle.layout.proofs.Orders.{unlike_bytes, alike_bytes}
 use Rattle.layout.proofs.Questions.{Apiece, no_member, member_apart, member_joined}
 use Rattle.builders.specs.Order.{by, insert, insert_all, in_order, find, has, distinct, follow}
 use Rattle.builders.proofs.Orderings.{order_cases, by_order, order_less, order_greater, order_refl}
+use Rattle.std.specs.Prelude.{Some, None, Option}
 
 -- A name that comes before another is not equal to it.
 pub unlike : (a b : Bytes) → a ≺ b → a ≡ b → ⊥
@@ -134,21 +134,21 @@ rising_in_order ms h = all_end ms empty h
 
 -- What one finds, or else what the other does.
 abbrev pub or_else : Option Tree → Option Tree → Option Tree
-or_else none b = b
-or_else (some t) b = some t
+or_else None b = b
+or_else (Some t) b = Some t
 
-or_none : (a : Option Tree) → or_else a none ≡ a
-or_none none = refl
-or_none (some t) = refl
+or_none : (a : Option Tree) → or_else a None ≡ a
+or_none None = refl
+or_none (Some t) = refl
 
 or_else_assoc : (a b c : Option Tree) → or_else (or_else a b) c ≡ or_else a (or_else b c)
-or_else_assoc none b c = refl
-or_else_assoc (some t) b c = refl
+or_else_assoc None b c = refl
+or_else_assoc (Some t) b c = refl
 
-not_found : (n : Bytes) (ms : Members) → (In n (names ms) → ⊥) → find n ms ≡ none
+not_found : (n : Bytes) (ms : Members) → (In n (names ms) → ⊥) → find n ms ≡ None
 not_found n empty h = refl
 not_found n (member m u ms) h =
-    by_order n m (λ (a : Option Tree). a ≡ none) _ _ _
+    by_order n m (λ (a : Option Tree). a ≡ None) _ _ _
     (λ _. not_found n ms (λ i. h (inr i))) (λ e. absurd (h (inl e))) (λ _. not_found n ms (λ i. h (inr i)))
 
 -- A member that goes in front of others in order, or whose name is the first, or that goes behind the first.
@@ -157,9 +157,9 @@ module _ (x n : Bytes) (t : Tree) (m : Bytes) (u : Tree) (ms : Members) where
       → find x (member n t (member m u ms)) ≡ or_else (find x (member m u ms)) (find x (member n t empty))
   find_less l h =
       order_cases x n
-      (λ o. by o (find x (member m u ms)) (some t) (find x (member m u ms)) ≡ or_else (find x (member m u ms)) (by o none (some t) none))
+      (λ o. by o (find x (member m u ms)) (Some t) (find x (member m u ms)) ≡ or_else (find x (member m u ms)) (by o None (Some t) None))
       (λ _. sym (or_none (find x (member m u ms))))
-      (λ e. ap (λ (a : Option Tree). or_else a (some t)) (sym (not_found x (member m u ms) (lower e))))
+      (λ e. ap (λ (a : Option Tree). or_else a (Some t)) (sym (not_found x (member m u ms) (lower e))))
       (λ _. sym (or_none (find x (member m u ms))))
     where
       lower : x ≡ n → In x (names (member m u ms)) → ⊥
@@ -169,17 +169,17 @@ module _ (x n : Bytes) (t : Tree) (m : Bytes) (u : Tree) (ms : Members) where
 
   find_equal : n ≡ m → find x (member m u ms) ≡ or_else (find x (member m u ms)) (find x (member n t empty))
   find_equal e =
-      order_cases x n (λ o. find x (member m u ms) ≡ or_else (find x (member m u ms)) (by o none (some t) none))
+      order_cases x n (λ o. find x (member m u ms) ≡ or_else (find x (member m u ms)) (by o None (Some t) None))
       (λ _. sym (or_none (find x (member m u ms))))
       (λ k.
-      let f : find x (member m u ms) ≡ some u = rw (k, e, order_refl m) in
-      f ∙ ap (λ (a : Option Tree). or_else a (some t)) (sym f))
+      let f : find x (member m u ms) ≡ Some u = rw (k, e, order_refl m) in
+      f ∙ ap (λ (a : Option Tree). or_else a (Some t)) (sym f))
       (λ _. sym (or_none (find x (member m u ms))))
 
   find_greater : (r : Members) (b : Option Tree) → find x r ≡ or_else (find x ms) b
       → find x (member m u r) ≡ or_else (find x (member m u ms)) b
   find_greater r b e =
-      order_cases x m (λ o. by o (find x r) (some u) (find x r) ≡ or_else (by o (find x ms) (some u) (find x ms)) b)
+      order_cases x m (λ o. by o (find x r) (Some u) (find x r) ≡ or_else (by o (find x ms) (Some u) (find x ms)) b)
       (λ _. e) (λ _. refl) (λ _. e)
 
 find_insert : (x n : Bytes) (t : Tree) (ms : Members) → Rising (names ms)
@@ -194,7 +194,7 @@ find_insert x n t (member m u ms) h =
 find_head : (x n : Bytes) (t : Tree) (ms : Members) → or_else (find x (member n t empty)) (find x ms) ≡ find x (member n t ms)
 find_head x n t ms = go (order x n)
   where
-    go : (o : Ordering) → or_else (by o none (some t) none) (find x ms) ≡ by o (find x ms) (some t) (find x ms)
+    go : (o : Ordering) → or_else (by o None (Some t) None) (find x ms) ≡ by o (find x ms) (Some t) (find x ms)
     go Less = refl
     go Equal = refl
     go Greater = refl

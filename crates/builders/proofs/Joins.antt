@@ -1,17 +1,15 @@
 -- Two records written as one array: what the code stores is the array's record.
-use Prim.Native.Nat.{ℕ, ◌+◌, ◌*◌, ◌-◌, ◌%◌, ◌^◌, ◌<◌, ◌≤◌}
+use Prim.Native.Nat.{ℕ, ◌+◌, ◌*◌, ◌%◌, ◌^◌, ◌<◌, ◌≤◌}
 use native.Mathlib.Omega.{arith}
 use mathlib.Core.Path.{◌≡◌, refl, ap, sym, ◌∙◌}
 use mathlib.Core.List.{List, [], ◌∷◌, ◌++◌, append_assoc, append-nil}
 use lib.ListN.{length, take, drop, length-append, length-drop}
-use lib.Seq.{take_all, length-take-le, take-append_seam, drop-append_seam, drop-drop}
+use lib.Seq.{length-take-le, take-append_seam, drop-append_seam, drop-drop}
 use Rattle.layout.specs.Bytes.{Bytes, be32}
 use Rattle.layout.specs.Entry.{entry_of}
 use Rattle.layout.specs.Tree.{Tree, null, boolean, number, string, extension, array, object, Items, none, item}
 use Rattle.layout.specs.Encode.{Part, entries, payloads, item_parts, part, encode, record_of}
 use Rattle.layout.specs.Patch.{patch}
-use Rattle.layout.specs.declared.util.Header.{Header}
-use Rattle.layout.specs.declared.util.Header.TheVariants.{Array, Object, Scalar, Refused as NoHeader}
 use Rattle.layout.proofs.Words.{length_be32, drop_be32}
 use Rattle.layout.proofs.Level.{entries_length}
 use Rattle.layout.proofs.Decoding.{payloads_append}
@@ -22,25 +20,11 @@ use Rattle.builders.specs.declared.join.Given.{Given}
 use Rattle.builders.specs.declared.join.Given.TheVariants.{Table, Whole}
 use Rattle.builders.proofs.Weaves.{patch_then, entries_append}
 
--- What a record is as one item.
-pub one_scalar : (h k : Header) (n : ℕ) → h ≡ k → h ≡ Scalar n → Table 1 ≡ as_one k
-one_scalar h k n e q = rw (← e, q)
-
-pub one_other : (h k : Header) → h ≡ k → ((n : ℕ) → h ≡ Scalar n → ⊥) → Whole ≡ as_one k
-one_other h (Array n) e q = refl
-one_other h (Object n) e q = refl
-one_other h (Scalar n) e q = absurd (q n e)
-one_other h (NoHeader r) e q = refl
-
 -- What is given, by its case.
 module _ (g : Given) where
   pub count_table : (n : ℕ) → g ≡ Table n → n ≡ given_count g
   unfolding given_count
   count_table n e = rw e
-
-  pub count_whole : g ≡ Whole → 1 ≡ given_count g
-  unfolding given_count
-  count_whole e = rw e
 
   pub start_table : (n : ℕ) → g ≡ Table n → 4 + 4 * n ≡ given_start g
   unfolding given_start
@@ -78,10 +62,11 @@ unfolding given_start given_count given_entries
 length_given s (Table n) h = length-take-le (4 * n) (drop 4 s) (rw (length-drop 4 s) (omega arith))
 length_given s Whole h = length_be32 _
 
-pub length_is : (s : Bytes) (g : Given) (r : Bytes) (h : Given) (m n p q : ℕ) → m ≡ given_count g → n ≡ given_count h
-    → p ≡ given_start g → q ≡ given_start h → 4 + 4 * (m + n) + (length s - p + (length r - q)) ≡ joined_length s g r h
+pub length_is : (s : Bytes) (g : Given) (r : Bytes) (h : Given) (m n : ℕ) (x y : Bytes) → m ≡ given_count g → n ≡ given_count h
+    → x ≡ drop (given_start g) s → y ≡ drop (given_start h) r → 4 + 4 * (m + n) + length x + length y ≡ joined_length s g r h
 unfolding joined_length
-length_is s g r h m n p q em en ep eq = rw (em, en, ep, eq)
+length_is s g r h m n x y em en ex ey =
+    omega (arith, em, en, ap length ex, ap length ey, length-drop (given_start g) s, length-drop (given_start h) r)
 
 -- What is stored, and its length.
 module _ (s : Bytes) (g : Given) (r : Bytes) (h : Given) (ls : Lies s g) (lr : Lies r h) where
@@ -102,16 +87,13 @@ module _ (s : Bytes) (g : Given) (r : Bytes) (h : Given) (ls : Lies s g) (lr : L
         length-drop (given_start h) r,
       )
 
-  pub joined_stored : (w m n p q : ℕ) (x y o o₁ o₂ o₃ o₄ o₅ : Bytes) → m ≡ given_count g → n ≡ given_count h
-      → p ≡ given_start g → q ≡ given_start h
-      → x ≡ take (length s - p) (drop p s) → y ≡ take (length r - q) (drop q r)
+  pub joined_stored : (w m n : ℕ) (x y o o₁ o₂ o₃ o₄ o₅ : Bytes) → m ≡ given_count g → n ≡ given_count h
+      → x ≡ drop (given_start g) s → y ≡ drop (given_start h) r
       → o₁ ≡ patch o 0 (be32 w) → o₂ ≡ patch o₁ 4 (given_entries s g) → o₃ ≡ patch o₂ (4 + 4 * m) (given_entries r h)
       → o₄ ≡ patch o₃ (4 + 4 * (m + n)) x → o₅ ≡ patch o₄ (4 + 4 * (m + n) + length x) y
       → o₅ ≡ patch o 0 (joined w s g r h)
   unfolding joined
-  joined_stored w m n p q x y o o₁ o₂ o₃ o₄ o₅ em en ep eq ex ey e₁ e₂ e₃ e₄ e₅ =
-      let hx : x ≡ drop (given_start g) s = rw (ex, ep) (whole s (given_start g)) in
-      let hy : y ≡ drop (given_start h) r = rw (ey, eq) (whole r (given_start h)) in
+  joined_stored w m n x y o o₁ o₂ o₃ o₄ o₅ em en hx hy e₁ e₂ e₃ e₄ e₅ =
       let lw = length_be32 w in
       let ls' = length_given s g ls.starts in
       let lr' = length_given r h lr.starts in
@@ -122,9 +104,6 @@ module _ (s : Bytes) (g : Given) (r : Bytes) (h : Given) (ls : Lies s g) (lr : L
       j₅ ∙ ap (patch o 0) (rw (hx, hy)
       (regroup (be32 w) (given_entries s g) (given_entries r h) (drop (given_start g) s) (drop (given_start h) r)))
     where
-      whole : (b : Bytes) (k : ℕ) → take (length b - k) (drop k b) ≡ drop k b
-      whole b k = take_all (length b - k) (drop k b) (rw (length-drop k b) (omega arith))
-
       regroup : (a b c d e : Bytes) → ((((a ++ b) ++ c) ++ d) ++ e) ≡ a ++ ((b ++ c) ++ (d ++ e))
       regroup a b c d e =
           append_assoc ((a ++ b) ++ c) d e ∙ ap (λ x. x ++ (d ++ e)) (append_assoc a b c) ∙ append_assoc a (b ++ c) (d ++ e)

@@ -3,7 +3,7 @@ use Prim.Native.Nat.{ℕ, ◌<◌, ◌≤◌}
 use native.Mathlib.Omega.{arith}
 use native.Mathlib.Decide.{dec_le}
 use mathlib.Core.Path.{◌≡◌, refl, ap, sym, ◌∙◌}
-use mathlib.Core.Bool.{Bool, true, false, cond}
+use mathlib.Core.Bool.{Bool, true, false}
 use lib.Dec.{leb}
 use lib.ListN.{length, get_or}
 use Rattle.std.proofs.Common.{Fits as FitsWord, w8}
@@ -18,12 +18,11 @@ use Rattle.layout.specs.Check.{nesting}
 use Rattle.layout.specs.declared.refusal.Refusal.{Refusal}
 use Rattle.layout.specs.declared.refusal.Refusal.TheVariants.{Kind}
 use Rattle.layout.specs.declared.util.Header.TheVariants.{Array}
-use Rattle.layout.specs.declared.check.Nesting.{Nesting}
-use Rattle.layout.specs.declared.check.Nesting.TheVariants.{Fits, Deep, Refused as NotNested}
 use Rattle.layout.proofs.Decoding.{read_sound}
 use Rattle.layout.proofs.Nestings.{head_of, header_read}
 use Rattle.layout.proofs.Words.{slice_octets}
 use Rattle.builders.specs.Build.{items_of}
+use Rattle.std.specs.Prelude.{Ok, Err, Result}
 
 -- A record that reads as `t`.
 pub record Known (s : Bytes) (t : Tree) : Type 0 where
@@ -55,7 +54,7 @@ pub both_octets : (l r : Bytes) → ((i : ℕ) → FitsWord w8 (get_or l i 0)) �
 both_octets l r h k = record { left = slice_octets l h; right = slice_octets r k }
 
 -- A record by its header.
-pub no_array : (t : Tree) → ((n : ℕ) → head_of t ≡ Array n → ⊥) → items_of t ≡ refused Kind
+pub no_array : (t : Tree) → ((n : ℕ) → head_of t ≡ Ok (Array n) → ⊥) → items_of t ≡ refused Kind
 no_array null h = refl
 no_array (boolean x) h = refl
 no_array (number b) h = refl
@@ -64,7 +63,7 @@ no_array (extension b) h = refl
 no_array (array ts) h = absurd (h _ refl)
 no_array (object ms) h = refl
 
-pub an_array : (t : Tree) (n : ℕ) → head_of t ≡ Array n → (ts : Items) × (t ≡ array ts) × (n ≡ length (item_parts ts))
+pub an_array : (t : Tree) (n : ℕ) → head_of t ≡ Ok (Array n) → (ts : Items) × (t ≡ array ts) × (n ≡ length (item_parts ts))
 an_array null n e = let z : ◌≡◌ {A = ℕ} 0 1 = cc in let w : ⊥ = omega arith in absurd w
 an_array (boolean x) n e = let z : ◌≡◌ {A = ℕ} 0 1 = cc in let w : ⊥ = omega arith in absurd w
 an_array (number b) n e = let z : ◌≡◌ {A = ℕ} 0 1 = cc in let w : ⊥ = omega arith in absurd w
@@ -74,29 +73,29 @@ an_array (array ts) n e = (ts, refl, cc)
 an_array (object ms) n e = let z : ◌≡◌ {A = ℕ} 0 1 = cc in let w : ⊥ = omega arith in absurd w
 
 -- A record as an item.
-pub nested_gives : (m : Answer Tree) (n : Nesting) → n ≡ nesting m → ((r : Refusal) → n ≡ NotNested r → ⊥)
+pub nested_gives : (m : Answer Tree) (n : Result Bool Refusal) → n ≡ nesting m → ((r : Refusal) → n ≡ Err r → ⊥)
     → (u : Tree) × (m ≡ gives u)
 nested_gives (gives u) n e h = (u, refl)
 nested_gives (refused r) n e h = absurd (h r e)
 
-pub nested_refused : (m : Answer Tree) (n : Nesting) (x : Refusal) → n ≡ nesting m → n ≡ NotNested x → m ≡ refused x
+pub nested_refused : (m : Answer Tree) (n : Result Bool Refusal) (x : Refusal) → n ≡ nesting m → n ≡ Err x → m ≡ refused x
 nested_refused (gives u) n x e q = absurd (no_refusal (leb (depth u) 63) (sym e ∙ q))
   where
-    no_refusal : (b : Bool) → cond b Fits Deep ≡ NotNested x → ⊥
+    no_refusal : (b : Bool) → Ok b ≡ Err x → ⊥
     no_refusal true z = let w : ◌≡◌ {A = ℕ} 0 1 = cc in omega arith
     no_refusal false z = let w : ◌≡◌ {A = ℕ} 0 1 = cc in omega arith
 nested_refused (refused r) n x e q = cc
 
-pub deep_nesting : (u : Tree) → Deep ≡ nesting (gives u) → 63 < depth u
+pub deep_nesting : (u : Tree) → Ok false ≡ nesting (gives u) → 63 < depth u
 deep_nesting u e = go (dec_le (depth u) 63)
   where
     go : Dec (depth u ≤ 63) → 63 < depth u
-    go (yes k) = let z : Deep ≡ Fits = e ∙ ap (λ b. cond b Fits Deep) (le-leb (depth u) 63 k) in let w : ◌≡◌ {A = ℕ} 0 1 = cc in let v : ⊥ = omega arith in absurd v
+    go (yes k) = let z : Ok false ≡ Ok true = e ∙ ap Ok (le-leb (depth u) 63 k) in let w : ◌≡◌ {A = ℕ} 0 1 = cc in let v : ⊥ = omega arith in absurd v
     go (no k) = omega arith
 
-pub fits_nesting : (u : Tree) (n : Nesting) → n ≡ nesting (gives u) → (n ≡ Deep → ⊥) → depth u ≤ 63
+pub fits_nesting : (u : Tree) (n : Result Bool Refusal) → n ≡ nesting (gives u) → (n ≡ Ok false → ⊥) → depth u ≤ 63
 fits_nesting u n e h = go (dec_le (depth u) 63)
   where
     go : Dec (depth u ≤ 63) → depth u ≤ 63
     go (yes k) = k
-    go (no k) = absurd (h (e ∙ ap (λ b. cond b Fits Deep) (lt-leb (depth u) 63 (omega arith))))
+    go (no k) = absurd (h (e ∙ ap Ok (lt-leb (depth u) 63 (omega arith))))

@@ -3,8 +3,8 @@ use mathlib.Core.Path.{◌≡◌, refl, ap, ◌∙◌, subst}
 use Rattle.layout.specs.Bytes.{Bytes}
 use Rattle.layout.specs.Order.{order}
 use Rattle.layout.specs.Sound.{◌≺◌}
-use Rattle.layout.specs.declared.order.Ordering.{Ordering}
-use Rattle.layout.specs.declared.order.Ordering.TheVariants.{Less, Equal, Greater}
+use Rattle.std.specs.declared.cmp.Ordering.{Ordering}
+use Rattle.std.specs.declared.cmp.Ordering.TheVariants.{Less, Equal, Greater}
 use Rattle.layout.proofs.Orders.{Says, says}
 use Rattle.layout.proofs.Values.{≺-irrefl, ≺-trans}
 use Rattle.builders.specs.Order.{by}

@@ -6,7 +6,6 @@ use mathlib.Core.Path.{◌≡◌, refl, ap, sym, ◌∙◌}
 use mathlib.Core.Bool.{Bool, true, false, ◌&&◌}
 use mathlib.Core.List.{List, [], ◌∷◌}
 use lib.Dec.{T, leb, leb→le, eqb→eq}
-use mathlib.Core.Option.{some}
 use lib.ListN.{length}
 use Rattle.layout.specs.Bytes.{Bytes, Octets}
 use Rattle.layout.specs.Answer.{Answer, gives, refused, ◌>>=◌, require}
@@ -30,6 +29,7 @@ use Rattle.layout.proofs.Pipelines.{written_result, found_written}
 use Rattle.builders.specs.Build.{items_of, text_of, texts_of, count, join, append, build, on_two}
 use Rattle.builders.proofs.InOrders.{in_order_rising, in_order_valid, in_order_sound, in_order_same}
 use Rattle.builders.proofs.Builds.{count_item_parts}
+use Rattle.std.specs.Prelude.{Some}
 
 -- An edit that gives a valid tree of valid trees.
 abbrev pub Keeps : (Tree → Tree → Answer Tree) → Type 0
@@ -52,12 +52,12 @@ pub on_two_is : (edit : Tree → Tree → Answer Tree) (l r : Bytes) (room : ℕ
 unfolding on_two on_record ◌>>=◌
 on_two_is edit l r room = by_reads (read l) (read r)
   where
-    by_edit : (m : Answer Tree) → found room (m >>= λ v. within v >>= λ w. gives (some w)) ≡ written room (m >>= λ v. within v)
+    by_edit : (m : Answer Tree) → found room (m >>= λ v. within v >>= λ w. gives (Some w)) ≡ written room (m >>= λ v. within v)
     by_edit (gives v) = found_written room (within v)
     by_edit (refused x) = refl
 
     by_reads : (a b : Answer Tree)
-        → found room (a >>= λ t. b >>= λ u. edit t u >>= λ v. within v >>= λ w. gives (some w))
+        → found room (a >>= λ t. b >>= λ u. edit t u >>= λ v. within v >>= λ w. gives (Some w))
         ≡ written room (a >>= λ t. b >>= λ u. edit t u >>= λ v. within v)
     by_reads (refused x) b = refl
     by_reads (gives t) (refused x) = refl

@@ -10,8 +10,8 @@ use Rattle.layout.specs.Entry.{code, length_of}
 use Rattle.layout.specs.Tree.{Tree, Items, none, item, Members, empty, member, names, pair}
 use Rattle.layout.specs.Encode.{Part, entry_word, entries, payloads, name_part, name_parts, payload, item_parts, member_parts, part}
 use Rattle.layout.specs.Order.{order}
-use Rattle.layout.specs.declared.order.Ordering.{Ordering}
-use Rattle.layout.specs.declared.order.Ordering.TheVariants.{Less, Equal, Greater}
+use Rattle.std.specs.declared.cmp.Ordering.{Ordering}
+use Rattle.std.specs.declared.cmp.Ordering.TheVariants.{Less, Equal, Greater}
 use Rattle.layout.proofs.Words.{word_be32, drop_be32}
 use Rattle.layout.proofs.Fields.{length_entry, word_at_drop}
 use Rattle.layout.proofs.Level.{Fits, AllFit, code_small}

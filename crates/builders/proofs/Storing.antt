@@ -3,29 +3,25 @@ use Prim.Native.Nat.{ℕ, suc, ◌+◌, ◌*◌, ◌^◌, ◌<◌, ◌≤◌, ze
 use native.Mathlib.Omega.{arith}
 use native.Mathlib.Numerals.{add-one}
 use mathlib.Core.Path.{◌≡◌, refl, ap, sym, ◌∙◌}
-use mathlib.Core.Bool.{false}
 use mathlib.Core.List.{List, [], ◌∷◌}
-use lib.Dec.{eqb}
 use lib.ListN.{length, drop, length-append, drop_of_length-le}
-use borrow.Author.Tests.{ne_eqb}
 use Rattle.layout.specs.Bytes.{Bytes, be32}
 use Rattle.layout.specs.Order.{order}
 use Rattle.layout.specs.Patch.{patch}
-use Rattle.layout.specs.declared.order.Ordering.{Ordering}
-use Rattle.layout.specs.declared.order.Ordering.TheVariants.{Less, Equal, Greater}
+use Rattle.std.specs.declared.cmp.Ordering.{Ordering}
+use Rattle.std.specs.declared.cmp.Ordering.TheVariants.{Less, Equal, Greater}
 use Rattle.layout.proofs.Patches.{length_patch}
 use Rattle.builders.specs.Order.{by}
 use Rattle.layout.specs.Parts.{bytes_at, name_in, value_in, members_at, past}
-use Rattle.builders.specs.Search.{kept_of, bound, least, nth}
+use Rattle.builders.specs.Search.{kept_of, Bound, least, nth}
 use Rattle.builders.specs.Sorted.{put_in, put_all, sorted}
 use Rattle.builders.specs.Weave.{behind, own_entry, stored, woven, column}
 use Rattle.layout.specs.declared.parts.ItemAt.{ItemAt}
 use Rattle.layout.specs.declared.parts.MemberAt.{MemberAt}
 use Rattle.layout.specs.declared.parts.Places.{Places}
 use Rattle.builders.specs.declared.search.Kept.{Kept}
-use Rattle.builders.specs.declared.search.Found.{Found}
-use Rattle.builders.specs.declared.search.Found.TheVariants.{Nothing, At}
 use Rattle.builders.proofs.Searches.{bound_at, bound_next, search_nth, length_sorted, length_members, length_kept, bytes_short, nth_none, nth_inside, nth_drop}
+use Rattle.std.specs.Prelude.{Some, None, Option}
 
 pub payload_short : (s r : Bytes) (x : ItemAt) → r ≡ bytes_at s x → length r < 2 ^ 28
 payload_short s r x e = rw e (bytes_short s x)
@@ -79,37 +75,36 @@ module _ (name : MemberAt → Bytes) (searched : List MemberAt) where
   abbrev in_turn : List MemberAt
   in_turn = sorted name searched
 
-  pub record Sought (last : Bytes) (i : ℕ) : Type 0 where
+  pub record Sought (last : Bound) (i : ℕ) : Type 0 where
     pub count : i ≤ length in_turn
-    pub known : bound (eqb i 0) last ≡ bound_at name in_turn i
+    pub known : last ≡ bound_at name in_turn i
 
-  pub sought_none : (last : Bytes) → Sought last 0
+  pub sought_none : Sought None 0
   unfolding bound_at
-  sought_none last = record { count = zero-le; known = refl }
+  sought_none = record { count = zero-le; known = refl }
 
   pub sought_all : (n i : ℕ) → length searched ≤ n → n ≤ i → length in_turn ≤ i
   sought_all n i l h = omega (arith, length_sorted name searched)
 
-  module _ (last : Bytes) (i : ℕ) (now : Sought last i) (found : Found) (hf : found ≡ least name (bound (eqb i 0) last) Nothing searched) where
+  module _ (last : Bound) (i : ℕ) (now : Sought last i) (found : Option MemberAt) (hf : found ≡ least name last None searched) where
     next_is : found ≡ nth in_turn i
-    next_is = hf ∙ ap (λ b. least name b Nothing searched) now.known ∙ search_nth name searched i now.count
+    next_is = hf ∙ ap (λ b. least name b None searched) now.known ∙ search_nth name searched i now.count
 
-    pub sought_end : found ≡ Nothing → length in_turn ≤ i
+    pub sought_end : found ≡ None → length in_turn ≤ i
     sought_end q = nth_none in_turn i (sym next_is ∙ q)
 
-    module _ (m : MemberAt) (q : found ≡ At m) where
-      pub sought_nth : nth in_turn i ≡ At m
+    module _ (m : MemberAt) (q : found ≡ Some m) where
+      pub sought_nth : nth in_turn i ≡ Some m
       sought_nth = sym next_is ∙ q
 
       pub sought_cut : drop i in_turn ≡ m ∷ drop (suc i) in_turn
       sought_cut = nth_drop in_turn i m sought_nth
 
-      pub sought_more : (next : Bytes) → next ≡ name m → Sought next (i + 1)
+      pub sought_more : (next : Bytes) → next ≡ name m → Sought (Some next) (i + 1)
       sought_more next e =
-          let later : eqb (i + 1) 0 ≡ false = ne_eqb (i + 1) 0 (λ z. omega arith) in
           record {
             count = omega (arith, nth_inside in_turn i m sought_nth);
-            known = rw (later, add-one i, e) (sym (bound_next name in_turn i m sought_nth));
+            known = rw (add-one i, e) (sym (bound_next name in_turn i m sought_nth));
           }
 
 -- The loop: `i` members of those in byte order are stored, and the rest is to come.
@@ -120,7 +115,7 @@ module _ (name value : MemberAt → Bytes) (entry : MemberAt → ℕ) (searched 
   abbrev weave : Bytes → Places → List MemberAt → Bytes
   weave out at = woven name value entry out at.key_jentry at.val_jentry at.key at.val
 
-  pub record Stored (out last : Bytes) (at : Places) (i : ℕ) : Type 0 where
+  pub record Stored (out : Bytes) (last : Bound) (at : Places) (i : ℕ) : Type 0 where
     pub sought : Sought name searched last i
     pub key_jentry : at.key_jentry ≡ to.key_jentry + 4 * i
     pub val_jentry : at.val_jentry ≡ to.val_jentry + 4 * i
@@ -133,10 +128,10 @@ module _ (name value : MemberAt → Bytes) (entry : MemberAt → ℕ) (searched 
     pub run : weave o to all ≡ weave out at (drop i all)
     pub as_long : length out ≡ length o
 
-  pub begins : (last : Bytes) → Stored o last to 0
-  begins last =
+  pub begins : Stored o None to 0
+  begins =
       record {
-        sought = sought_none name searched last;
+        sought = sought_none name searched;
         key_jentry = omega arith;
         val_jentry = omega arith;
         near_key = omega arith;
@@ -149,7 +144,7 @@ module _ (name value : MemberAt → Bytes) (entry : MemberAt → ℕ) (searched 
         as_long = refl;
       }
 
-  module _ (out last : Bytes) (at : Places) (i : ℕ) (now : Stored out last at i) where
+  module _ (out : Bytes) (last : Bound) (at : Places) (i : ℕ) (now : Stored out last at i) where
     ended : length all ≤ i → out ≡ weave o to all
     unfolding woven
     ended h = sym (rw (drop_of_length-le all h) at now.run)
@@ -170,14 +165,14 @@ module _ (name value : MemberAt → Bytes) (entry : MemberAt → ℕ) (searched 
     pub ends_full : (n : ℕ) → length searched ≤ n → n ≤ i → out ≡ weave o to all
     ends_full n l h = ended (sought_all name searched n i l h)
 
-    module _ (found : Found) (hf : found ≡ least name (bound (eqb i 0) last) Nothing searched) where
-      pub ends_early : found ≡ Nothing → out ≡ weave o to all
+    module _ (found : Option MemberAt) (hf : found ≡ least name last None searched) where
+      pub ends_early : found ≡ None → out ≡ weave o to all
       ends_early q = ended (sought_end name searched last i now.sought found hf q)
 
-      pub goes : (m : MemberAt) (next out' : Bytes) (at' : Places) → found ≡ At m
+      pub goes : (m : MemberAt) (next out' : Bytes) (at' : Places) → found ≡ Some m
           → (at' ≡ behind (name m) (value m) at)
           × (out' ≡ stored name value entry out at.key_jentry at.val_jentry at.key at.val m)
-          → next ≡ name m → length (name m) < 2 ^ 28 → length (value m) < 2 ^ 28 → Stored out' next at' (i + 1)
+          → next ≡ name m → length (name m) < 2 ^ 28 → length (value m) < 2 ^ 28 → Stored out' (Some next) at' (i + 1)
       unfolding woven
       goes m next out' at' q h hn ln lv =
           let cut : drop i all ≡ m ∷ drop (suc i) all = sought_cut name searched last i now.sought found hf m q in

@@ -4,7 +4,6 @@ use native.Mathlib.Omega.{arith}
 use native.Mathlib.Decide.{dec_le}
 use mathlib.Core.Path.{◌≡◌, refl, ap, ◌∙◌}
 use mathlib.Core.Bool.{Bool, true, false, cond, ◌&&◌}
-use mathlib.Core.Option.{Option, some}
 use lib.Dec.{leb, ltb}
 use lib.ListN.{length}
 use borrow.Author.Tests.{le-leb, lt-leb, le-ltb, lt-ltb}
@@ -18,14 +17,14 @@ use Rattle.layout.specs.Ended.{refusal, into}
 use Rattle.layout.specs.Room.{EndedIn, Fits}
 use Rattle.layout.specs.declared.refusal.Refusal.{Refusal}
 use Rattle.layout.specs.declared.refusal.Refusal.TheVariants.{Result}
-use Rattle.layout.specs.declared.ending.Ending.{Ending}
-use Rattle.layout.specs.declared.ending.Ending.TheVariants.{Refused}
 use Rattle.layout.proofs.Patches.{in_refused}
 use Rattle.layout.proofs.Pipelines.{found_written, record_fits, record_first, record_second, record_given, record_edit}
 use Rattle.layout.proofs.Readables.{length_encode}
 use Rattle.layout.specs.Pipeline.{within, written}
 use Rattle.builders.specs.Build.{on_two}
 use Rattle.builders.specs.Room.{sized}
+use Rattle.std.specs.Prelude.{Err, Some, Option}
+use Rattle.layout.specs.Ended.{Ending}
 
 pub and_false : (a : Bool) → (a && false) ≡ false
 and_false true = refl
@@ -50,20 +49,20 @@ written_sized v b room d e =
 
 -- The lines of an edit of two records are those of the pipeline.
 abbrev lines : (Tree → Tree → Answer Tree) → Tree → Tree → Answer (Option Tree)
-lines edit t u = edit t u >>= λ v. within v >>= λ w. gives (some w)
+lines edit t u = edit t u >>= λ v. within v >>= λ w. gives (Some w)
 
 module _ (edit : Tree → Tree → Answer Tree) (l r o : Bytes) (room : ℕ) where
-  pub two_left : (x : Refusal) → read l ≡ refused x → EndedIn (Refused x) o o (on_two edit l r room)
+  pub two_left : (x : Refusal) → read l ≡ refused x → EndedIn (Err x) o o (on_two edit l r room)
   unfolding on_two
   two_left = record_first read (lines edit) l r room o
 
   module _ (t : Tree) (hl : read l ≡ gives t) where
-    pub two_right : (x : Refusal) → read r ≡ refused x → EndedIn (Refused x) o o (on_two edit l r room)
+    pub two_right : (x : Refusal) → read r ≡ refused x → EndedIn (Err x) o o (on_two edit l r room)
     unfolding on_two
     two_right = record_second read (lines edit) l r room o t hl
 
     module _ (u : Tree) (hr : read r ≡ gives u) where
-      pub two_edit : (x : Refusal) → edit t u ≡ refused x → EndedIn (Refused x) o o (on_two edit l r room)
+      pub two_edit : (x : Refusal) → edit t u ≡ refused x → EndedIn (Err x) o o (on_two edit l r room)
       unfolding on_two ◌>>=◌
       two_edit x e = record_edit read (lines edit) l r room o t hl u hr x (rw e)
 
@@ -71,10 +70,10 @@ module _ (edit : Tree → Tree → Answer Tree) (l r o : Bytes) (room : ℕ) whe
         two_is : on_two edit l r room ≡ written room (within v)
         unfolding on_two ◌>>=◌
         two_is =
-            record_given read (lines edit) l r room o t hl u hr (within v >>= λ w. gives (some w)) (rw he)
+            record_given read (lines edit) l r room o t hl u hr (within v >>= λ w. gives (Some w)) (rw he)
             ∙ found_written room (within v)
 
-        pub two_deep : 64 < depth v → EndedIn (Refused Result) o o (on_two edit l r room)
+        pub two_deep : 64 < depth v → EndedIn (Err Result) o o (on_two edit l r room)
         two_deep h = in_refused o _ Result (two_is ∙ ap (written room) (within_deep v h))
 
         pub two_sized : (e : Ending) (o' b : Bytes) → depth v ≤ 64 → b ≡ encode v → EndedIn e o o' (sized room b)

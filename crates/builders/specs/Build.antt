@@ -1,6 +1,5 @@
 -- Append and object build: document 01, "Builders", with the numbers of "Who can cause each number" in their order.
-use Rattle.std.specs.Prelude.{ℕ, suc, List, [], ◌∷◌, eqb}
-use Rattle.std.proofs.Math.Option.{some}
+use Rattle.std.specs.Prelude.{ℕ, suc, List, [], ◌∷◌, eqb, Some}
 use Rattle.layout.specs.Bytes.{Bytes}
 use Rattle.layout.specs.Answer.{Answer, gives, refused, ◌>>=◌, require}
 use Rattle.layout.specs.Tree.{Tree, null, boolean, number, string, extension, array, object, Items, none, item, pair}
@@ -68,4 +67,4 @@ build t u = do
 unfoldable pub on_two : (Tree → Tree → Answer Tree) → Bytes → Bytes → ℕ → Outcome
 unfolding on_record append build
 on_two edit left right room =
-    on_record read (λ t u. edit t u >>= λ v. within v >>= λ w. gives (some w)) left right room
+    on_record read (λ t u. edit t u >>= λ v. within v >>= λ w. gives (Some w)) left right room

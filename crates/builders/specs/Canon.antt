@@ -1,8 +1,8 @@
 -- The one sound tree of a value: its members in byte order at every level. `canon_sound`, `same_canon` and `same_canons` of
 -- proofs/Canons.antt say that it is sound, has the same value, and that values are equal exactly where these trees are.
-use Rattle.std.proofs.Math.Option.{Option, none as nothing, some}
 use Rattle.layout.specs.Tree.{Tree, null, boolean, number, string, extension, array, object, Items, none, item, Members, empty, member}
 use Rattle.builders.specs.Order.{in_order}
+use Rattle.std.specs.Prelude.{Some, None, Option}
 
 abbrev mutual
   pub canon : Tree → Tree
@@ -24,5 +24,5 @@ abbrev mutual
   canon_members (member n t ms) = member n (canon t) (canon_members ms)
 
 abbrev pub canon_found : Option Tree → Option Tree
-canon_found nothing = nothing
-canon_found (some t) = some (canon t)
+canon_found None = None
+canon_found (Some t) = Some (canon t)

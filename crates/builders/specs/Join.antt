@@ -1,13 +1,14 @@
 -- Two records written as one container: the header, the entries that each gives, the payloads that each gives. A record gives
 -- the items of its table, of which a scalar has one, or itself whole as one item. That this is an array's record says
 -- `joined_encode` of proofs/Joins.antt, and that it is an object's `joined_object` of proofs/Builds.antt.
-use Rattle.std.specs.Prelude.{ℕ, ◌+◌, ◌*◌, ◌-◌, ◌≤◌, ◌++◌, length, take, drop}
+use Rattle.std.specs.Prelude.{ℕ, ◌+◌, ◌*◌, ◌-◌, ◌≤◌, ◌++◌, length, take, drop, Ok, Err, Result}
 use Rattle.layout.specs.Bytes.{Bytes, be32}
 use Rattle.layout.specs.Entry.{entry_of}
 use Rattle.layout.specs.declared.util.Header.{Header}
-use Rattle.layout.specs.declared.util.Header.TheVariants.{Array, Object, Scalar, Refused}
+use Rattle.layout.specs.declared.util.Header.TheVariants.{Array, Object, Scalar}
 use Rattle.builders.specs.declared.join.Given.{Given}
 use Rattle.builders.specs.declared.join.Given.TheVariants.{Table, Whole}
+use Rattle.layout.specs.declared.refusal.Refusal.{Refusal}
 
 -- How many items.
 unfoldable pub given_count : Given → ℕ
@@ -29,11 +30,11 @@ pub record Lies (s : Bytes) (g : Given) : Type 0 where
   pub short : length s ≤ 65536
 
 -- A record as one item.
-abbrev pub as_one : Header → Given
-as_one (Array n) = Whole
-as_one (Object n) = Whole
-as_one (Scalar n) = Table 1
-as_one (Refused r) = Whole
+abbrev pub as_one : Result Header Refusal → Given
+as_one (Ok (Array n)) = Whole
+as_one (Ok (Object n)) = Whole
+as_one (Ok (Scalar n)) = Table 1
+as_one (Err r) = Whole
 
 unfoldable pub joined : ℕ → Bytes → Given → Bytes → Given → Bytes
 joined w s g r h =

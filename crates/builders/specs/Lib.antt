@@ -10,5 +10,6 @@ pub mod Room
 pub mod Join
 pub mod Names
 pub mod Search
+pub mod Searched
 pub mod Sorted
 pub mod Weave

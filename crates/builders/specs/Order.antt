@@ -1,13 +1,12 @@
 -- Members in byte order: document 01, "Every object written anew has its names in byte order", "the first of any repeated names
 -- remaining is kept", and "8 repeated name". How two names compare is layout's `order`, which says what its `◌≺◌` says: `says` of
 -- layout's proofs/Orders.antt.
-use Rattle.std.specs.Prelude.{Bool, true, false, not, ◌&&◌, ◌||◌, List, [], ◌∷◌}
-use Rattle.std.proofs.Math.Option.{Option, none, some}
+use Rattle.std.specs.Prelude.{Bool, true, false, not, ◌&&◌, ◌||◌, List, [], ◌∷◌, Some, None, Option}
 use Rattle.layout.specs.Bytes.{Bytes}
 use Rattle.layout.specs.Tree.{Tree, Members, empty, member}
 use Rattle.layout.specs.Order.{order, same_bytes}
-use Rattle.layout.specs.declared.order.Ordering.{Ordering}
-use Rattle.layout.specs.declared.order.Ordering.TheVariants.{Less, Equal, Greater}
+use Rattle.std.specs.declared.cmp.Ordering.{Ordering}
+use Rattle.std.specs.declared.cmp.Ordering.TheVariants.{Less, Equal, Greater}
 
 -- One of three, by how two names compare.
 abbrev pub by : {A : Type 0} → Ordering → A → A → A → A
@@ -38,8 +37,8 @@ follow (member n t done) ms = member n t (follow done ms)
 -- The value of "the first member whose name has equal bytes". It says what `in_order` keeps: `find_in_order` of
 -- proofs/InOrders.antt.
 abbrev pub find : Bytes → Members → Option Tree
-find n empty = none
-find n (member m t ms) = by (order n m) (find n ms) (some t) (find n ms)
+find n empty = None
+find n (member m t ms) = by (order n m) (find n ms) (Some t) (find n ms)
 
 -- "8 repeated name": whether a name is among others, and whether no name is there twice.
 unfoldable pub has : Bytes → List Bytes → Bool

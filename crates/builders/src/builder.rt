@@ -7,11 +7,11 @@ ghost use Rattle.builders.specs.Order.{distinct};
 ghost use Rattle.builders.specs.Build.{append as appendOf, build, on_two};
 ghost use Rattle.builders.specs.Names.{Pairs};
 
-use crate::join::{Given, as_item, write_joined};
+use crate::join::{Given, Piece, as_item, write_joined};
 use crate::names::{are_strings, is_distinct};
-use crate::room::{Room, check_room};
-use crate::search::{Kept, put_members};
-use layout::check::{Check, Nesting, check_nesting, check_record};
+use crate::room::check_room;
+use crate::search::{Kept, Members};
+use layout::check::{check_nesting, check_record};
 use layout::constants::{ARRAY_CONTAINER_TAG, HEADER_SIZE, JENTRY_SIZE, OBJECT_CONTAINER_TAG};
 use layout::ending::Ending;
 use layout::parts::Places;
@@ -24,29 +24,24 @@ use layout::writer::put_u32;
 fn write_appended(array: &[u8], item: &[u8], out: &mut [u8], room: usize) -> Ending
     ensures { EndedIn result out.old out.new (on_two appendOf array.now item.now room) }
 {
-    if let Check::Refused(refusal) = check_record(array) {
-        return Ending::Refused(refusal);
-    }
-    let nesting = check_nesting(item);
-    if let Nesting::Refused(refusal) = nesting {
-        return Ending::Refused(refusal);
-    }
-    let Header::Array(n) = read_header(array) else {
-        return Ending::Refused(Refusal::Kind);
+    check_record(array)?;
+    let fits = check_nesting(item)?;
+    let Header::Array(n) = read_header(array)? else {
+        return Err(Refusal::Kind);
     };
-    if let Nesting::Deep = nesting {
-        return Ending::Refused(Refusal::Result);
+    if !fits {
+        return Err(Refusal::Result);
     }
     let header = ARRAY_CONTAINER_TAG | (n + 1) as u32;
-    write_joined(
-        header,
-        array,
-        Given::Table(n),
-        item,
-        as_item(item),
-        out,
-        room,
-    )
+    let left = Piece {
+        record: array,
+        given: Given::Table(n),
+    };
+    let right = Piece {
+        record: item,
+        given: as_item(item),
+    };
+    write_joined(header, &left, &right, out, room)
 }
 
 // The same, for the edit and for its preview: with two callers the compiler keeps it apart. A slice that is handed on as it came is
@@ -73,11 +68,9 @@ fn write_sorted(names: &[u8], values: &[u8], n: usize, out: &mut [u8], room: usi
     ensures { EndedIn result out.old out.new (on_two build names.now values.now room) }
 {
     let len = names.len() + (values.len() - HEADER_SIZE);
-    if let Room::Refused(refusal) = check_room(len, room) {
-        return Ending::Refused(refusal);
-    }
+    check_room(len, room)?;
     if out.len() == 0 {
-        return Ending::Done(len);
+        return Ok(Some(len));
     }
     let start = HEADER_SIZE + JENTRY_SIZE * n;
     let from = Places {
@@ -93,8 +86,15 @@ fn write_sorted(names: &[u8], values: &[u8], n: usize, out: &mut [u8], room: usi
         val: names.len() + JENTRY_SIZE * n,
     };
     put_u32(out, 0, OBJECT_CONTAINER_TAG | n as u32);
-    put_members(names, values, from, n, Kept::All, out, to);
-    Ending::Done(len)
+    let members = Members {
+        keys: names,
+        vals: values,
+        from,
+        count: n,
+        kept: Kept::All,
+    };
+    members.put_members(out, to);
+    Ok(Some(len))
 }
 
 // The object of n names, all strings, with n values. Names that rise already stay as they stand.
@@ -105,45 +105,41 @@ fn build_members(names: &[u8], values: &[u8], n: usize, out: &mut [u8], room: us
     let start = HEADER_SIZE + JENTRY_SIZE * n;
     if is_rising(names, n, start) {
         let header = OBJECT_CONTAINER_TAG | n as u32;
-        return write_joined(
-            header,
-            names,
-            Given::Table(n),
-            values,
-            Given::Table(n),
-            out,
-            room,
-        );
+        let left = Piece {
+            record: names,
+            given: Given::Table(n),
+        };
+        let right = Piece {
+            record: values,
+            given: Given::Table(n),
+        };
+        return write_joined(header, &left, &right, out, room);
     }
     if is_distinct(names, n, start) {
         return write_sorted(names, values, n, out, room);
     }
-    Ending::Refused(Refusal::Repeated)
+    Err(Refusal::Repeated)
 }
 
 // Builds an object from an array of names and an array of values, where it goes into `room` bytes.
 fn write_built(names: &[u8], values: &[u8], out: &mut [u8], room: usize) -> Ending
     ensures { EndedIn result out.old out.new (on_two build names.now values.now room) }
 {
-    if let Check::Refused(refusal) = check_record(names) {
-        return Ending::Refused(refusal);
-    }
-    if let Check::Refused(refusal) = check_record(values) {
-        return Ending::Refused(refusal);
-    }
-    let Header::Array(n) = read_header(names) else {
-        return Ending::Refused(Refusal::Kind);
+    check_record(names)?;
+    check_record(values)?;
+    let Header::Array(n) = read_header(names)? else {
+        return Err(Refusal::Kind);
     };
-    let Header::Array(count) = read_header(values) else {
-        return Ending::Refused(Refusal::Kind);
+    let Header::Array(count) = read_header(values)? else {
+        return Err(Refusal::Kind);
     };
     if n != count {
-        return Ending::Refused(Refusal::Kind);
+        return Err(Refusal::Kind);
     }
     if are_strings(names, n) {
         return build_members(names, values, n, out, room);
     }
-    Ending::Refused(Refusal::Kind)
+    Err(Refusal::Kind)
 }
 
 // The same, for the edit and for its preview; slices are handed on as in `append_in`.

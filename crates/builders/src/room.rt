@@ -5,21 +5,16 @@ ghost use Rattle.builders.specs.Room.{room_for};
 use layout::constants::RECORD_LIMIT;
 use layout::refusal::Refusal;
 
-#[derive(Clone, Copy)]
-pub enum Room {
-    Serves,
-    Refused(Refusal),
-}
-
 // Whether a buffer of `room` bytes serves for a result of `len`.
-pub fn check_room(len: usize, room: usize) -> Room
+#[tactic(auto, unfolding(crate::specs::Room::room_for))]
+pub fn check_room(len: usize, room: usize) -> Result<(), Refusal>
     ensures { result ≡ room_for len room }
 {
     if RECORD_LIMIT < len {
-        return Room::Refused(Refusal::Result);
+        return Err(Refusal::Result);
     }
     if room < len {
-        return Room::Refused(Refusal::Buffer);
+        return Err(Refusal::Buffer);
     }
-    Room::Serves
+    Ok(())
 }

@@ -1,10 +1,10 @@
 // The search for the next name in byte order. It stands in for the Rust's BTreeMap of members: no
 // work buffer is lent, so each name is searched for anew.
-ghost use Rattle.std.specs.Prelude.{◌≡◌, cond, ◌+◌, ◌^◌, ◌<◌};
-ghost use Rattle.layout.specs.Parts.{bytes_at, member_at, members_at};
-ghost use Rattle.builders.specs.Search.{bound, over, better, turn, least};
+ghost use Rattle.std.specs.Prelude.{◌≡◌, cond, option_copied, ◌+◌, ◌^◌, ◌<◌, Some, None};
+ghost use Rattle.layout.specs.Parts.{bytes_at};
+ghost use Rattle.builders.specs.Search.{over, better, turn, least};
 ghost use Rattle.builders.specs.Sorted.{sorted};
-ghost use Rattle.builders.specs.Search.{is_kept, kept_of};
+ghost use Rattle.builders.specs.Search.{is_kept};
 ghost use Rattle.layout.specs.Parts.{name_in, value_in};
 ghost use Rattle.builders.specs.Weave.{behind, own_entry, stored, woven};
 
@@ -12,7 +12,6 @@ use layout::constants::NULL_CODE;
 use layout::jentry::type_code;
 use layout::order::is_before;
 use layout::parts::{MemberAt, Places, payload_at, places_behind, places_past, read_member};
-use layout::util::slice;
 use layout::writer::{copy, put_u32};
 
 // Which members are searched: all, all but one, told by how many stand before it, or those whose value is not null.
@@ -23,34 +22,43 @@ pub enum Kept {
     NonNull,
 }
 
-// What the search has found.
+// The members that are searched: of `count` names and values from these places on, those that are kept. However long they are, no
+// place is a sum beyond the machine's word.
 #[derive(Clone, Copy)]
-pub enum Found {
-    Nothing,
-    At(MemberAt),
+pub struct Members<'a> {
+    pub keys: &'a [u8],
+    pub vals: &'a [u8],
+    pub from: Places,
+    pub count: usize,
+    pub kept: Kept,
+    ghost near: { (count < 2 ^ 29)
+        × (from.key_jentry < 2 ^ 32) × (from.val_jentry < 2 ^ 32) × (from.key < 2 ^ 32) × (from.val < 2 ^ 32) },
 }
 
 // Whether a name comes behind the last one taken; at first each does.
-fn is_over(is_first: bool, last: &[u8], name: &[u8]) -> bool
-    ensures { result ≡ over (bound is_first last.now) name.now }
+#[tactic(auto, unfolding(crate::specs::Search::over))]
+fn is_over(last: Option<&[u8]>, name: &[u8]) -> bool
+    ensures { result ≡ over (option_copied last.entry) name.now }
 {
-    if is_first {
-        return true;
+    match last {
+        None => true,
+        Some(last) => is_before(last, name),
     }
-    is_before(last, name)
 }
 
 // Whether a member has a lesser name than the best so far; of equal names the earlier stays.
-fn is_better(keys: &[u8], best: Found, member: MemberAt) -> bool
-    ensures { better (name_in keys.now) best member ≡ cond result (Found.At member) best }
+#[tactic(auto, unfolding(crate::specs::Search::better))]
+fn is_better(keys: &[u8], best: Option<MemberAt>, member: MemberAt) -> bool
+    ensures { better (name_in keys.now) best member ≡ cond result (Some member) best }
 {
-    let Found::At(other) = best else {
+    let Some(other) = best else {
         return true;
     };
     is_before(payload_at(keys, member.key), payload_at(keys, other.key))
 }
 
 // Whether the member behind `i` others is searched.
+#[tactic(auto, unfolding(crate::specs::Search::is_kept))]
 pub fn is_kept(kept: Kept, i: usize, member: MemberAt) -> bool
     ensures { result ≡ is_kept kept i member }
 {
@@ -62,53 +70,18 @@ pub fn is_kept(kept: Kept, i: usize, member: MemberAt) -> bool
 }
 
 // Whether a member is taken for the best so far: where it is searched, and its name comes behind the last and before the best's.
+#[tactic(auto, unfolding(crate::specs::Search::turn, crate::specs::Search::step))]
 fn is_taken(
     keys: &[u8],
     is_searched: bool,
-    is_first: bool,
-    last: &[u8],
-    best: Found,
+    last: Option<&[u8]>,
+    best: Option<MemberAt>,
     member: MemberAt,
 ) -> bool
-    ensures { turn (name_in keys.now) (bound is_first last.now) is_searched best member
-        ≡ cond result (Found.At member) best }
+    ensures { turn (name_in keys.now) (option_copied last.entry) is_searched best member
+        ≡ cond result (Some member) best }
 {
-    if !is_searched {
-        return false;
-    }
-    if is_over(is_first, last, payload_at(keys, member.key)) {
-        return is_better(keys, best, member);
-    }
-    false
-}
-
-// Of `count` members, those left out aside, the first with the least name behind the last one taken.
-pub fn next_member(
-    keys: &[u8],
-    vals: &[u8],
-    from: Places,
-    count: usize,
-    kept: Kept,
-    is_first: bool,
-    last: &[u8],
-) -> Found
-    requires { (count < 2 ^ 29)
-        × (from.key_jentry < 2 ^ 32) × (from.val_jentry < 2 ^ 32) × (from.key < 2 ^ 32) × (from.val < 2 ^ 32) }
-    ensures { result ≡ least (name_in keys.now) (bound is_first last.now) Found.Nothing
-        (kept_of kept 0 (members_at keys.now vals.now from count)) }
-{
-    let mut best = Found::Nothing;
-    let mut at = from;
-    let mut i = 0;
-    while i < count {
-        let member = read_member(keys, vals, at);
-        if is_taken(keys, is_kept(kept, i, member), is_first, last, best, member) {
-            best = Found::At(member);
-        }
-        at = places_behind(at, member);
-        i += 1;
-    }
-    best
+    is_searched && is_over(last, payload_at(keys, member.key)) && is_better(keys, best, member)
 }
 
 // Stores a member's entries, name and value, and gives the places behind them.
@@ -127,35 +100,43 @@ pub fn put_member(keys: &[u8], vals: &[u8], member: MemberAt, out: &mut [u8], at
     places_past(at, name.len(), value.len())
 }
 
-// Stores `count` members, those left out aside, in byte order of their names, of equal names the first, each behind the one
-// before.
-pub fn put_members(
-    keys: &[u8],
-    vals: &[u8],
-    from: Places,
-    count: usize,
-    kept: Kept,
-    out: &mut [u8],
-    to: Places,
-)
-    requires from_near { (count < 2 ^ 29)
-        × (from.key_jentry < 2 ^ 32) × (from.val_jentry < 2 ^ 32) × (from.key < 2 ^ 32) × (from.val < 2 ^ 32) }
-    requires to_near { (to.key_jentry < 2 ^ 32) × (to.val_jentry < 2 ^ 32) × (to.key < 2 ^ 32) × (to.val < 2 ^ 32) }
-    ensures { out.new
-        ≡ woven (name_in keys.now) (value_in vals.now) own_entry out.old
-        to.key_jentry to.val_jentry to.key to.val
-        (sorted (name_in keys.now) (kept_of kept 0 (members_at keys.now vals.now from count))) }
-{
-    // No name was taken yet: the first search does not look at this one.
-    let mut last = slice(keys, 0, 0);
-    let mut at = to;
-    let mut i = 0;
-    while i < count {
-        let Found::At(member) = next_member(keys, vals, from, count, kept, i == 0, last) else {
-            return;
-        };
-        at = put_member(keys, vals, member, out, at);
-        last = payload_at(keys, member.key);
-        i += 1;
+impl<'a> Members<'a> {
+    ghost use Rattle.builders.specs.Searched.{searched};
+
+    // Of these the first with the least name behind the last one taken. Laid into its callers, so that what is searched need not
+    // stand in memory beside it: include/jsonb.h says how little stack an edit takes.
+    #[inline(always)]
+    pub fn next_member(&self, last: Option<&[u8]>) -> Option<MemberAt>
+        ensures { result ≡ least (name_in self.now.keys.now) (option_copied last.entry) None (searched self.now) }
+    {
+        let mut best = None;
+        let mut at = self.from;
+        for i in 0..self.count {
+            let member = read_member(self.keys, self.vals, at);
+            if is_taken(self.keys, is_kept(self.kept, i, member), last, best, member) {
+                best = Some(member);
+            }
+            at = places_behind(at, member);
+        }
+        best
+    }
+
+    // Stores these in byte order of their names, of equal names the first, each behind the one before.
+    pub fn put_members(&self, out: &mut [u8], to: Places)
+        requires { (to.key_jentry < 2 ^ 32) × (to.val_jentry < 2 ^ 32) × (to.key < 2 ^ 32) × (to.val < 2 ^ 32) }
+        ensures { out.new
+            ≡ woven (name_in self.now.keys.now) (value_in self.now.vals.now) own_entry out.old
+            to.key_jentry to.val_jentry to.key to.val
+            (sorted (name_in self.now.keys.now) (searched self.now)) }
+    {
+        let mut last = None;
+        let mut at = to;
+        for _ in 0..self.count {
+            let Some(member) = self.next_member(last) else {
+                return;
+            };
+            at = put_member(self.keys, self.vals, member, out, at);
+            last = Some(payload_at(self.keys, member.key));
+        }
     }
 }

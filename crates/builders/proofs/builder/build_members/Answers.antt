@@ -29,8 +29,11 @@ is_rising-requires c = omega (arith, bounds c)
 pub overflow_cast-header : goal.overflow_cast-header
 overflow_cast-header c = omega (arith, bounds (goal.at.overflow_cast-header c).After-slice_known-1)
 
-pub write_joined-requires : goal.write_joined-requires
-write_joined-requires c = pairs_lie (paired (goal.at.write_joined-requires c).After-slice_known-1)
+pub invariant_of-left : goal.invariant_of-left
+invariant_of-left c = record { lies = (pairs_lie (paired (goal.at.invariant_of-left c).After-slice_known-1)).0 }
+
+pub invariant_of-right : goal.invariant_of-right
+invariant_of-right c = record { lies = (pairs_lie (paired (goal.at.invariant_of-right c).After-slice_known-1)).1 }
 
 pub returns-then-is_rising : goal.returns-then-is_rising
 returns-then-is_rising c = pairs_rising (paired (goal.at.returns-then-is_rising c).After-slice_known-1) _ _ (sym c.is_rising.ensures ∙ c.if-is_rising.true) _ _ c.write_joined.ensures

@@ -1,19 +1,14 @@
 -- `builders::names::is_distinct` meets its contract.
--- The loop keeps that all names are distinct where the rest are, and that its place is the table's.
-use Prim.Native.Nat.{◌+◌, ◌-◌, ◌*◌, ◌^◌, ◌≤◌}
+-- The loop keeps that all names are distinct where those that are left are.
 use mathlib.Core.Path.{◌≡◌}
 use Rattle.layout.specs.Place.{parts_at}
-use Rattle.layout.specs.Table.{Carried}
-use Rattle.builders.specs.Order.{distinct}
 use Rattle.layout.specs.Parts.{texts}
+use Rattle.layout.specs.Left.{names_left}
+use Rattle.builders.specs.Order.{distinct}
 use Rattle.builders.proofs.names.is_distinct.Given as goal
 
-abbrev pub invariant-loop-i : goal.invariant-loop-i
-invariant-loop-i l =
-    (l.i ≤ l.n)
-    × (l.place ≤ l.start + 2 ^ 28 * l.i)
-    × (distinct (texts (parts_at l.s 0 l.start l.n)) ≡ distinct (texts (parts_at l.s l.i l.place (l.n - l.i))))
-    × Carried l.s 0 l.start l.i l.place
+abbrev pub invariant-loop-name : goal.invariant-loop-name
+invariant-loop-name l = distinct (texts (parts_at l.s 0 l.start l.n)) ≡ distinct (names_left l.names)
 
-abbrev pub decreases-loop-i : goal.decreases-loop-i
-decreases-loop-i l = l.n - l.i
+abbrev pub decreases-loop-name : goal.decreases-loop-name
+decreases-loop-name l = l.names.count
