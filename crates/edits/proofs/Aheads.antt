@@ -11,14 +11,12 @@ use Rattle.layout.specs.Bytes.{Bytes}
 use Rattle.layout.specs.Tree.{Members, empty, member, names}
 use Rattle.layout.specs.Order.{order}
 use Rattle.layout.specs.Sound.{Rising}
-use Rattle.layout.specs.declared.order.Ordering.TheVariants.{Less}
+use Rattle.std.specs.declared.cmp.Ordering.TheVariants.{Less}
 use Rattle.layout.proofs.Values.{In, rising_tail, rising_all}
 use Rattle.layout.specs.Parts.{name_in, members_at}
-use Rattle.builders.specs.Search.{kept_of, Bound, start, after, over, least}
+use Rattle.builders.specs.Search.{kept_of, Bound, over, least}
 use Rattle.builders.specs.declared.search.Kept.{Kept}
 use Rattle.layout.specs.declared.parts.MemberAt.{MemberAt}
-use Rattle.builders.specs.declared.search.Found.{Found}
-use Rattle.builders.specs.declared.search.Found.TheVariants.{Nothing, At}
 use Rattle.builders.proofs.Orderings.{order_less}
 use Rattle.builders.proofs.Searches.{Above, Ascending, Passed, least_append, least_passed, least_first, passed_later, over_less, over_itself, ascending_kept}
 use Rattle.builders.proofs.Stands.{Stand}
@@ -27,15 +25,14 @@ use Rattle.layout.specs.Table.{nth_member}
 use Rattle.layout.proofs.Carries.{object_start}
 use Rattle.edits.specs.Members.{all_ahead, kept_ahead, Near, CarriedAhead, Standing, Searching, Next}
 use Rattle.edits.specs.declared.members.Ahead.{Ahead}
-use Rattle.edits.specs.declared.members.NextMember.{NextMember}
-use Rattle.edits.specs.declared.members.NextMember.TheVariants.{End, Member}
 use Rattle.edits.proofs.Tables.{object_rises}
 use Rattle.edits.proofs.Sorteds.{ObjectAt}
 use Rattle.edits.proofs.Choices.{Below, search_later}
+use Rattle.std.specs.Prelude.{Some, None, Option}
 
-abbrev pub found_of : NextMember → Found
-found_of End = Nothing
-found_of (Member m a) = At m
+abbrev pub found_of : Option (MemberAt × Ahead) → Option MemberAt
+found_of None = None
+found_of (Some (m, a)) = Some m
 
 -- All that are kept of an object of `n` members.
 abbrev pub searched : Bytes → ℕ → Kept → List MemberAt
@@ -84,7 +81,7 @@ pub all_is : (s : Bytes) (n : ℕ) (kept : Kept) → kept_ahead s kept (all_ahea
 all_is s n kept = rw (sub-zero n)
 
 -- At first all is ahead.
-pub ahead_starts : (s : Bytes) (n : ℕ) (kept : Kept) → ObjectAt s n → AheadOf s n kept start (all_ahead s n)
+pub ahead_starts : (s : Bytes) (n : ℕ) (kept : Kept) → ObjectAt s n → AheadOf s n kept None (all_ahead s n)
 unfolding over
 ahead_starts s n kept w =
     record {
@@ -115,43 +112,43 @@ ahead_starts s n kept w =
 module _ (s : Bytes) (n : ℕ) (kept : Kept) (last : Bound) (a : Ahead) (h : AheadOf s n kept last a) where
   -- The first of those ahead, where they rise.
   first_rest : (ms : List MemberAt) (m : MemberAt) (r : Rest s n kept last a) → kept_ahead s kept a ≡ m ∷ ms
-      → least (name_in s) last Nothing (searched s n kept) ≡ At m
+      → least (name_in s) last None (searched s n kept) ≡ Some m
   first_rest ms m r e =
       let q : Ascending (name_in s) (m ∷ ms) = rw e at r.rising in
-      ap (least (name_in s) last Nothing) (r.split ∙ ap (λ (l : List MemberAt). r.gone ++ l) e)
-      ∙ least_append (name_in s) last Nothing r.gone (m ∷ ms)
-      ∙ ap (λ (f : Found). least (name_in s) last f (m ∷ ms)) (least_passed (name_in s) last Nothing r.gone r.passed)
+      ap (least (name_in s) last None) (r.split ∙ ap (λ (l : List MemberAt). r.gone ++ l) e)
+      ∙ least_append (name_in s) last None r.gone (m ∷ ms)
+      ∙ ap (λ (f : Option MemberAt). least (name_in s) last f (m ∷ ms)) (least_passed (name_in s) last None r.gone r.passed)
       ∙ least_first (name_in s) last m ms (r.above m ms e) q.0
 
-  none_rest : (r : Rest s n kept last a) → kept_ahead s kept a ≡ [] → least (name_in s) last Nothing (searched s n kept) ≡ Nothing
+  none_rest : (r : Rest s n kept last a) → kept_ahead s kept a ≡ [] → least (name_in s) last None (searched s n kept) ≡ None
   unfolding least
   none_rest r e =
-      ap (least (name_in s) last Nothing) (r.split ∙ ap (λ (l : List MemberAt). r.gone ++ l) e)
-      ∙ least_append (name_in s) last Nothing r.gone []
-      ∙ least_passed (name_in s) last Nothing r.gone r.passed
+      ap (least (name_in s) last None) (r.split ∙ ap (λ (l : List MemberAt). r.gone ++ l) e)
+      ∙ least_append (name_in s) last None r.gone []
+      ∙ least_passed (name_in s) last None r.gone r.passed
 
-  stands_is : (r : NextMember) → Rest s n kept last a → Standing s kept a r → found_of r ≡ least (name_in s) last Nothing (searched s n kept)
-  stands_is End g e = sym (none_rest g e)
-  stands_is (Member m b) g e = sym (first_rest (kept_ahead s kept b) m g e.0)
+  stands_is : (r : Option (MemberAt × Ahead)) → Rest s n kept last a → Standing s kept a r → found_of r ≡ least (name_in s) last None (searched s n kept)
+  stands_is None g e = sym (none_rest g e)
+  stands_is (Some (m, b)) g e = sym (first_rest (kept_ahead s kept b) m g e.0)
 
-  searched_is : (r : NextMember) → a ≡ all_ahead s n → Searching s kept last a r → found_of r ≡ least (name_in s) last Nothing (searched s n kept)
-  searched_is End q e = sym e ∙ ap (λ (x : Ahead). least (name_in s) last Nothing (kept_ahead s kept x)) q ∙ ap (least (name_in s) last Nothing) (all_is s n kept)
-  searched_is (Member m b) q e = sym e.0 ∙ ap (λ (x : Ahead). least (name_in s) last Nothing (kept_ahead s kept x)) q ∙ ap (least (name_in s) last Nothing) (all_is s n kept)
+  searched_is : (r : Option (MemberAt × Ahead)) → a ≡ all_ahead s n → Searching s kept last a r → found_of r ≡ least (name_in s) last None (searched s n kept)
+  searched_is None q e = sym e ∙ ap (λ (x : Ahead). least (name_in s) last None (kept_ahead s kept x)) q ∙ ap (least (name_in s) last None) (all_is s n kept)
+  searched_is (Some (m, b)) q e = sym e.0 ∙ ap (λ (x : Ahead). least (name_in s) last None (kept_ahead s kept x)) q ∙ ap (least (name_in s) last None) (all_is s n kept)
 
   -- The next member, as the search over all would find it.
-  pub next_is : (r : NextMember) → Next s kept last a r → found_of r ≡ least (name_in s) last Nothing (searched s n kept)
+  pub next_is : (r : Option (MemberAt × Ahead)) → Next s kept last a r → found_of r ≡ least (name_in s) last None (searched s n kept)
   next_is r e = go a.is_rising refl
     where
-      go : (g : Bool) → a.is_rising ≡ g → found_of r ≡ least (name_in s) last Nothing (searched s n kept)
+      go : (g : Bool) → a.is_rising ≡ g → found_of r ≡ least (name_in s) last None (searched s n kept)
       go true q = stands_is r (h.rest q) (e.stands q)
       go false q = searched_is r (h.all q) (e.searched q)
 
-  module _ (m : MemberAt) (b : Ahead) (e : Next s kept last a (Member m b)) where
+  module _ (m : MemberAt) (b : Ahead) (e : Next s kept last a (Some (m, b))) where
     -- What is then ahead is above it.
-    pub ahead_taken : over last (name_in s m) ≡ true → AheadOf s n kept (after (name_in s m)) b
+    pub ahead_taken : over last (name_in s m) ≡ true → AheadOf s n kept (Some (name_in s m)) b
     ahead_taken o = go a.is_rising refl
       where
-        rising : a.is_rising ≡ true → AheadOf s n kept (after (name_in s m)) b
+        rising : a.is_rising ≡ true → AheadOf s n kept (Some (name_in s m)) b
         rising q =
             let g = h.rest q in
             let st = e.stands q in
@@ -171,11 +168,11 @@ module _ (s : Bytes) (n : ℕ) (kept : Kept) (last : Bound) (a : Ahead) (h : Ahe
               carried = st.3 n h.carried;
             }
           where
-            passed_and : (xs : List MemberAt) → Passed (name_in s) (after (name_in s m)) xs → Passed (name_in s) (after (name_in s m)) (xs ++ (m ∷ []))
+            passed_and : (xs : List MemberAt) → Passed (name_in s) (Some (name_in s m)) xs → Passed (name_in s) (Some (name_in s m)) (xs ++ (m ∷ []))
             passed_and [] p = (over_itself (name_in s) (name_in s m), tt)
             passed_and (x ∷ xs) p = (p.0, passed_and xs p.1)
 
-        go : (g : Bool) → a.is_rising ≡ g → AheadOf s n kept (after (name_in s m)) b
+        go : (g : Bool) → a.is_rising ≡ g → AheadOf s n kept (Some (name_in s m)) b
         go true q = rising q
         go false q =
             let z : b ≡ a = (e.searched q).1 in
@@ -205,10 +202,10 @@ module _ (s : Bytes) (n : ℕ) (kept : Kept) (last : Bound) (a : Ahead) (h : Ahe
       }
 
   -- A name above the last and below the next, or where there is no next: what is ahead stays, and so does the next.
-  abbrev pub below_next : Bytes → NextMember → Type 0
+  abbrev pub below_next : Bytes → Option (MemberAt × Ahead) → Type 0
   below_next x r = Below (name_in s) x (found_of r)
 
-  pub ahead_passed : (r : NextMember) (x : Bytes) → Next s kept last a r → over last x ≡ true → below_next x r → AheadOf s n kept (after x) a
+  pub ahead_passed : (r : Option (MemberAt × Ahead)) (x : Bytes) → Next s kept last a r → over last x ≡ true → below_next x r → AheadOf s n kept (Some x) a
   ahead_passed r x e o l =
       record {
         near = h.near;
@@ -224,13 +221,13 @@ module _ (s : Bytes) (n : ℕ) (kept : Kept) (last : Bound) (a : Ahead) (h : Ahe
         carried = h.carried;
       }
     where
-      head : (r : NextMember) (m : MemberAt) (ms : List MemberAt) → kept_ahead s kept a ≡ m ∷ ms → Standing s kept a r → below_next x r → order x (name_in s m) ≡ Less
-      head End m ms q st l = let z : [] ≡ m ∷ ms = sym st ∙ q in let y : ◌≡◌ {A = ℕ} 0 1 = cc in let w : ⊥ = omega arith in absurd w
-      head (Member k b) m ms q st l = let z : k ∷ kept_ahead s kept b ≡ m ∷ ms = sym st.0 ∙ q in let y : k ≡ m = cc in rw (← y) l
+      head : (r : Option (MemberAt × Ahead)) (m : MemberAt) (ms : List MemberAt) → kept_ahead s kept a ≡ m ∷ ms → Standing s kept a r → below_next x r → order x (name_in s m) ≡ Less
+      head None m ms q st l = let z : [] ≡ m ∷ ms = sym st ∙ q in let y : ◌≡◌ {A = ℕ} 0 1 = cc in let w : ⊥ = omega arith in absurd w
+      head (Some (k, b)) m ms q st l = let z : k ∷ kept_ahead s kept b ≡ m ∷ ms = sym st.0 ∙ q in let y : k ≡ m = cc in rw (← y) l
 
-  pub next_passed : (r : NextMember) (x : Bytes) → Next s kept last a r → over last x ≡ true → below_next x r → Next s kept (after x) a r
+  pub next_passed : (r : Option (MemberAt × Ahead)) (x : Bytes) → Next s kept last a r → over last x ≡ true → below_next x r → Next s kept (Some x) a r
   next_passed r x e o l = record { stands = e.stands; searched = λ q. still r (e.searched q) l }
     where
-      still : (r : NextMember) → Searching s kept last a r → below_next x r → Searching s kept (after x) a r
-      still End q l = search_later (name_in s) last x o (kept_ahead s kept a) Nothing q l
-      still (Member m b) q l = (search_later (name_in s) last x o (kept_ahead s kept a) (At m) q.0 l, q.1)
+      still : (r : Option (MemberAt × Ahead)) → Searching s kept last a r → below_next x r → Searching s kept (Some x) a r
+      still None q l = search_later (name_in s) last x o (kept_ahead s kept a) None q l
+      still (Some (m, b)) q l = (search_later (name_in s) last x o (kept_ahead s kept a) (Some m) q.0 l, q.1)

@@ -3,7 +3,6 @@ use Prim.Native.Nat.{ℕ, suc, ◌+◌, ◌-◌, ◌%◌, ◌^◌, ◌≤◌}
 use native.Mathlib.Omega.{arith}
 use mathlib.Core.Path.{◌≡◌, refl, ap, sym, ◌∙◌}
 use mathlib.Core.List.{List, [], ◌∷◌, ◌++◌}
-use mathlib.Core.Option.{some}
 use lib.ListN.{length, take, drop}
 use lib.Seq.{take_at}
 use Rattle.layout.specs.Bytes.{Bytes, Octets, be32, word_at}
@@ -29,6 +28,7 @@ use Rattle.edits.proofs.Tables.{parted}
 use Rattle.edits.proofs.Cuts.{IsPartAt, at_part, anew_stored}
 use Rattle.edits.proofs.Leds.{Led, runs_led, stores_as}
 use Rattle.edits.proofs.Onwards.{Below, below}
+use Rattle.std.specs.Prelude.{Some}
 
 drop_one : (l : List Part) (q : Part) (r : List Part) (k : ℕ) → length l ≡ k → drop (suc k) (l ++ (q ∷ r)) ≡ r
 drop_one [] q r k e = rw (← e)
@@ -79,7 +79,7 @@ module _ {s path : Bytes} {n : ℕ} {a : PartAt} {w : Way} {allowance : ℕ} (gi
   pub remains_anew : remains_of s (steps_from path w) ≡ record_of (word_at s 0) (here.nth.left ++ (new_part ∷ here.nth.right))
   remains_anew =
       down.remains_is
-      ∙ ap (λ (t : Tree). payload (anew (some down.after) (step_at path w.step) t)) (sym same_tree)
+      ∙ ap (λ (t : Tree). payload (anew (Some down.after) (step_at path w.step) t)) (sym same_tree)
       ∙ led.changed down.after
       ∙ rw (head_word, lefts, rights, new_is)
 

@@ -4,7 +4,6 @@ use Prim.Native.Nat.{ℕ, ◌+◌}
 use native.Mathlib.Nat.{sub-zero}
 use mathlib.Core.Path.{◌≡◌, sym}
 use mathlib.Core.List.{◌++◌}
-use mathlib.Core.Option.{Option, none as nothing, some}
 use lib.ListN.{length}
 use Rattle.layout.specs.Bytes.{Bytes}
 use Rattle.layout.specs.Entry.{lengths}
@@ -12,7 +11,7 @@ use Rattle.layout.specs.Table.{members_by_table}
 use Rattle.layout.specs.Parts.{start_of, count_parts, nth_part, parts_end}
 use Rattle.layout.specs.declared.parts.PartAt.{PartAt}
 use Rattle.layout.specs.declared.util.Header.{Header}
-use Rattle.layout.specs.declared.util.Header.TheVariants.{Array, Object, Scalar, Refused}
+use Rattle.layout.specs.declared.util.Header.TheVariants.{Array, Object, Scalar}
 use Rattle.layout.proofs.Carries.{object_members}
 use Rattle.builders.specs.Search.{kept_of}
 use Rattle.builders.specs.declared.search.Kept.{Kept}
@@ -21,22 +20,23 @@ use Rattle.edits.specs.Find.{step_place, step_name}
 use Rattle.edits.specs.Spot.{first, spot_member, spot}
 use Rattle.edits.specs.Members.{all_ahead, kept_ahead}
 use Rattle.edits.specs.Merge.{moved_all, in_a_row}
-use Rattle.edits.specs.declared.find.Spot.TheVariants.{At}
 use Rattle.edits.proofs.Finds.{key_part}
 use Rattle.edits.proofs.Spots.{no_spot}
+use Rattle.std.specs.Prelude.{Ok, Err, Some, None, Result, Option}
+use Rattle.layout.specs.declared.refusal.Refusal.{Refusal}
 
 -- The part that a step finds. Where it is the value of a member, its place goes on from that of the name: `value_at` of Finds.
-member_by : (s : Bytes) (n : ℕ) (o : Option ℕ) (a : PartAt) → spot_member s n o ≡ At a → a ≡ nth_part s (n + n) a.index
+member_by : (s : Bytes) (n : ℕ) (o : Option ℕ) (a : PartAt) → spot_member s n o ≡ Some a → a ≡ nth_part s (n + n) a.index
 unfolding spot_member
-member_by s n nothing a e = no_spot a e
-member_by s n (some k) a e = let q : nth_part s (n + n) (n + k) ≡ a = cc in rw (← q)
+member_by s n None a e = no_spot a e
+member_by s n (Some k) a e = let q : nth_part s (n + n) (n + k) ≡ a = cc in rw (← q)
 
-pub spot_carries : (h : Header) (s : Bytes) (p : Step) (a : PartAt) → spot h s p ≡ At a → a ≡ nth_part s (count_parts h) a.index
+pub spot_carries : (h : Result Header Refusal) (s : Bytes) (p : Step) (a : PartAt) → spot h s p ≡ Some a → a ≡ nth_part s (count_parts h) a.index
 unfolding spot
-spot_carries (Array n) s p a e = rw (key_part s n (step_place p n) a (sym e)).2
-spot_carries (Object n) s p a e = member_by s n (first (step_name p) _) a e
-spot_carries (Scalar n) s p a e = no_spot a e
-spot_carries (Refused r) s p a e = no_spot a e
+spot_carries (Ok (Array n)) s p a e = rw (key_part s n (step_place p n) a (sym e)).2
+spot_carries (Ok (Object n)) s p a e = member_by s n (first (step_name p) _) a e
+spot_carries (Ok (Scalar n)) s p a e = no_spot a e
+spot_carries (Err r) s p a e = no_spot a e
 
 -- The end of the last run: where the payloads end with the bytes, the end is where the table gives the part behind the last.
 pub end_carries : (s : Bytes) (n : ℕ) → start_of n + lengths s 0 n ≡ length s → parts_end s n ≡ nth_part s n n

@@ -5,7 +5,6 @@ use native.Mathlib.Omega.{arith}
 use mathlib.Core.Path.{◌≡◌, refl, ap, sym, ◌∙◌}
 use mathlib.Core.Logic.{◌⊎◌, inl, inr, ⊎_elim}
 use mathlib.Core.Bool.{true, false}
-use mathlib.Core.Option.{Option, none as nothing, some}
 use lib.Dec.{T}
 use Rattle.layout.specs.Bytes.{Bytes}
 use Rattle.layout.specs.Answer.{gives, refused, ◌>>=◌, require}
@@ -14,8 +13,8 @@ use Rattle.layout.specs.Tree.{Tree, null, boolean, number, string, extension, ar
 use Rattle.layout.specs.Limits.{Valid, ValidItems, ValidMembers, depth, depth_members, size_members}
 use Rattle.layout.specs.Sound.{Rising, Sound, SoundItems, SoundMembers}
 use Rattle.layout.specs.Every.{Ask, every, every_items}
-use Rattle.layout.specs.declared.order.Ordering.{Ordering}
-use Rattle.layout.specs.declared.order.Ordering.TheVariants.{Less, Equal, Greater}
+use Rattle.std.specs.declared.cmp.Ordering.{Ordering}
+use Rattle.std.specs.declared.cmp.Ordering.TheVariants.{Less, Equal, Greater}
 use Rattle.layout.specs.declared.refusal.Refusal.TheVariants.{Repeated}
 use Rattle.layout.proofs.Answers.{from_require, to_require, gives_inj}
 use Rattle.layout.proofs.Questions.{Apiece, and_apart, and_joined, member_apart, member_joined}
@@ -27,6 +26,7 @@ use Rattle.edits.specs.Find.{item_at}
 use Rattle.edits.specs.Concat.{as_items, members_in, overlay, overlay_or, concat}
 use Rattle.edits.proofs.Deletes.{nothing_some, some_inj, found_or_not}
 use Rattle.edits.proofs.Kept.{in_order_shorter}
+use Rattle.std.specs.Prelude.{Some, None, Option}
 
 -- ---- the two ways that concat goes
 
@@ -48,16 +48,16 @@ module _ (ls rs : Members) where
   concat_refused d = concat_objects ls rs ∙ rw d
 
 -- "Two arrays join; any other pair becomes an array, a non-array side being one item."
-pub concat_items : (t u : Tree) → (members_in t ≡ nothing) ⊎ (members_in u ≡ nothing)
+pub concat_items : (t u : Tree) → (members_in t ≡ None) ⊎ (members_in u ≡ None)
     → concat t u ≡ gives (array (join (as_items t) (as_items u)))
 concat_items t u h = concat_is t u ∙ go (array (join (as_items t) (as_items u))) (members_in t) (members_in u) h
   where
-    go : (all : Tree) (l r : Option Members) → (l ≡ nothing) ⊎ (r ≡ nothing) → overlay_or all l r ≡ gives all
-    go all nothing r h = refl
-    go all (some ls) nothing h = refl
-    go all (some ls) (some rs) h = ⊎_elim (λ e. nothing_some (sym e)) (λ e. nothing_some (sym e)) h
+    go : (all : Tree) (l r : Option Members) → (l ≡ None) ⊎ (r ≡ None) → overlay_or all l r ≡ gives all
+    go all None r h = refl
+    go all (Some ls) None h = refl
+    go all (Some ls) (Some rs) h = ⊎_elim (λ e. nothing_some (sym e)) (λ e. nothing_some (sym e)) h
 
-object_in : (t : Tree) (ms : Members) → members_in t ≡ some ms → t ≡ object ms
+object_in : (t : Tree) (ms : Members) → members_in t ≡ Some ms → t ≡ object ms
 object_in null ms e = nothing_some e
 object_in (boolean x) ms e = nothing_some e
 object_in (number b) ms e = nothing_some e
@@ -73,7 +73,7 @@ pub record TwoObjects (t u : Tree) : Type 0 where
   pub left_is : t ≡ object left
   pub right_is : u ≡ object right
 
-pub objects_or : (t u : Tree) → TwoObjects t u ⊎ ((members_in t ≡ nothing) ⊎ (members_in u ≡ nothing))
+pub objects_or : (t u : Tree) → TwoObjects t u ⊎ ((members_in t ≡ None) ⊎ (members_in u ≡ None))
 objects_or t u =
     ⊎_elim
     (λ e. inr (inl e))
@@ -97,7 +97,7 @@ find_follow n empty ls = refl
 find_follow n (member m t rs) ls = first (order n m) (find_follow n rs ls)
   where
     first : (o : Ordering) → find n (follow rs ls) ≡ or_else (find n rs) (find n ls)
-        → by o (find n (follow rs ls)) (some t) (find n (follow rs ls)) ≡ or_else (by o (find n rs) (some t) (find n rs)) (find n ls)
+        → by o (find n (follow rs ls)) (Some t) (find n (follow rs ls)) ≡ or_else (by o (find n rs) (Some t) (find n rs)) (find n ls)
     first Less e = e
     first Equal e = refl
     first Greater e = e

@@ -5,7 +5,6 @@ use mathlib.Core.Path.{◌≡◌, refl, ap, sym, ◌∙◌}
 use mathlib.Core.Logic.{◌⊎◌, inl, inr, ⊎_elim}
 use mathlib.Core.Bool.{true, false}
 use mathlib.Core.List.{◌∷◌}
-use mathlib.Core.Option.{Option, none as nothing, some}
 use Rattle.layout.specs.Bytes.{Bytes}
 use Rattle.layout.specs.Order.{order}
 use Rattle.layout.specs.Tree.{Tree, Items, none, item, Members, empty, member, names}
@@ -21,28 +20,29 @@ use Rattle.edits.specs.Keypath.{Step, name, index}
 use Rattle.edits.specs.Find.{◌then◌, step_place, item_at}
 use Rattle.edits.specs.Delete.{kept_member, change_item, change_member}
 use Rattle.edits.proofs.Finds.{place_lt}
+use Rattle.std.specs.Prelude.{Some, None, Option}
 
 -- ---- something or nothing
 
-pub some_inj : {A : Type 0} {x y : A} → some x ≡ some y → x ≡ y
+pub some_inj : {A : Type 0} {x y : A} → Some x ≡ Some y → x ≡ y
 some_inj e = cc
 
-pub nothing_some : {A C : Type 0} {x : A} → nothing ≡ some x → C
+pub nothing_some : {A C : Type 0} {x : A} → None ≡ Some x → C
 nothing_some e = let z : ◌≡◌ {A = ℕ} 0 1 = cc in let w : ⊥ = omega arith in absurd w
 
 pub false_true : {C : Type 0} → false ≡ true → C
 false_true e = let z : ◌≡◌ {A = ℕ} 0 1 = cc in let w : ⊥ = omega arith in absurd w
 
 -- Where two steps find something, each does.
-pub then_some : {A B : Type 0} (o : Option A) (f : A → Option B) (y : B) → o then f ≡ some y
-    → (x : A) × (o ≡ some x) × (f x ≡ some y)
-then_some nothing f y e = nothing_some e
-then_some (some x) f y e = (x, refl, e)
+pub then_some : {A B : Type 0} (o : Option A) (f : A → Option B) (y : B) → o then f ≡ Some y
+    → (x : A) × (o ≡ Some x) × (f x ≡ Some y)
+then_some None f y e = nothing_some e
+then_some (Some x) f y e = (x, refl, e)
 
 -- By cases on whether something was found.
-pub found_or_not : {A : Type 0} (o : Option A) → (o ≡ nothing) ⊎ ((x : A) × (o ≡ some x))
-found_or_not nothing = inl refl
-found_or_not (some x) = inr (x, refl)
+pub found_or_not : {A : Type 0} (o : Option A) → (o ≡ None) ⊎ ((x : A) × (o ≡ Some x))
+found_or_not None = inl refl
+found_or_not (Some x) = inr (x, refl)
 
 -- ---- what a name finds
 
@@ -53,19 +53,19 @@ by_equal a b P x y f g = by_order a b P x y x (λ l. f (unlike a b l)) g (λ l. 
 pub equal_or_not : (a b : Bytes) → (a ≡ b) ⊎ (a ≡ b → ⊥)
 equal_or_not a b = by_equal {A = Unit {0}} a b (λ _. (a ≡ b) ⊎ (a ≡ b → ⊥)) tt tt (λ h. inr h) (λ e. inl e)
 
-pub find_first : (n : Bytes) (t : Tree) (ms : Members) → find n (member n t ms) ≡ some t
+pub find_first : (n : Bytes) (t : Tree) (ms : Members) → find n (member n t ms) ≡ Some t
 find_first n t ms = rw (order_refl n)
 
 pub find_later : (x n : Bytes) (t : Tree) (ms : Members) → (x ≡ n → ⊥) → find x (member n t ms) ≡ find x ms
 find_later x n t ms h = by_equal x n (λ (a : Option Tree). a ≡ find x ms) _ _ (λ _. refl) (λ e. absurd (h e))
 
-pub found_in : (n : Bytes) (ms : Members) (t : Tree) → find n ms ≡ some t → In n (names ms)
+pub found_in : (n : Bytes) (ms : Members) (t : Tree) → find n ms ≡ Some t → In n (names ms)
 found_in n empty t e = nothing_some e
 found_in n (member m u ms) t e =
-    by_equal n m (λ (a : Option Tree). a ≡ some t → In n (names (member m u ms))) _ _
+    by_equal n m (λ (a : Option Tree). a ≡ Some t → In n (names (member m u ms))) _ _
     (λ _ e. inr (found_in n ms t e)) (λ k _. inl k) e
 
-pub not_in : (n : Bytes) (ms : Members) → (In n (names ms) → ⊥) → find n ms ≡ nothing
+pub not_in : (n : Bytes) (ms : Members) → (In n (names ms) → ⊥) → find n ms ≡ None
 not_in n ms h = ⊎_elim (λ e. e) (λ f. absurd (h (found_in n ms f.0 f.1))) (found_or_not (find n ms))
 
 -- ---- members changed
@@ -75,24 +75,24 @@ pub find_other : (o : Option Tree) (n x : Bytes) (ms : Members) → (x ≡ n →
 find_other o n x empty h = refl
 find_other o n x (member m t ms) h =
     by_equal n m (λ (a : Members). find x a ≡ find x (member m t ms)) _ _
-    (λ _. ap (λ (a : Option Tree). by (order x m) a (some t) a) (find_other o n x ms h))
+    (λ _. ap (λ (a : Option Tree). by (order x m) a (Some t) a) (find_other o n x ms h))
     (λ e. here o (λ k. h (k ∙ sym e)))
   where
     here : (o : Option Tree) → (x ≡ m → ⊥) → find x (kept_member m o ms) ≡ find x (member m t ms)
-    here nothing k = sym (find_later x m t ms k)
-    here (some u) k = find_later x m u ms k ∙ sym (find_later x m t ms k)
+    here None k = sym (find_later x m t ms k)
+    here (Some u) k = find_later x m u ms k ∙ sym (find_later x m t ms k)
 
 -- The name itself finds what was put there, if it found anything.
-pub find_changed : (n : Bytes) (u : Tree) (ms : Members) (t : Tree) → find n ms ≡ some t
-    → find n (change_member (some u) n ms) ≡ some u
+pub find_changed : (n : Bytes) (u : Tree) (ms : Members) (t : Tree) → find n ms ≡ Some t
+    → find n (change_member (Some u) n ms) ≡ Some u
 find_changed n u empty t e = nothing_some e
 find_changed n u (member m v ms) t e =
-    by_equal n m (λ (a : Members). find n a ≡ some u) _ _
-    (λ h. find_later n m v (change_member (some u) n ms) h ∙ find_changed n u ms t (sym (find_later n m v ms h) ∙ e))
+    by_equal n m (λ (a : Members). find n a ≡ Some u) _ _
+    (λ h. find_later n m v (change_member (Some u) n ms) h ∙ find_changed n u ms t (sym (find_later n m v ms h) ∙ e))
     (λ k. rw (k, order_refl m))
 
 -- A name that finds nothing changes nothing.
-pub change_missing : (o : Option Tree) (n : Bytes) (ms : Members) → find n ms ≡ nothing → change_member o n ms ≡ ms
+pub change_missing : (o : Option Tree) (n : Bytes) (ms : Members) → find n ms ≡ None → change_member o n ms ≡ ms
 change_missing o n empty e = refl
 change_missing o n (member m t ms) e =
     by_equal n m (λ (a : Members). a ≡ member m t ms) _ _
@@ -107,8 +107,8 @@ change_names o n (member m t ms) x i =
     (λ _ i. ⊎_elim (λ j. inl j) (λ j. inr (change_names o n ms x j)) i) (λ _ i. here o i) i
   where
     here : (o : Option Tree) → In x (names (kept_member m o ms)) → In x (names (member m t ms))
-    here nothing i = inr i
-    here (some u) i = i
+    here None i = inr i
+    here (Some u) i = i
 
 -- Names that rise go on rising.
 pub change_rising : (o : Option Tree) (n : Bytes) (ms : Members) → Rising (names ms) → Rising (names (change_member o n ms))
@@ -121,8 +121,8 @@ change_rising o n (member m t ms) h =
     (λ _. here o)
   where
     here : (o : Option Tree) → Rising (names (kept_member m o ms))
-    here nothing = rising_tail m (names ms) h
-    here (some u) = h
+    here None = rising_tail m (names ms) h
+    here (Some u) = h
 
 -- Names that stand there once go on doing so, and the name of a member that goes finds nothing more.
 pub change_distinct : (o : Option Tree) (n : Bytes) (ms : Members) → distinct (names ms) ≡ true
@@ -137,23 +137,23 @@ change_distinct o n (member m t ms) d =
     (λ _. here o k.1)
   where
     here : (o : Option Tree) → distinct (names ms) ≡ true → distinct (names (kept_member m o ms)) ≡ true
-    here nothing k = k
-    here (some u) k = d
+    here None k = k
+    here (Some u) k = d
 
-pub find_gone : (n : Bytes) (ms : Members) → distinct (names ms) ≡ true → find n (change_member nothing n ms) ≡ nothing
+pub find_gone : (n : Bytes) (ms : Members) → distinct (names ms) ≡ true → find n (change_member None n ms) ≡ None
 find_gone n empty d = refl
 find_gone n (member m t ms) d =
     let k = distinct_cons m (names ms) d in
-    by_equal n m (λ (a : Members). find n a ≡ nothing) _ _
-    (λ h. find_later n m t (change_member nothing n ms) h ∙ find_gone n ms k.1)
+    by_equal n m (λ (a : Members). find n a ≡ None) _ _
+    (λ h. find_later n m t (change_member None n ms) h ∙ find_gone n ms k.1)
     (λ (e : n ≡ m). not_in n ms (λ i. has_not m (names ms) k.0 (rw e at i)))
 
 -- The members without the first that has the name.
-pub change_taken : (n : Bytes) (v : Tree) (ms : Members) → find n ms ≡ some v → Taken n v ms (change_member nothing n ms)
+pub change_taken : (n : Bytes) (v : Tree) (ms : Members) → find n ms ≡ Some v → Taken n v ms (change_member None n ms)
 change_taken n v empty e = nothing_some e
 change_taken n v (member m t ms) e =
     by_equal n m (λ (a : Members). Taken n v (member m t ms) a) _ _
-    (λ h. inr (change_member nothing n ms, refl, change_taken n v ms (sym (find_later n m t ms h) ∙ e)))
+    (λ h. inr (change_member None n ms, refl, change_taken n v ms (sym (find_later n m t ms h) ∙ e)))
     (λ k. inl (k, some_inj (sym e ∙ ap (λ (x : Bytes). find x (member m t ms)) k ∙ find_first m t ms), refl))
 
 -- ---- members in order
@@ -191,51 +191,51 @@ find_unique (member n t ms) (member m u ns) p q h =
 
 -- A member changed and then the order, or the order and then the change.
 pub change_in_order : (n : Bytes) (u : Tree) (ms : Members)
-    → in_order (change_member (some u) n ms) ≡ change_member (some u) n (in_order ms)
+    → in_order (change_member (Some u) n ms) ≡ change_member (Some u) n (in_order ms)
 change_in_order n u ms =
-    find_unique (in_order (change_member (some u) n ms)) (change_member (some u) n (in_order ms))
-    (in_order_rising (change_member (some u) n ms)) (change_rising (some u) n (in_order ms) (in_order_rising ms))
-    (λ x. find_in_order x (change_member (some u) n ms) ∙ alike x)
+    find_unique (in_order (change_member (Some u) n ms)) (change_member (Some u) n (in_order ms))
+    (in_order_rising (change_member (Some u) n ms)) (change_rising (Some u) n (in_order ms) (in_order_rising ms))
+    (λ x. find_in_order x (change_member (Some u) n ms) ∙ alike x)
   where
-    own : find n (change_member (some u) n ms) ≡ find n (change_member (some u) n (in_order ms))
+    own : find n (change_member (Some u) n ms) ≡ find n (change_member (Some u) n (in_order ms))
     own =
         ⊎_elim
-        (λ e. ap (find n) (change_missing (some u) n ms e) ∙ e
-        ∙ sym (ap (find n) (change_missing (some u) n (in_order ms) (find_in_order n ms ∙ e)) ∙ find_in_order n ms ∙ e))
+        (λ e. ap (find n) (change_missing (Some u) n ms e) ∙ e
+        ∙ sym (ap (find n) (change_missing (Some u) n (in_order ms) (find_in_order n ms ∙ e)) ∙ find_in_order n ms ∙ e))
         (λ f. find_changed n u ms f.0 f.1 ∙ sym (find_changed n u (in_order ms) f.0 (find_in_order n ms ∙ f.1)))
         (found_or_not (find n ms))
 
-    other : (x : Bytes) → (x ≡ n → ⊥) → find x (change_member (some u) n ms) ≡ find x (change_member (some u) n (in_order ms))
-    other x h = find_other (some u) n x ms h ∙ sym (find_other (some u) n x (in_order ms) h ∙ find_in_order x ms)
+    other : (x : Bytes) → (x ≡ n → ⊥) → find x (change_member (Some u) n ms) ≡ find x (change_member (Some u) n (in_order ms))
+    other x h = find_other (Some u) n x ms h ∙ sym (find_other (Some u) n x (in_order ms) h ∙ find_in_order x ms)
 
-    alike : (x : Bytes) → find x (change_member (some u) n ms) ≡ find x (change_member (some u) n (in_order ms))
+    alike : (x : Bytes) → find x (change_member (Some u) n ms) ≡ find x (change_member (Some u) n (in_order ms))
     alike x = ⊎_elim (λ e. rw e own) (λ h. other x h) (equal_or_not x n)
 
 -- ---- places
 
 -- The place that a step means is one of the array's.
-pub step_below : (s : Step) (n i : ℕ) → step_place s n ≡ some i → i < n
+pub step_below : (s : Step) (n i : ℕ) → step_place s n ≡ Some i → i < n
 step_below (name b) n i e = nothing_some e
 step_below (index z) n i e = place_lt z n i e
 
-pub item_there : (ts : Items) (i : ℕ) → i < count ts → (c : Tree) × (item_at ts i ≡ some c)
+pub item_there : (ts : Items) (i : ℕ) → i < count ts → (c : Tree) × (item_at ts i ≡ Some c)
 item_there none i h = let w : ⊥ = omega arith in absurd w
 item_there (item t ts) zero h = (t, refl)
 item_there (item t ts) (suc i) h = item_there ts i (omega arith)
 
-pub item_past : (ts : Items) (i : ℕ) → count ts ≤ i → item_at ts i ≡ nothing
+pub item_past : (ts : Items) (i : ℕ) → count ts ≤ i → item_at ts i ≡ None
 item_past none i h = refl
 item_past (item t ts) zero h = let w : ⊥ = omega arith in absurd w
 item_past (item t ts) (suc i) h = item_past ts i (omega arith)
 
 -- ---- items changed
 
-pub item_changed : (u : Tree) (i : ℕ) (ts : Items) → i < count ts → item_at (change_item (some u) i ts) i ≡ some u
+pub item_changed : (u : Tree) (i : ℕ) (ts : Items) → i < count ts → item_at (change_item (Some u) i ts) i ≡ Some u
 item_changed u i none h = let w : ⊥ = omega arith in absurd w
 item_changed u zero (item t ts) h = refl
 item_changed u (suc i) (item t ts) h = item_changed u i ts (omega arith)
 
-pub item_other : (u : Tree) (i j : ℕ) (ts : Items) → (j ≡ i → ⊥) → item_at (change_item (some u) i ts) j ≡ item_at ts j
+pub item_other : (u : Tree) (i j : ℕ) (ts : Items) → (j ≡ i → ⊥) → item_at (change_item (Some u) i ts) j ≡ item_at ts j
 item_other u i j none h = refl
 item_other u zero zero (item t ts) h = absurd (h refl)
 item_other u zero (suc j) (item t ts) h = refl
@@ -249,25 +249,25 @@ item_before o zero j (item t ts) h = let w : ⊥ = omega arith in absurd w
 item_before o (suc i) zero (item t ts) h = refl
 item_before o (suc i) (suc j) (item t ts) h = item_before o i j ts (omega arith)
 
-pub item_behind : (i j : ℕ) (ts : Items) → i ≤ j → item_at (change_item nothing i ts) j ≡ item_at ts (suc j)
+pub item_behind : (i j : ℕ) (ts : Items) → i ≤ j → item_at (change_item None i ts) j ≡ item_at ts (suc j)
 item_behind i j none h = refl
 item_behind zero j (item t ts) h = refl
 item_behind (suc i) zero (item t ts) h = let w : ⊥ = omega arith in absurd w
 item_behind (suc i) (suc j) (item t ts) h = item_behind i j ts (omega arith)
 
-pub count_changed : (u : Tree) (i : ℕ) (ts : Items) → count (change_item (some u) i ts) ≡ count ts
+pub count_changed : (u : Tree) (i : ℕ) (ts : Items) → count (change_item (Some u) i ts) ≡ count ts
 count_changed u i none = refl
 count_changed u zero (item t ts) = refl
 count_changed u (suc i) (item t ts) = ap suc (count_changed u i ts)
 
-pub count_gone : (i : ℕ) (ts : Items) → i < count ts → suc (count (change_item nothing i ts)) ≡ count ts
+pub count_gone : (i : ℕ) (ts : Items) → i < count ts → suc (count (change_item None i ts)) ≡ count ts
 count_gone i none h = let w : ⊥ = omega arith in absurd w
 count_gone zero (item t ts) h = refl
 count_gone (suc i) (item t ts) h = ap suc (count_gone i ts (omega arith))
 
 -- The items before one that goes, and those behind it.
-pub change_split : (i : ℕ) (ts : Items) (v : Tree) → item_at ts i ≡ some v
-    → (front back : Items) × (ts ≡ join front (item v back)) × (count front ≡ i) × (change_item nothing i ts ≡ join front back)
+pub change_split : (i : ℕ) (ts : Items) (v : Tree) → item_at ts i ≡ Some v
+    → (front back : Items) × (ts ≡ join front (item v back)) × (count front ≡ i) × (change_item None i ts ≡ join front back)
 change_split i none v e = nothing_some e
 change_split zero (item t ts) v e = (none, ts, ap (λ (x : Tree). item x ts) (some_inj e), refl, refl)
 change_split (suc i) (item t ts) v e =

@@ -5,7 +5,6 @@
 use mathlib.Core.Path.{◌≡◌, refl, ap, subst, sym, ◌∙◌}
 use mathlib.Core.Logic.{inl, inr, ⊎_elim}
 use mathlib.Core.List.{List, [], ◌∷◌, ◌++◌}
-use mathlib.Core.Option.{Option, none as nothing, some}
 use Rattle.layout.specs.Bytes.{Bytes}
 use Rattle.layout.specs.Tree.{Tree, object, Members, empty, member, names}
 use Rattle.layout.specs.Sound.{Rising}
@@ -18,6 +17,7 @@ use Rattle.edits.specs.Delete.{change_member, delete}
 use Rattle.edits.proofs.Deletes.{some_inj, nothing_some, by_equal, find_first, find_later, not_in, find_other}
 use Rattle.edits.proofs.Meanings.{deleted_found, deleted_within, look_up_behind}
 use Rattle.edits.proofs.Concats.{find_follow}
+use Rattle.std.specs.Prelude.{Some, None, Option}
 
 -- The members before the first that has a name, and those behind it.
 pub record First (n : Bytes) (v : Tree) (ms : Members) : Type 0 where
@@ -27,7 +27,7 @@ pub record First (n : Bytes) (v : Tree) (ms : Members) : Type 0 where
   pub new : In n (names front) → ⊥
 
 -- Each name that finds something has such a member, and its value is what the name finds.
-pub first_of : (n : Bytes) (v : Tree) (ms : Members) → find n ms ≡ some v → First n v ms
+pub first_of : (n : Bytes) (v : Tree) (ms : Members) → find n ms ≡ Some v → First n v ms
 first_of n v empty e = nothing_some e
 first_of n v (member m t ms) e =
     by_equal {A = Unit {0}} n m (λ _. First n v (member m t ms)) tt tt
@@ -40,7 +40,7 @@ first_of n v (member m t ms) e =
       new = λ i. ⊎_elim (λ q. h q) (λ j. f.new j) i;
     })
     (λ (q : n ≡ m).
-    let w : t ≡ v = some_inj (sym (find_first m t ms) ∙ subst (λ (k : Bytes). find k (member m t ms) ≡ some v) q e) in
+    let w : t ≡ v = some_inj (sym (find_first m t ms) ∙ subst (λ (k : Bytes). find k (member m t ms) ≡ Some v) q e) in
     record { front = empty; back = ms; whole = rw (w, q); new = λ i. i })
 
 find_behind : (n : Bytes) (front back : Members) → (In n (names front) → ⊥) → find n (follow front back) ≡ find n back
@@ -54,32 +54,32 @@ change_behind o n (member m t front) back h =
     (λ _. ap (member m t) (change_behind o n front back (λ i. h (inr i))))
     (λ q. absurd (h (inl q)))
 
-change_first : (n : Bytes) (v : Tree) (ms : Members) → change_member nothing n (member n v ms) ≡ ms
+change_first : (n : Bytes) (v : Tree) (ms : Members) → change_member None n (member n v ms) ≡ ms
 change_first n v ms =
     by_equal n n (λ (a : Members). a ≡ ms) _ _ (λ h. absurd (h refl)) (λ _. refl)
 
-module _ (r : List Step) (t : Tree) (ms : Members) (e : look_up r t ≡ some (object ms)) (s : Step) (v : Tree) (f : First (step_name s) v ms) where
+module _ (r : List Step) (t : Tree) (ms : Members) (e : look_up r t ≡ Some (object ms)) (s : Step) (v : Tree) (f : First (step_name s) v ms) where
   -- The members but that one, in byte order, of equal names the first.
   abbrev pub others : Members
   others = in_order (follow f.front f.back)
 
-  found : find (step_name s) ms ≡ some v
+  found : find (step_name s) ms ≡ Some v
   found =
       ap (find (step_name s)) f.whole
       ∙ find_behind (step_name s) f.front (member (step_name s) v f.back) f.new
       ∙ find_first (step_name s) v f.back
 
-  changed : change_member nothing (step_name s) ms ≡ follow f.front f.back
+  changed : change_member None (step_name s) ms ≡ follow f.front f.back
   changed =
-      ap (change_member nothing (step_name s)) f.whole
-      ∙ change_behind nothing (step_name s) f.front (member (step_name s) v f.back) f.new
+      ap (change_member None (step_name s)) f.whole
+      ∙ change_behind None (step_name s) f.front (member (step_name s) v f.back) f.new
       ∙ ap (follow f.front) (change_first (step_name s) v f.back)
 
   -- They are what stands there afterwards.
-  pub deleted_first : look_up r (delete (r ++ (s ∷ [])) t) ≡ some (object others)
+  pub deleted_first : look_up r (delete (r ++ (s ∷ [])) t) ≡ Some (object others)
   deleted_first =
       deleted_within r s [] t (object ms) e
-      ∙ ap some (deleted_found s [] (object ms) v v found refl ∙ ap (λ (a : Members). object (in_order a)) changed)
+      ∙ ap Some (deleted_found s [] (object ms) v v found refl ∙ ap (λ (a : Members). object (in_order a)) changed)
 
   -- The name finds the next member that had it, and all that is within it.
   pub deleted_next : (q : List Step) → look_up (r ++ (s ∷ q)) (delete (r ++ (s ∷ [])) t) ≡ (find (step_name s) f.back then look_up q)
@@ -93,7 +93,7 @@ module _ (r : List Step) (t : Tree) (ms : Members) (e : look_up r t ≡ some (ob
   deleted_others x h =
       find_in_order x (follow f.front f.back)
       ∙ ap (find x) (sym changed)
-      ∙ find_other nothing (step_name s) x ms h
+      ∙ find_other None (step_name s) x ms h
 
   pub deleted_once : Rising (names others)
   deleted_once = in_order_rising (follow f.front f.back)

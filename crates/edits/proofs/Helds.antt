@@ -4,7 +4,6 @@ use native.Mathlib.Omega.{arith}
 use mathlib.Core.Path.{◌≡◌, refl, ap, sym, ◌∙◌}
 use mathlib.Core.Bool.{true, false}
 use mathlib.Core.List.{[], ◌∷◌, ◌++◌, append-nil, append_assoc}
-use mathlib.Core.Option.{Option, none as nothing, some}
 use lib.ListN.{length, take, drop, length-append}
 use lib.Seq.{take-take, take_all, drop-drop}
 use borrow.Author.Tests.{ne_eqb}
@@ -17,7 +16,6 @@ use Rattle.layout.specs.Read.{header, nested}
 use Rattle.layout.specs.Patch.{patch}
 use Rattle.layout.specs.Ended.{into}
 use Rattle.layout.specs.Room.{EndedIn}
-use Rattle.layout.specs.declared.ending.Ending.TheVariants.{Done, Refused}
 use Rattle.layout.specs.declared.refusal.Refusal.TheVariants.{Buffer}
 use Rattle.layout.specs.declared.item.Kind.{Kind}
 use Rattle.layout.specs.declared.item.Kind.TheVariants.{Null, String, Number, False, True, Container, Extension}
@@ -34,28 +32,25 @@ use Rattle.edits.specs.Find.{step_into}
 use Rattle.edits.specs.Spot.{spot}
 use Rattle.edits.specs.Held.{Held, Stands, Agree, Leads, item_in, item_record}
 use Rattle.layout.specs.declared.parts.PartAt.{PartAt}
-use Rattle.edits.specs.declared.find.Spot.{Spot}
-use Rattle.edits.specs.declared.find.Spot.TheVariants.{Nothing as NoSpot, At as AtSpot}
-use Rattle.edits.specs.declared.path.Item.{Item}
-use Rattle.edits.specs.declared.path.Item.TheVariants.{Nothing, At}
 use Rattle.edits.proofs.Spots.{spot_none, Spotted, spot_part}
+use Rattle.std.specs.Prelude.{Ok, Err, Some, None, Option}
 
 -- What was found, both ways.
 
-pub agree_none : (s : Bytes) (o : Option Tree) → o ≡ nothing → Agree s o Nothing
+pub agree_none : (s : Bytes) (o : Option Tree) → o ≡ None → Agree s o None
 agree_none s o e = rw e tt
 
-pub agree_some : (s : Bytes) (o : Option Tree) (v : Tree) (x : ItemAt) → o ≡ some v → Held s x v → Agree s o (At x)
+pub agree_some : (s : Bytes) (o : Option Tree) (v : Tree) (x : ItemAt) → o ≡ Some v → Held s x v → Agree s o (Some x)
 agree_some s o v x e h = rw e h
 
-pub found_none : (s : Bytes) (o : Option Tree) (r : Item) → Agree s o r → r ≡ Nothing → o ≡ nothing
-found_none s nothing r h q = refl
-found_none s (some t) r h q = let z : ⊥ = rw q at h in absurd z
+pub found_none : (s : Bytes) (o : Option Tree) (r : Option ItemAt) → Agree s o r → r ≡ None → o ≡ None
+found_none s None r h q = refl
+found_none s (Some t) r h q = let z : ⊥ = rw q at h in absurd z
 
-pub found_some : (s : Bytes) (o : Option Tree) (r : Item) (x : ItemAt) → Agree s o r → r ≡ At x
-    → (v : Tree) × (o ≡ some v) × Held s x v
-found_some s nothing r x h q = let z : ⊥ = rw q at h in absurd z
-found_some s (some t) r x h q = (t, refl, rw q at h)
+pub found_some : (s : Bytes) (o : Option Tree) (r : Option ItemAt) (x : ItemAt) → Agree s o r → r ≡ Some x
+    → (v : Tree) × (o ≡ Some v) × Held s x v
+found_some s None r x h q = let z : ⊥ = rw q at h in absurd z
+found_some s (Some t) r x h q = (t, refl, rw q at h)
 
 -- The entry of an item tells the kind of its tree and the length of its payload.
 
@@ -80,11 +75,6 @@ container_code True e = let z : ⊥ = omega arith in absurd z
 container_code Container e = refl
 container_code Extension e = let z : ⊥ = omega arith in absurd z
 
--- The item that a part is, as the code puts it together.
-pub in_found : (inner : Bytes) (place : ℕ) (r : Spot) (a : PartAt) → r ≡ AtSpot a → (j : ℕ) → j ≡ entry_at inner a.index
-    → At (record { jentry = j; place = place + a.place }) ≡ item_in inner place r
-in_found inner place r a q j e = rw (q, e)
-
 -- A step from an item.
 
 -- A part of a part.
@@ -94,7 +84,7 @@ part_of_part (suc p) l zero b h = let z : ⊥ = omega arith in absurd z
 part_of_part (suc p) l (suc m) [] h = refl
 part_of_part (suc p) l (suc m) (x ∷ b) h = part_of_part p l m b (omega arith)
 
-scalar_step : (p : Step) (t : Tree) → (code (kind t) ≡ 5 → ⊥) → step_into p t ≡ nothing
+scalar_step : (p : Step) (t : Tree) → (code (kind t) ≡ 5 → ⊥) → step_into p t ≡ None
 scalar_step p null h = refl
 scalar_step p (boolean x) h = refl
 scalar_step p (number b) h = refl
@@ -121,22 +111,22 @@ held_part s x t inner p a j h e k q =
     }
 
 module _ (s : Bytes) (x : ItemAt) (p : Step) (c : ℕ) (hc : c ≡ code_of x.jentry) where
-  pub leads_scalar : (c ≡ 5 → ⊥) → Leads s x (step_into p) Nothing
+  pub leads_scalar : (c ≡ 5 → ⊥) → Leads s x (step_into p) None
   leads_scalar q t h = agree_none s (step_into p t) (scalar_step p t (λ e. q (hc ∙ held_code s x t h ∙ e)))
 
-  module _ (qc : c ≡ 5) (inner : Bytes) (hi : inner ≡ bytes_at s x) (r : Spot) (hr : r ≡ spot (header inner) inner p) where
+  module _ (qc : c ≡ 5) (inner : Bytes) (hi : inner ≡ bytes_at s x) (r : Option PartAt) (hr : r ≡ spot (header inner) inner p) where
     inner_kind : (t : Tree) → Held s x t → kind t ≡ Container
     inner_kind t h = container_code (kind t) (sym (held_code s x t h) ∙ sym hc ∙ qc)
 
     inner_short : (t : Tree) → Held s x t → length inner ≤ 65536
     inner_short t h = omega (arith, ap length (hi ∙ h.bytes), h.within, h.short)
 
-    leads_none : r ≡ NoSpot → Leads s x (step_into p) Nothing
+    leads_none : r ≡ None → Leads s x (step_into p) None
     leads_none q t h =
         agree_none s (step_into p t)
         (spot_none t inner p (sym (hi ∙ h.bytes)) (inner_kind t h) (inner_short t h) (sym hr ∙ q))
 
-    module _ (a : PartAt) (q : r ≡ AtSpot a) where
+    module _ (a : PartAt) (q : r ≡ Some a) where
       step_spotted : (t : Tree) → Held s x t → Spotted t inner p a
       step_spotted t h = spot_part t inner p a (sym (hi ∙ h.bytes)) (inner_kind t h) (inner_short t h) (sym hr ∙ q)
 
@@ -146,18 +136,18 @@ module _ (s : Bytes) (x : ItemAt) (p : Step) (c : ℕ) (hc : c ≡ code_of x.jen
           let k = step_spotted w.0 w.1 in
           (k.few, omega (arith, k.within, ap length (hi ∙ w.1.bytes), w.1.within, w.1.short))
 
-      leads_on : Leads s x (step_into p) (At (record { jentry = entry_at inner a.index; place = x.place + a.place }))
+      leads_on : Leads s x (step_into p) (Some (record { jentry = entry_at inner a.index; place = x.place + a.place }))
       leads_on t h =
           let k = step_spotted t h in
           agree_some s (step_into p t) k.tree _ k.found (held_part s x t inner p a (entry_at inner a.index) h hi k refl)
 
     -- The item that the part found is.
-    pub leads_in : (q : Item) → q ≡ item_in inner x.place r → Leads s x (step_into p) q
+    pub leads_in : (q : Option ItemAt) → q ≡ item_in inner x.place r → Leads s x (step_into p) q
     leads_in q = go r refl
       where
-        go : (w : Spot) → r ≡ w → q ≡ item_in inner x.place w → Leads s x (step_into p) q
-        go NoSpot f e = rw e (leads_none f)
-        go (AtSpot a) f e = rw e (leads_on a f)
+        go : (w : Option PartAt) → r ≡ w → q ≡ item_in inner x.place w → Leads s x (step_into p) q
+        go None f e = rw e (leads_none f)
+        go (Some a) f e = rw e (leads_on a f)
 
 -- A container is an item of its own bytes.
 pub root_held : (s : Bytes) (t : Tree) (j : ℕ) → Octets s → length s ≤ 65536 → nested 64 s ≡ gives t
@@ -214,12 +204,12 @@ module _ (s : Bytes) (x : ItemAt) (c : ℕ) (hc : c ≡ code_of x.jentry) (q : c
         length_be32 x.jentry,
       )
 
-  pub item_short : room < 8 + length b → EndedIn (Refused Buffer) o o (into room (item_record s x))
+  pub item_short : room < 8 + length b → EndedIn (Err Buffer) o o (into room (item_record s x))
   item_short h = in_short (item_record s x) o room (omega (arith, item_length))
 
   pub item_stored : (o₁ o₂ o₃ : Bytes) → 8 + length b ≤ room
       → o₁ ≡ patch o 0 (be32 (2 ^ 29)) → o₂ ≡ patch o₁ 4 (be32 x.jentry) → o₃ ≡ patch o₂ 8 b
-      → EndedIn (Done (8 + length b)) o o₃ (into room (item_record s x))
+      → EndedIn (Ok (Some (8 + length b))) o o₃ (into room (item_record s x))
   item_stored o₁ o₂ o₃ h e₁ e₂ e₃ =
       in_full (item_record s x) o room o₃ (8 + length b) (omega (arith, item_length)) (sym item_length)
       (stored_scalar o o₁ o₂ o₃ (2 ^ 29) x.jentry b e₁ e₂ e₃ ∙ ap (patch o 0) (sym item_record_is))

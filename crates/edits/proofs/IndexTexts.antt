@@ -1,5 +1,5 @@
 -- The decimal text of an index, as the code stores it.
-use Prim.Native.Nat.{ℕ, suc, ◌+◌, ◌<◌, ◌≤◌}
+use Prim.Native.Nat.{ℕ, ◌+◌, ◌<◌, ◌≤◌}
 use native.Mathlib.Omega.{arith}
 use mathlib.Core.Path.{◌≡◌, refl, ap, ◌∙◌}
 use mathlib.Core.Bool.{true, false}
@@ -7,7 +7,7 @@ use mathlib.Core.List.{◌∷◌, ◌++◌}
 use lib.IntN.{ℤ, pos, negsuc, nat_abs}
 use lib.ListN.{length, take, drop, set}
 use lib.Seq.{take-append_seam}
-use lib.Signed.{mag, lt_z}
+use lib.Signed.{lt_z}
 use borrow.Author.Tests.{ltb-true}
 use Rattle.layout.specs.Bytes.{Bytes}
 use Rattle.layout.specs.Decimal.{decimal}
@@ -18,7 +18,7 @@ use Rattle.edits.specs.Keypath.{index_text}
 
 -- Behind its sign. `v` is what the machine reads of i, and `d` its digits' number.
 
-negative_text : (i : ℤ) → lt_z i (pos 0) ≡ true → index_text i ≡ 0x2D ∷ decimal 10 (suc (mag i))
+negative_text : (i : ℤ) → lt_z i (pos 0) ≡ true → index_text i ≡ 0x2D ∷ decimal 10 (nat_abs i)
 unfolding index_text
 negative_text (pos k) q = let h : k < 0 = ltb-true k 0 q in let w : ⊥ = omega arith in absurd w
 negative_text (negsuc k) q = refl
@@ -33,11 +33,12 @@ abbrev Texts : Bytes → Bytes → ℕ → ℤ → Type 0
 Texts o o' end i = ((end ≡ length (index_text i)) × (end ≤ 11)) × (o' ≡ patch o 0 (index_text i))
 
 module _ (v i : ℤ) (d : ℕ) (o o₂ : Bytes) (end : ℕ) (e : v ≡ i) where
-  pub text_negative : (o₁ : Bytes) → lt_z v (pos 0) ≡ true → d ≡ suc (mag i) → o₁ ≡ set o 0 0x2D → Digits o₁ o₂ 1 end 10 d → Texts o o₂ end i
+  pub text_negative : (o₁ : Bytes) → lt_z v (pos 0) ≡ true → d ≡ nat_abs v → o₁ ≡ set o 0 0x2D → Digits o₁ o₂ 1 end 10 d → Texts o o₂ end i
   unfolding patch
   text_negative o₁ q hd h p =
-      let l : end ≡ 1 + length (decimal 10 (suc (mag i))) = rw hd at p.0.0 in
-      let b : o₂ ≡ patch (set o 0 0x2D) 1 (decimal 10 (suc (mag i))) = rw (h, hd) at p.1 in
+      let hi : d ≡ nat_abs i = hd ∙ ap nat_abs e in
+      let l : end ≡ 1 + length (decimal 10 (nat_abs i)) = rw hi at p.0.0 in
+      let b : o₂ ≡ patch (set o 0 0x2D) 1 (decimal 10 (nat_abs i)) = rw (h, hi) at p.1 in
       rw (negative_text i (rw e at q)) ((omega arith, omega (arith, p.0.0, p.0.1)), b)
 
   pub text_positive : lt_z v (pos 0) ≡ false → d ≡ nat_abs v → Digits o o₂ 0 end 10 d → Texts o o₂ end i

@@ -3,8 +3,7 @@ use Prim.Native.Nat.{ℕ, ◌+◌, ◌^◌, ◌≤◌, ◌<◌}
 use native.Mathlib.Omega.{arith}
 use mathlib.Core.Path.{◌≡◌, refl, ap, ap₂, sym, ◌∙◌}
 use mathlib.Core.Logic.{◌⊎◌, ⊎_elim}
-use mathlib.Core.Bool.{Bool, true, false, cond}
-use mathlib.Core.Option.{none as nothing}
+use mathlib.Core.Bool.{Bool, true, false}
 use lib.Bits.{bit_or, or_shifted}
 use borrow.Author.Tests.{le-leb, lt-leb}
 use native.Mathlib.Decide.{dec_le}
@@ -13,17 +12,12 @@ use Rattle.layout.specs.Answer.{gives}
 use Rattle.layout.specs.Tree.{Tree, null, boolean, number, string, extension, array, object, none, item}
 use Rattle.layout.specs.Read.{header, read}
 use Rattle.layout.specs.Limits.{depth, depth_items}
-use Rattle.layout.specs.Check.{checked, nesting}
+use Rattle.layout.specs.Check.{nesting}
 use Rattle.layout.specs.Room.{EndedIn}
-use Rattle.layout.specs.declared.refusal.Refusal.TheVariants.{Result}
-use Rattle.layout.specs.declared.ending.Ending.{Ending}
-use Rattle.layout.specs.declared.ending.Ending.TheVariants.{Refused}
+use Rattle.layout.specs.declared.refusal.Refusal.TheVariants.{Result as NoResult}
 use Rattle.layout.specs.declared.util.Header.{Header}
-use Rattle.layout.specs.declared.util.Header.TheVariants.{Array, Object, Scalar, Refused as NoHeader}
-use Rattle.layout.specs.declared.check.Check.TheVariants.{Readable}
-use Rattle.layout.specs.declared.check.Nesting.{Nesting}
-use Rattle.layout.specs.declared.check.Nesting.TheVariants.{Fits, Deep}
-use Rattle.layout.proofs.Nestings.{head_of, readable_gives}
+use Rattle.layout.specs.declared.util.Header.TheVariants.{Array, Object, Scalar}
+use Rattle.layout.proofs.Nestings.{head_of}
 use Rattle.builders.specs.Build.{join, on_two}
 use Rattle.builders.specs.Join.{given_count, Lies, as_one, joined}
 use Rattle.builders.specs.Room.{sized}
@@ -37,16 +31,21 @@ use Rattle.edits.specs.Concat.{as_items, members_in, concat}
 use Rattle.edits.specs.Joining.{as_given, is_deep, NoPair}
 use Rattle.edits.proofs.Deletes.{false_true}
 use Rattle.edits.proofs.Concats.{concat_items, TwoObjects, objects_or}
+use Rattle.std.specs.Prelude.{not, leb, Ok, Err, None, Result}
+use Rattle.layout.specs.declared.refusal.Refusal.{Refusal}
+use Rattle.layout.specs.Ended.{Ending}
+use Rattle.layout.proofs.HandedOn.{one_value, not_both}
+use Rattle.builders.proofs.Knowns.{nested_gives}
 
 -- What a record gives, by its header.
-pub given_array : (h k : Header) (n : ℕ) → h ≡ k → h ≡ Array n → Table n ≡ as_given k
+pub given_array : (h k : Result Header Refusal) (n : ℕ) → h ≡ k → h ≡ Ok (Array n) → Table n ≡ as_given k
 given_array h k n e q = rw (← e, q)
 
-pub given_other : (h k : Header) (g : Given) → h ≡ k → ((n : ℕ) → h ≡ Array n → ⊥) → g ≡ as_one k → g ≡ as_given k
-given_other h (Array n) g e q r = absurd (q n e)
-given_other h (Object n) g e q r = r
-given_other h (Scalar n) g e q r = r
-given_other h (NoHeader x) g e q r = r
+pub given_other : (h k : Result Header Refusal) (g : Given) → h ≡ k → ((n : ℕ) → h ≡ Ok (Array n) → ⊥) → g ≡ as_one k → g ≡ as_given k
+given_other h (Ok (Array n)) g e q r = absurd (q n e)
+given_other h (Ok (Object n)) g e q r = r
+given_other h (Ok (Scalar n)) g e q r = r
+given_other h (Err x) g e q r = r
 
 -- A record's items lie in it, and they are the tree's.
 module _ (s : Bytes) (g : Given) where
@@ -65,21 +64,21 @@ module _ (s : Bytes) (g : Given) where
   offers (object ms) k e = one_offers (object ms) k e
 
 -- A container given whole is one level deeper in the array; the items of an array stay where they are.
-whole_deep : (t : Tree) → is_deep Whole (nesting (gives t)) ≡ true → 63 < depth t
+whole_deep : (t : Tree) → is_deep Whole (leb (depth t) 63) ≡ true → 63 < depth t
 whole_deep t e = go (dec_le (depth t) 63)
   where
     go : Dec (depth t ≤ 63) → 63 < depth t
-    go (yes k) = false_true (ap (λ b. is_deep Whole (cond b Fits Deep)) (sym (le-leb (depth t) 63 k)) ∙ e)
+    go (yes k) = false_true (ap not (sym (le-leb (depth t) 63 k)) ∙ e)
     go (no k) = omega arith
 
-whole_fits : (t : Tree) → is_deep Whole (nesting (gives t)) ≡ false → depth t ≤ 63
+whole_fits : (t : Tree) → is_deep Whole (leb (depth t) 63) ≡ false → depth t ≤ 63
 whole_fits t e = go (dec_le (depth t) 63)
   where
     go : Dec (depth t ≤ 63) → depth t ≤ 63
     go (yes k) = k
-    go (no k) = false_true (sym e ∙ ap (λ b. is_deep Whole (cond b Fits Deep)) (lt-leb (depth t) 63 (omega arith)))
+    go (no k) = false_true (sym e ∙ ap not (lt-leb (depth t) 63 (omega arith)))
 
-deep_items : (t : Tree) → is_deep (as_given (head_of t)) (nesting (gives t)) ≡ true → 63 < depth_items (as_items t)
+deep_items : (t : Tree) → is_deep (as_given (head_of t)) (leb (depth t) 63) ≡ true → 63 < depth_items (as_items t)
 deep_items null e = false_true e
 deep_items (boolean x) e = false_true e
 deep_items (number b) e = false_true e
@@ -88,7 +87,7 @@ deep_items (extension b) e = false_true e
 deep_items (array ts) e = false_true e
 deep_items (object ms) e = omega (arith, whole_deep (object ms) e)
 
-fits_items : (t : Tree) → depth t ≤ 64 → is_deep (as_given (head_of t)) (nesting (gives t)) ≡ false → depth_items (as_items t) ≤ 63
+fits_items : (t : Tree) → depth t ≤ 64 → is_deep (as_given (head_of t)) (leb (depth t) 63) ≡ false → depth_items (as_items t) ≤ 63
 fits_items null d e = omega arith
 fits_items (boolean x) d e = omega arith
 fits_items (number b) d e = omega arith
@@ -100,8 +99,8 @@ fits_items (object ms) d e = omega (arith, whole_fits (object ms) e)
 -- Two readable records, not both objects.
 pub record Apart (l r : Bytes) : Type 0 where
   pub octets : BothOctets l r
-  pub left : checked (read l) ≡ Readable
-  pub right : checked (read r) ≡ Readable
+  pub left : (x : Bool) × (nesting (read l) ≡ Ok x)
+  pub right : (y : Bool) × (nesting (read r) ≡ Ok y)
   pub no_pair : NoPair (header l) (header r)
 
 -- And what each gives to the array.
@@ -112,10 +111,10 @@ pub record Offered (l r : Bytes) (g h : Given) : Type 0 where
 
 module _ {l r : Bytes} (s : Apart l r) where
   left : (t : Tree) × Known l t
-  left = let w = readable_gives (read l) Readable (sym s.left) refl in (w.0, known l w.0 s.octets.left w.1)
+  left = let w = nested_gives (read l) (nesting (read l)) refl (λ y e. not_both e s.left.1) in (w.0, known l w.0 s.octets.left w.1)
 
   right : (u : Tree) × Known r u
-  right = let w = readable_gives (read r) Readable (sym s.right) refl in (w.0, known r w.0 s.octets.right w.1)
+  right = let w = nested_gives (read r) (nesting (read r)) refl (λ y e. not_both e s.right.1) in (w.0, known r w.0 s.octets.right w.1)
 
   abbrev both : Tree
   both = array (join (as_items left.0) (as_items right.0))
@@ -123,7 +122,7 @@ module _ {l r : Bytes} (s : Apart l r) where
   gives_both : concat left.0 right.0 ≡ gives both
   gives_both = concat_items left.0 right.0 (⊎_elim two (λ h. h) (objects_or left.0 right.0))
     where
-      two : TwoObjects left.0 right.0 → (members_in left.0 ≡ nothing) ⊎ (members_in right.0 ≡ nothing)
+      two : TwoObjects left.0 right.0 → (members_in left.0 ≡ None) ⊎ (members_in right.0 ≡ None)
       two q = absurd (s.no_pair _ _ (left.1.head ∙ ap head_of q.left_is) (right.1.head ∙ ap head_of q.right_is))
 
 module _ {l r : Bytes} {g h : Given} (s : Offered l r g h) where
@@ -152,27 +151,27 @@ module _ {l r : Bytes} {g h : Given} (s : Offered l r g h) where
   few_items em en = omega (arith, few l g left_offers.0, few r h right_offers.0)
 
   -- A record whose own level is too deep, by the test of the code: `d` is what `is_deep` answered.
-  left_test : {x : Nesting} → x ≡ nesting (read l) → {d : Bool} → d ≡ is_deep g x → {b : Bool} → d ≡ b
-      → is_deep (as_given (head_of lt.0)) (nesting (gives lt.0)) ≡ b
-  left_test hx hd q = ap₂ is_deep (sym left_head) (ap nesting (sym lt.1.reads) ∙ sym hx) ∙ sym hd ∙ q
+  left_test : {x : Bool} → nesting (read l) ≡ Ok x → {d : Bool} → d ≡ is_deep g x → {b : Bool} → d ≡ b
+      → is_deep (as_given (head_of lt.0)) (leb (depth lt.0) 63) ≡ b
+  left_test hx hd q = ap₂ is_deep (sym left_head) (one_value (ap nesting lt.1.reads) hx) ∙ sym hd ∙ q
 
-  right_test : {y : Nesting} → y ≡ nesting (read r) → {d : Bool} → d ≡ is_deep h y → {b : Bool} → d ≡ b
-      → is_deep (as_given (head_of rt.0)) (nesting (gives rt.0)) ≡ b
-  right_test hy hd q = ap₂ is_deep (sym right_head) (ap nesting (sym rt.1.reads) ∙ sym hy) ∙ sym hd ∙ q
+  right_test : {y : Bool} → nesting (read r) ≡ Ok y → {d : Bool} → d ≡ is_deep h y → {b : Bool} → d ≡ b
+      → is_deep (as_given (head_of rt.0)) (leb (depth rt.0) 63) ≡ b
+  right_test hy hd q = ap₂ is_deep (sym right_head) (one_value (ap nesting rt.1.reads) hy) ∙ sym hd ∙ q
 
-  pub left_deep : {x : Nesting} → x ≡ nesting (read l) → {d : Bool} → d ≡ is_deep g x → d ≡ true
-      → {o : Bytes} (room : ℕ) → EndedIn (Refused Result) o o (on_two concat l r room)
+  pub left_deep : {x : Bool} → nesting (read l) ≡ Ok x → {d : Bool} → d ≡ is_deep g x → d ≡ true
+      → {o : Bytes} (room : ℕ) → EndedIn (Err NoResult) o o (on_two concat l r room)
   left_deep hx hd q {o} room =
       two_deep concat l r o room lt.0 lt.1.reads rt.0 rt.1.reads (both s.before) (gives_both s.before)
       (omega (arith, deep_items lt.0 (left_test hx hd q), depth_join (as_items lt.0) (as_items rt.0)))
 
-  pub right_deep : {y : Nesting} → y ≡ nesting (read r) → {d : Bool} → d ≡ is_deep h y → d ≡ true
-      → {o : Bytes} (room : ℕ) → EndedIn (Refused Result) o o (on_two concat l r room)
+  pub right_deep : {y : Bool} → nesting (read r) ≡ Ok y → {d : Bool} → d ≡ is_deep h y → d ≡ true
+      → {o : Bytes} (room : ℕ) → EndedIn (Err NoResult) o o (on_two concat l r room)
   right_deep hy hd q {o} room =
       two_deep concat l r o room lt.0 lt.1.reads rt.0 rt.1.reads (both s.before) (gives_both s.before)
       (omega (arith, deep_items rt.0 (right_test hy hd q), depth_join (as_items lt.0) (as_items rt.0)))
 
-  pub items_end : {x y : Nesting} → x ≡ nesting (read l) → y ≡ nesting (read r)
+  pub items_end : {x y : Bool} → nesting (read l) ≡ Ok x → nesting (read r) ≡ Ok y
       → {d₁ d₂ : Bool} → d₁ ≡ is_deep g x → d₂ ≡ is_deep h y → d₁ ≡ false → d₂ ≡ false
       → {m n : ℕ} → m ≡ given_count g → n ≡ given_count h → {e : Ending} {o o' : Bytes} (room : ℕ)
       → EndedIn e o o' (sized room (joined (bit_or (2 ^ 31) (m + n)) l g r h)) → EndedIn e o o' (on_two concat l r room)

@@ -4,7 +4,6 @@ use Prim.Native.Nat.{ℕ, zero, suc, ◌+◌, ◌≤◌}
 use native.Mathlib.Omega.{arith}
 use mathlib.Core.Path.{◌≡◌, refl}
 use mathlib.Core.List.{List, [], ◌∷◌}
-use mathlib.Core.Option.{Option, none as nothing, some}
 use lib.Dec.{T}
 use Rattle.layout.specs.Bytes.{Bytes}
 use Rattle.layout.specs.Tree.{Tree, null, boolean, number, string, extension, array, object, Items, none, item, Members, empty, member}
@@ -20,6 +19,7 @@ use Rattle.edits.specs.Keypath.{Step}
 use Rattle.edits.specs.Find.{◌then◌, step_place, step_name, item_at, step_into, look_up}
 use Rattle.edits.specs.Delete.{kept_member, change_item, change_member, anew, remains, or_same, delete}
 use Rattle.edits.proofs.Deletes.{some_inj, nothing_some, then_some}
+use Rattle.std.specs.Prelude.{Some, None, Option}
 
 -- `u` is no more than `t`.
 pub record NoMore (u t : Tree) : Type 0 where
@@ -75,7 +75,7 @@ record InsideMembers (c : Tree) (ms : Members) : Type 0 where
   payload : 8 + size c ≤ size_members ms
   asked : (a : Ask) → Apiece a → T (every a (object ms)) → T (every a c)
 
-item_inside : (ts : Items) (i : ℕ) (c : Tree) → item_at ts i ≡ some c → InsideItems c ts
+item_inside : (ts : Items) (i : ℕ) (c : Tree) → item_at ts i ≡ Some c → InsideItems c ts
 item_inside none i c e = nothing_some e
 item_inside (item t ts) zero c e =
     rw (← some_inj {x = t} e)
@@ -96,10 +96,10 @@ item_inside (item t ts) (suc i) c e =
       asked = λ a p h. k.asked a p (and_apart (every a t) (every_items a ts) h).1;
     }
 
-member_inside : (n : Bytes) (ms : Members) (c : Tree) → find n ms ≡ some c → InsideMembers c ms
+member_inside : (n : Bytes) (ms : Members) (c : Tree) → find n ms ≡ Some c → InsideMembers c ms
 member_inside n empty c e = nothing_some e
 member_inside n (member m t ms) c e =
-    by_order n m (λ (a : Option Tree). a ≡ some c → InsideMembers c (member m t ms)) _ _ _
+    by_order n m (λ (a : Option Tree). a ≡ Some c → InsideMembers c (member m t ms)) _ _ _
     (λ _ e. later (member_inside n ms c e)) (λ _ e. rw (← some_inj {x = t} e) here) (λ _ e. later (member_inside n ms c e)) e
   where
     here : InsideMembers t (member m t ms)
@@ -122,7 +122,7 @@ member_inside n (member m t ms) c e =
           asked = λ a p h. k.asked a p (member_apart a p m t ms h).2;
         }
 
-pub step_inside : (s : Step) (t c : Tree) → step_into s t ≡ some c → Inside c t
+pub step_inside : (s : Step) (t c : Tree) → step_into s t ≡ Some c → Inside c t
 step_inside s null c e = nothing_some e
 step_inside s (boolean x) c e = nothing_some e
 step_inside s (number b) c e = nothing_some e
@@ -147,7 +147,7 @@ record_size (array ts) = (omega arith, omega arith)
 record_size (object ms) = (omega arith, omega arith)
 
 -- One step inward.
-pub step_kept : (s : Step) (t c : Tree) → step_into s t ≡ some c → NoMore c t
+pub step_kept : (s : Step) (t c : Tree) → step_into s t ≡ Some c → NoMore c t
 step_kept s t c e =
     let k = step_inside s t c e in
     record {
@@ -159,7 +159,7 @@ step_kept s t c e =
       asked = k.asked;
     }
 
-pub look_up_kept : (p : List Step) (t u : Tree) → look_up p t ≡ some u → NoMore u t
+pub look_up_kept : (p : List Step) (t u : Tree) → look_up p t ≡ Some u → NoMore u t
 look_up_kept [] t u e = rw (← some_inj {x = t} e) (no_more_same t)
 look_up_kept (s ∷ p) t u e =
     let f = then_some (step_into s t) (look_up p) u e in
@@ -174,19 +174,19 @@ look_up_kept (s ∷ p) t u e =
       asked = λ a p h. l.asked a p (k.asked a p h);
     }
 
-pub look_up_readable : (p : List Step) (t u : Tree) → look_up p t ≡ some u → Readable t → Readable u
+pub look_up_readable : (p : List Step) (t u : Tree) → look_up p t ≡ Some u → Readable t → Readable u
 look_up_readable p t u e r = no_more_readable u t (look_up_kept p t u e) r
 
 -- ---- delete
 
 -- What is left of an item, if anything, is no more than it was.
 abbrev NoMoreOf : Option Tree → Tree → Type 0
-NoMoreOf nothing c = Unit {0}
-NoMoreOf (some u) c = NoMore u c
+NoMoreOf None c = Unit {0}
+NoMoreOf (Some u) c = NoMore u c
 
-item_kept : (o : Option Tree) (i : ℕ) (ts : Items) (c : Tree) → item_at ts i ≡ some c → NoMoreOf o c → NoMoreItems (change_item o i ts) ts
+item_kept : (o : Option Tree) (i : ℕ) (ts : Items) (c : Tree) → item_at ts i ≡ Some c → NoMoreOf o c → NoMoreItems (change_item o i ts) ts
 item_kept o i none c e l = nothing_some e
-item_kept nothing zero (item t ts) c e l =
+item_kept None zero (item t ts) c e l =
     record {
       valid = λ v. v.1;
       sound = λ s. s.1;
@@ -194,7 +194,7 @@ item_kept nothing zero (item t ts) c e l =
       payload = omega arith;
       asked = λ a p h. (and_apart (every a t) (every_items a ts) h).1;
     }
-item_kept (some u) zero (item t ts) c e l =
+item_kept (Some u) zero (item t ts) c e l =
     let k : NoMore u t = rw (some_inj {x = t} e) l in
     record {
       valid = λ v. (k.valid v.0, v.1);
@@ -217,11 +217,11 @@ item_kept o (suc i) (item t ts) c e l =
           and_joined (every a t) (every_items a (change_item o i ts)) rest.0 (k.asked a p rest.1);
     }
 
-member_kept : (o : Option Tree) (n : Bytes) (ms : Members) (c : Tree) → find n ms ≡ some c → NoMoreOf o c → NoMoreMembers (change_member o n ms) ms
+member_kept : (o : Option Tree) (n : Bytes) (ms : Members) (c : Tree) → find n ms ≡ Some c → NoMoreOf o c → NoMoreMembers (change_member o n ms) ms
 member_kept o n empty c e l = nothing_some e
 member_kept o n (member m t ms) c e l =
     order_cases n m
-    (λ r. by r (find n ms) (some t) (find n ms) ≡ some c
+    (λ r. by r (find n ms) (Some t) (find n ms) ≡ Some c
     → NoMoreMembers (by r (member m t (change_member o n ms)) (kept_member m o ms) (member m t (change_member o n ms))) (member m t ms))
     (λ _ e. later (change_member o n ms) (member_kept o n ms c e l))
     (λ _ e. here o (rw (some_inj {x = t} e) l))
@@ -239,7 +239,7 @@ member_kept o n (member m t ms) c e l =
         }
 
     here : (o : Option Tree) → NoMoreOf o t → NoMoreMembers (kept_member m o ms) (member m t ms)
-    here nothing k =
+    here None k =
         record {
           valid = λ v. v.2;
           sound = λ s. s.1;
@@ -247,7 +247,7 @@ member_kept o n (member m t ms) c e l =
           payload = omega arith;
           asked = λ a p h. (member_apart a p m t ms h).2;
         }
-    here (some u) k =
+    here (Some u) k =
         record {
           valid = λ v. (v.0, k.valid v.1, v.2);
           sound = λ s. (k.sound s.0, s.1);
@@ -271,7 +271,7 @@ pub in_order_shorter : (ms : Members) → size_members (in_order ms) ≤ size_me
 in_order_shorter ms = omega (arith, all_size ms empty)
 
 -- A container written anew.
-anew_kept : (o : Option Tree) (s : Step) (t c : Tree) → step_into s t ≡ some c → NoMoreOf o c → NoMore (anew o s t) t
+anew_kept : (o : Option Tree) (s : Step) (t c : Tree) → step_into s t ≡ Some c → NoMoreOf o c → NoMore (anew o s t) t
 anew_kept o s null c e l = nothing_some e
 anew_kept o s (boolean x) c e l = nothing_some e
 anew_kept o s (number b) c e l = nothing_some e
@@ -303,7 +303,7 @@ anew_kept o s (object ms) c e l =
       asked = λ a p h. in_order_asked a p ns (k.asked a p h);
     }
 
-remains_kept : (p : List Step) (t v : Tree) → look_up p t ≡ some v → NoMoreOf (remains p t) t
+remains_kept : (p : List Step) (t v : Tree) → look_up p t ≡ Some v → NoMoreOf (remains p t) t
 remains_kept [] t v e = tt
 remains_kept (s ∷ p) t v e =
     let f = then_some (step_into s t) (look_up p) v e in
@@ -313,12 +313,12 @@ pub delete_kept : (p : List Step) (t : Tree) → NoMore (delete p t) t
 delete_kept p t = by_found (look_up p t) refl
   where
     or_same_kept : (o : Option Tree) → NoMoreOf o t → NoMore (or_same t o) t
-    or_same_kept nothing l = no_more_same t
-    or_same_kept (some u) l = l
+    or_same_kept None l = no_more_same t
+    or_same_kept (Some u) l = l
 
     by_found : (o : Option Tree) → look_up p t ≡ o → NoMore (or_same t (o then λ _. remains p t)) t
-    by_found nothing e = no_more_same t
-    by_found (some v) e = or_same_kept (remains p t) (remains_kept p t v e)
+    by_found None e = no_more_same t
+    by_found (Some v) e = or_same_kept (remains p t) (remains_kept p t v e)
 
 pub delete_readable : (p : List Step) (t : Tree) → Readable t → Readable (delete p t)
 delete_readable p t r = no_more_readable (delete p t) t (delete_kept p t) r

@@ -1,44 +1,104 @@
 -- What an item of a path record is: numbers and codes as keys, and whether all items are steps.
-use Prim.Native.Nat.{ℕ, zero, suc, ◌+◌, ◌-◌, ◌<◌, ◌≤◌}
+use Prim.Native.Nat.{ℕ, zero, suc, ◌^◌, ◌<◌}
 use native.Mathlib.Omega.{arith}
-use native.Mathlib.Nat.{sub-zero}
-use mathlib.Core.Path.{◌≡◌, refl, sym, ◌∙◌}
-use mathlib.Core.Bool.{Bool, true, false, ◌&&◌}
-use mathlib.Core.List.{◌∷◌}
-use lib.IntN.{ℤ}
+use mathlib.Core.Path.{◌≡◌, refl}
+use mathlib.Core.List.{map}
+use Rattle.edits.specs.Keypath.{Step}
+use lib.IntN.{ℤ, pos}
+use lib.Signed.{mag}
+use mir.Syntax.{w32}
+use mir.Val.{SFits, to_z, of_z}
+use mir.ValLaws.{to_z-of_z}
+use native.Mathlib.Decide.{dec_lt}
+use Rattle.std.specs.Result.{OkIff, result_ok}
 use lib.ListN.{take, drop}
-use borrow.Author.Tests.{ne_eqb}
+use borrow.Author.Tests.{ne_eqb, lt-ltb, le-ltb}
 use Rattle.layout.specs.Bytes.{Bytes}
 use Rattle.layout.specs.Entry.{code, code_of, length_of, kind_of, entry_at}
 use Rattle.layout.specs.Number.{decoded}
 use Rattle.layout.specs.Place.{part_at, parts_at}
 use Rattle.layout.specs.declared.number.Number.{Number}
-use Rattle.layout.specs.declared.number.Number.TheVariants.{Int64}
+use Rattle.layout.specs.declared.number.Number.TheVariants.{Nan, Infinity, NegInfinity, Int64, UInt64, Float64, Decimal64, WideDecimal}
 use Rattle.layout.proofs.Fields.{code_lt}
-use Rattle.layout.proofs.Checks.{parts_step}
-use Rattle.edits.specs.Steps.{int_key, number_key, code_key, is_step, step, part_key, are_steps, part_steps}
+use Rattle.edits.specs.Steps.{int_key, number_key, code_key, decoded_key, is_step, step, part_key, are_steps, part_steps}
 use Rattle.edits.specs.declared.keypath.KeyPath.{KeyPath}
-use Rattle.edits.specs.declared.keypath.KeyPath.TheVariants.{Index, Name, Other}
+use Rattle.edits.specs.declared.keypath.KeyPath.TheVariants.{Index, Name}
+use Rattle.layout.specs.declared.refusal.Refusal.{Refusal}
+use Rattle.std.specs.Prelude.{Ok, Err, Some, None, Result, Option}
+use Rattle.std.specs.List.{list_all}
+use Rattle.layout.specs.Left.{Placed, placed_from}
+use Rattle.layout.specs.Parts.{next_part}
+use Rattle.layout.specs.declared.parts.PartAt.{PartAt}
 
--- The key of a number that is known, as the code's `match` tells it.
-pub number_as : (n m : Number) (k : KeyPath) → n ≡ m → k ≡ number_key m → k ≡ number_key n
-number_as n m k e h = rw e h
+-- An integer as an index: what `i32::try_from` gives of it.
+index_none : (z : ℤ) → ¬ SFits w32 z → None ≡ int_key z
+unfolding int_key
+index_none z h = go (dec_lt (mag z) (2 ^ 31))
+  where
+    go : Dec (mag z < 2 ^ 31) → None ≡ int_key z
+    go (yes q) = absurd (h (record { sfits = q }))
+    go (no q) = rw (le-ltb (mag z) (2 ^ 31) (omega arith))
 
-pub number_int : (n : Number) (v z : ℤ) (k : KeyPath) → n ≡ Int64 z → v ≡ z → k ≡ int_key v → k ≡ number_key n
+index_some : (z : ℤ) → SFits w32 z → Some (Index z) ≡ int_key z
+unfolding int_key
+index_some z h = rw (lt-ltb (mag z) (2 ^ 31) h.sfits)
+
+module _ {E : Type 0} (z : ℤ) (r : Result ℤ E) (h : OkIff r (SFits w32 z) z) where
+  pub no_index : result_ok r ≡ None → None ≡ int_key z
+  no_index = go r h
+    where
+      go : (r : Result ℤ E) → OkIff r (SFits w32 z) z → result_ok r ≡ None → None ≡ int_key z
+      go (Ok i) h q = cc
+      go (Err e) h q = index_none z h
+
+  pub an_index : (i : ℤ) → result_ok r ≡ Some i → Some (Index (to_z w32 (of_z w32 i))) ≡ int_key z
+  an_index = go r h
+    where
+      go : (r : Result ℤ E) → OkIff r (SFits w32 z) z → (i : ℤ) → result_ok r ≡ Some i → Some (Index (to_z w32 (of_z w32 i))) ≡ int_key z
+      go (Ok j) h i q = let e : i ≡ z = cc in rw (e, to_z-of_z w32 z h.0) (index_some z h.0)
+      go (Err e) h i q = cc
+
+-- A number's key by what it is. `v` is what the machine reads of z.
+module _ (n : Number) (k : Option KeyPath) where
+  pub signed_key : (v z : ℤ) → n ≡ Int64 z → v ≡ z → k ≡ int_key v → k ≡ number_key n
+  unfolding number_key
+  signed_key v z e ev h = rw (e, ← ev) h
+
+  pub unsigned_key : (v : ℕ) → n ≡ UInt64 v → k ≡ int_key (pos v) → k ≡ number_key n
+  unfolding number_key
+  unsigned_key v e h = rw e h
+
+pub no_key : (n : Number) → ((z : ℤ) → n ≡ Int64 z → ⊥) → ((v : ℕ) → n ≡ UInt64 v → ⊥) → None ≡ number_key n
 unfolding number_key
-number_int n v z k e ev h = rw (e, ← ev) h
+no_key Nan p q = refl
+no_key Infinity p q = refl
+no_key NegInfinity p q = refl
+no_key (Int64 z) p q = absurd (p z refl)
+no_key (UInt64 v) p q = absurd (q v refl)
+no_key (Float64 b) p q = refl
+no_key (Decimal64 z s) p q = refl
+no_key (WideDecimal b) p q = refl
+
+-- What was decoded is a number or none.
+pub decoded_none : (n : Result Number Refusal) → result_ok n ≡ None → None ≡ decoded_key n
+decoded_none (Ok m) q = cc
+decoded_none (Err x) q = refl
+
+pub decoded_some : (n : Result Number Refusal) (m : Number) → result_ok n ≡ Some m → number_key m ≡ decoded_key n
+decoded_some (Ok k) m q = let e : k ≡ m = cc in rw e
+decoded_some (Err x) m q = cc
 
 -- By the code of an entry.
 module _ (e c : ℕ) (b : Bytes) (hc : c ≡ code_of e) where
-  pub key_name : c ≡ 1 → Name ≡ code_key (code_of e) b
+  pub key_name : c ≡ 1 → Some Name ≡ code_key (code_of e) b
   unfolding code_key
   key_name q = rw (← hc, q)
 
-  pub key_number : c ≡ 2 → (n : Number) (k : KeyPath) → n ≡ decoded b → k ≡ number_key n → k ≡ code_key (code_of e) b
+  pub key_number : c ≡ 2 → (n : Result Number Refusal) (k : Option KeyPath) → n ≡ decoded b → k ≡ decoded_key n → k ≡ code_key (code_of e) b
   unfolding code_key
   key_number q n k hn hk = rw (← hc, q, ← hn) hk
 
-  pub key_other : (c ≡ 1 → ⊥) → (c ≡ 2 → ⊥) → Other ≡ code_key (code_of e) b
+  pub key_other : (c ≡ 1 → ⊥) → (c ≡ 2 → ⊥) → None ≡ code_key (code_of e) b
   unfolding code_key
   key_other p q = rw (← hc, ne_eqb c 1 p, ne_eqb c 2 q)
 
@@ -60,38 +120,19 @@ pub part_key_at : (s : Bytes) (i p e l : ℕ) (piece : Bytes) → e ≡ entry_at
     → part_key (part_at s i p) ≡ code_key (code_of e) piece
 part_key_at s i p e l piece he hl hp = rw (hp, hl, he) (kind_key (code_of (entry_at s i)) _ (code_lt (entry_at s i)))
 
--- The steps from the `i`th on, as the code reads one after another.
-pub next_step : (s : Bytes) (i p n e l : ℕ) (piece : Bytes) → i < n → e ≡ entry_at s i → l ≡ length_of e → piece ≡ take l (drop p s)
-    → part_steps (parts_at s i p (n - i))
-    ≡ step (code_key (code_of e) piece) piece ∷ part_steps (parts_at s (i + 1) (p + l) (n - (i + 1)))
-next_step s i p n e l piece lt he hl hp =
-    let key : part_key (part_at s i p) ≡ code_key (code_of e) piece = part_key_at s i p e l piece he hl hp in
-    rw (parts_step s i p n lt, key, ← he, ← hl, ← hp)
+-- The step that a part of a table is.
+abbrev pub placed_step : Placed → Step
+placed_step q = step (code_key (code_of q.jentry) q.bytes) q.bytes
 
--- All items.
-pub steps_start : (s : Bytes) (start n : ℕ) → are_steps (parts_at s 0 start n) ≡ are_steps (parts_at s 0 start (n - 0))
-steps_start s start n = rw (sub-zero n)
+pub steps_placed : (s : Bytes) (at : PartAt) (k : ℕ) → map placed_step (placed_from s at k) ≡ part_steps (parts_at s at.index at.place k)
+unfolding placed_from parts_at
+steps_placed s at zero = refl
+steps_placed s at (suc k) = rw (kind_key (code_of (entry_at s at.index)) _ (code_lt (entry_at s at.index)), steps_placed s (next_part s at) k)
 
-step_first : (k : KeyPath) (x : Bool) → (k ≡ Other → ⊥) → (is_step k && x) ≡ x
-step_first (Index z) x h = refl
-step_first Name x h = refl
-step_first Other x h = absurd (h refl)
-
-module _ (s : Bytes) (start n i p : ℕ) (inv : are_steps (parts_at s 0 start n) ≡ are_steps (parts_at s i p (n - i))) where
-  module _ (lt : i < n) (e l : ℕ) (piece : Bytes) (k : KeyPath) (he : e ≡ entry_at s i) (hl : l ≡ length_of e)
-      (hp : piece ≡ take l (drop p s)) (hk : k ≡ code_key (code_of e) piece) where
-    steps_turn : are_steps (parts_at s 0 start n) ≡ (is_step k && are_steps (parts_at s (i + 1) (p + l) (n - (i + 1))))
-    unfolding are_steps
-    steps_turn =
-        let key : part_key (part_at s i p) ≡ k = part_key_at s i p e l piece he hl hp ∙ sym hk in
-        inv ∙ rw (parts_step s i p n lt, key, ← he, ← hl)
-
-    pub steps_other : k ≡ Other → false ≡ are_steps (parts_at s 0 start n)
-    steps_other q = rw (steps_turn, q)
-
-    pub steps_more : (k ≡ Other → ⊥) → are_steps (parts_at s 0 start n) ≡ are_steps (parts_at s (i + 1) (p + l) (n - (i + 1)))
-    steps_more q = steps_turn ∙ step_first k _ q
-
-  pub steps_end : n ≤ i → true ≡ are_steps (parts_at s 0 start n)
-  unfolding are_steps parts_at
-  steps_end h = let z : n - i ≡ 0 = omega arith in rw (inv, z)
+-- All items that are left are steps where those of the parts are.
+pub all_steps : (s : Bytes) (at : PartAt) (k : ℕ)
+    → list_all (λ (q : Placed). is_step (code_key (code_of q.jentry) q.bytes)) (placed_from s at k)
+    ≡ are_steps (parts_at s at.index at.place k)
+unfolding placed_from parts_at are_steps
+all_steps s at zero = refl
+all_steps s at (suc k) = rw (kind_key (code_of (entry_at s at.index)) _ (code_lt (entry_at s at.index)), all_steps s (next_part s at) k)

@@ -7,7 +7,6 @@ use mathlib.Core.Path.{◌≡◌, refl, ap, ap₂, sym, ◌∙◌}
 use mathlib.Core.Logic.{⊎_elim}
 use mathlib.Core.Bool.{Bool, true, false, cond}
 use mathlib.Core.List.{List, [], ◌∷◌, ◌++◌, append_assoc}
-use mathlib.Core.Option.{Option, none as nothing, some}
 use lib.ListN.{length, take, drop, length-append}
 use lib.Seq.{take_at, drop_at, drop-drop}
 use Rattle.layout.specs.Bytes.{Bytes, Octets}
@@ -16,9 +15,8 @@ use Rattle.layout.specs.Encode.{Part, payload, part, record_of, item_parts, name
 use Rattle.layout.specs.Read.{header, nested}
 use Rattle.layout.specs.Check.{checked}
 use Rattle.layout.specs.Sound.{Rising}
-use Rattle.layout.specs.declared.check.Check.TheVariants.{Readable}
 use Rattle.layout.specs.declared.util.Header.{Header}
-use Rattle.layout.specs.declared.util.Header.TheVariants.{Array, Object, Scalar, Refused}
+use Rattle.layout.specs.declared.util.Header.TheVariants.{Array, Object, Scalar}
 use Rattle.layout.proofs.Encoding.{names_count}
 use Rattle.layout.proofs.Patches.{length_patch}
 use Rattle.builders.specs.Order.{in_order}
@@ -36,58 +34,59 @@ use Rattle.edits.specs.Remains.{remains_in, remains_of}
 use Rattle.layout.specs.Parts.{count_parts, PartOf, parts_of}
 use Rattle.edits.specs.Runs.{Table, without, without_member}
 use Rattle.layout.specs.declared.parts.PartAt.{PartAt}
-use Rattle.edits.specs.declared.find.Spot.TheVariants.{At}
-use Rattle.edits.specs.declared.delete.Manner.TheVariants.{Items as ByItems, Rising as ByRising, Unsorted, Neither}
+use Rattle.edits.specs.declared.delete.Manner.TheVariants.{Items as ByItems, Rising as ByRising, Unsorted}
 use Rattle.edits.proofs.Deletes.{change_rising}
 use Rattle.edits.proofs.Splits.{ItemSplit, item_split, MemberSplit, member_split}
 use Rattle.edits.proofs.Tables.{Contains, contains, array_parted, object_parted, object_rises}
 use Rattle.edits.proofs.Spots.{array_spot}
 use Rattle.edits.proofs.Sorteds.{ValueAt, value_at}
+use Rattle.std.specs.Prelude.{Ok, Err, Some, None, Result, Option}
+use Rattle.layout.specs.declared.refusal.Refusal.{Refusal}
 
 -- What the manner says of the header.
-pub manner_array : (s : Bytes) (h : Header) (n : ℕ) → ByItems n ≡ manner_of h s → h ≡ Array n
-manner_array s (Array m) n e = cc
-manner_array s (Scalar m) n e = let z : ◌≡◌ {A = ℕ} 0 1 = cc in let w : ⊥ = omega arith in absurd w
-manner_array s (Refused r) n e = let z : ◌≡◌ {A = ℕ} 0 1 = cc in let w : ⊥ = omega arith in absurd w
-manner_array s (Object m) n e = go (rises s m) e
+pub manner_array : (s : Bytes) (h : Result Header Refusal) (n : ℕ) → Some (ByItems n) ≡ manner_of h s → h ≡ Ok (Array n)
+manner_array s (Ok (Array m)) n e = cc
+manner_array s (Ok (Scalar m)) n e = let z : ◌≡◌ {A = ℕ} 0 1 = cc in let w : ⊥ = omega arith in absurd w
+manner_array s (Err r) n e = let z : ◌≡◌ {A = ℕ} 0 1 = cc in let w : ⊥ = omega arith in absurd w
+manner_array s (Ok (Object m)) n e = go (rises s m) e
   where
-    go : (g : Bool) → ByItems n ≡ cond g (ByRising m) (Unsorted m) → Object m ≡ Array n
+    go : (g : Bool) → Some (ByItems n) ≡ cond g (Some (ByRising m)) (Some (Unsorted m)) → ◌≡◌ {A = Result Header Refusal} (Ok (Object m)) (Ok (Array n))
     go true q = let z : ◌≡◌ {A = ℕ} 0 1 = cc in let w : ⊥ = omega arith in absurd w
     go false q = let z : ◌≡◌ {A = ℕ} 0 1 = cc in let w : ⊥ = omega arith in absurd w
 
-pub manner_object : (s : Bytes) (h : Header) (n : ℕ) → ByRising n ≡ manner_of h s
-    → (h ≡ Object n) × (rises s n ≡ true)
-manner_object s (Array m) n e = let z : ◌≡◌ {A = ℕ} 0 1 = cc in let w : ⊥ = omega arith in absurd w
-manner_object s (Scalar m) n e = let z : ◌≡◌ {A = ℕ} 0 1 = cc in let w : ⊥ = omega arith in absurd w
-manner_object s (Refused r) n e = let z : ◌≡◌ {A = ℕ} 0 1 = cc in let w : ⊥ = omega arith in absurd w
-manner_object s (Object m) n e = go (rises s m) refl e
+pub manner_object : (s : Bytes) (h : Result Header Refusal) (n : ℕ) → Some (ByRising n) ≡ manner_of h s
+    → (h ≡ Ok (Object n)) × (rises s n ≡ true)
+manner_object s (Ok (Array m)) n e = let z : ◌≡◌ {A = ℕ} 0 1 = cc in let w : ⊥ = omega arith in absurd w
+manner_object s (Ok (Scalar m)) n e = let z : ◌≡◌ {A = ℕ} 0 1 = cc in let w : ⊥ = omega arith in absurd w
+manner_object s (Err r) n e = let z : ◌≡◌ {A = ℕ} 0 1 = cc in let w : ⊥ = omega arith in absurd w
+manner_object s (Ok (Object m)) n e = go (rises s m) refl e
   where
-    go : (g : Bool) → rises s m ≡ g → ByRising n ≡ cond g (ByRising m) (Unsorted m)
-        → (Object m ≡ Object n) × (rises s n ≡ true)
-    go true r q = let z : m ≡ n = cc in (ap Object z, rw (← z) r)
+    go : (g : Bool) → rises s m ≡ g → Some (ByRising n) ≡ cond g (Some (ByRising m)) (Some (Unsorted m))
+        → (◌≡◌ {A = Result Header Refusal} (Ok (Object m)) (Ok (Object n))) × (rises s n ≡ true)
+    go true r q = let z : m ≡ n = cc in (ap (λ x. Ok (Object x)) z, rw (← z) r)
     go false r q = let z : ◌≡◌ {A = ℕ} 0 1 = cc in let w : ⊥ = omega arith in absurd w
 
-pub manner_search : (s : Bytes) (h : Header) (n : ℕ) → Unsorted n ≡ manner_of h s → h ≡ Object n
-manner_search s (Array m) n e = let z : ◌≡◌ {A = ℕ} 0 1 = cc in let w : ⊥ = omega arith in absurd w
-manner_search s (Scalar m) n e = let z : ◌≡◌ {A = ℕ} 0 1 = cc in let w : ⊥ = omega arith in absurd w
-manner_search s (Refused r) n e = let z : ◌≡◌ {A = ℕ} 0 1 = cc in let w : ⊥ = omega arith in absurd w
-manner_search s (Object m) n e = go (rises s m) e
+pub manner_search : (s : Bytes) (h : Result Header Refusal) (n : ℕ) → Some (Unsorted n) ≡ manner_of h s → h ≡ Ok (Object n)
+manner_search s (Ok (Array m)) n e = let z : ◌≡◌ {A = ℕ} 0 1 = cc in let w : ⊥ = omega arith in absurd w
+manner_search s (Ok (Scalar m)) n e = let z : ◌≡◌ {A = ℕ} 0 1 = cc in let w : ⊥ = omega arith in absurd w
+manner_search s (Err r) n e = let z : ◌≡◌ {A = ℕ} 0 1 = cc in let w : ⊥ = omega arith in absurd w
+manner_search s (Ok (Object m)) n e = go (rises s m) e
   where
-    go : (g : Bool) → Unsorted n ≡ cond g (ByRising m) (Unsorted m) → Object m ≡ Object n
+    go : (g : Bool) → Some (Unsorted n) ≡ cond g (Some (ByRising m)) (Some (Unsorted m)) → ◌≡◌ {A = Result Header Refusal} (Ok (Object m)) (Ok (Object n))
     go true q = let z : ◌≡◌ {A = ℕ} 0 1 = cc in let w : ⊥ = omega arith in absurd w
     go false q = cc
 
--- Where it says neither, no step leads on.
-pub no_manner : {C : Type 0} (s : Bytes) (h : Header) → Neither ≡ manner_of h s → (a : PartAt) (p : Step) → spot h s p ≡ At a → C
+-- Where it says none, no step leads on.
+pub no_manner : {C : Type 0} (s : Bytes) (h : Result Header Refusal) → None ≡ manner_of h s → (a : PartAt) (p : Step) → spot h s p ≡ Some a → C
 unfolding spot
-no_manner s (Array m) e a p q = let z : ◌≡◌ {A = ℕ} 0 1 = cc in let w : ⊥ = omega arith in absurd w
-no_manner s (Object m) e a p q = absurd (go (rises s m) e)
+no_manner s (Ok (Array m)) e a p q = let z : ◌≡◌ {A = ℕ} 0 1 = cc in let w : ⊥ = omega arith in absurd w
+no_manner s (Ok (Object m)) e a p q = absurd (go (rises s m) e)
   where
-    go : (g : Bool) → Neither ≡ cond g (ByRising m) (Unsorted m) → ⊥
+    go : (g : Bool) → None ≡ cond g (Some (ByRising m)) (Some (Unsorted m)) → ⊥
     go true r = let z : ◌≡◌ {A = ℕ} 0 1 = cc in omega arith
     go false r = let z : ◌≡◌ {A = ℕ} 0 1 = cc in omega arith
-no_manner s (Scalar m) e a p q = let z : ◌≡◌ {A = ℕ} 0 1 = cc in let w : ⊥ = omega arith in absurd w
-no_manner s (Refused r) e a p q = let z : ◌≡◌ {A = ℕ} 0 1 = cc in let w : ⊥ = omega arith in absurd w
+no_manner s (Ok (Scalar m)) e a p q = let z : ◌≡◌ {A = ℕ} 0 1 = cc in let w : ⊥ = omega arith in absurd w
+no_manner s (Err r) e a p q = let z : ◌≡◌ {A = ℕ} 0 1 = cc in let w : ⊥ = omega arith in absurd w
 
 -- The same bytes, written in another way.
 pub stores_as : {r : ℕ} {before after : Bytes} {at : ℕ} {b c : Bytes} → c ≡ b → Stores r before after at b → Stores r before after at c
@@ -109,7 +108,7 @@ pub record Led (s : Bytes) (n : ℕ) (a : PartAt) (p : Step) : Type 0 where
   pub tree : Tree
   pub value : Tree
   pub contained : Contains 64 s tree
-  pub found : step_into p tree ≡ some value
+  pub found : step_into p tree ≡ Some value
   pub table : Table s n
   pub inside : PartOf s n a
   pub word : ℕ
@@ -119,11 +118,11 @@ pub record Led (s : Bytes) (n : ℕ) (a : PartAt) (p : Step) : Type 0 where
   pub parts : parts_of s n ≡ left ++ (part value ∷ right)
   pub before : length left ≡ a.index
   pub bytes : record_of word (left ++ (part value ∷ right)) ≡ s
-  pub changed : (u : Tree) → payload (anew (some u) p tree) ≡ record_of word (left ++ (part u ∷ right))
+  pub changed : (u : Tree) → payload (anew (Some u) p tree) ≡ record_of word (left ++ (part u ∷ right))
 
 -- An array.
-module _ (s : Bytes) (a : PartAt) (p : Step) (ts : Items) (c : Contains 64 s (array ts)) (k : ℕ) (v : Tree) (hk : step_place p (count ts) ≡ some k)
-    (sp : ItemSplit ts k v) (hv : item_at ts k ≡ some v) (ha : a ≡ nth_part s (length (item_parts ts)) k) where
+module _ (s : Bytes) (a : PartAt) (p : Step) (ts : Items) (c : Contains 64 s (array ts)) (k : ℕ) (v : Tree) (hk : step_place p (count ts) ≡ Some k)
+    (sp : ItemSplit ts k v) (hv : item_at ts k ≡ Some v) (ha : a ≡ nth_part s (length (item_parts ts)) k) where
   abbrev n : ℕ
   n = length (item_parts ts)
 
@@ -155,7 +154,7 @@ module _ (s : Bytes) (a : PartAt) (p : Step) (ts : Items) (c : Contains 64 s (ar
         changed = λ u. changed_array u;
       }
     where
-      changed_array : (u : Tree) → payload (anew (some u) p (array ts)) ≡ record_of (2 ^ 31 + n) (sp.left ++ (part u ∷ sp.right))
+      changed_array : (u : Tree) → payload (anew (Some u) p (array ts)) ≡ record_of (2 ^ 31 + n) (sp.left ++ (part u ∷ sp.right))
       changed_array u =
           let l : length (sp.left ++ (part u ∷ sp.right)) ≡ n = omega (arith, size_all, length-append sp.left (part u ∷ sp.right)) in
           rw (hk, sp.changed u, l)
@@ -166,14 +165,14 @@ module _ (s : Bytes) (a : PartAt) (p : Step) (ts : Items) (c : Contains 64 s (ar
       let l : length (sp.left ++ sp.right) ≡ n - 1 = omega (arith, size_all, length-append sp.left sp.right) in
       let w : without a.index (parts_of s n) ≡ sp.left ++ sp.right =
       rw (array_parts, index_is) (without_split sp.left (part v) sp.right k sp.before) in
-      let met : step_into p (array ts) ≡ some v = rw (hk, hv) in
-      let left : remains_of s (p ∷ []) ≡ payload (array (change_item nothing k ts)) =
+      let met : step_into p (array ts) ≡ Some v = rw (hk, hv) in
+      let left : remains_of s (p ∷ []) ≡ payload (array (change_item None k ts)) =
       ap (λ r. remains_in r (p ∷ [])) c.reads ∙ ap (λ o. payload (anew (o then remains []) p (array ts))) met
-      ∙ ap (λ o. payload (array (change_at nothing o ts))) hk in
+      ∙ ap (λ o. payload (array (change_at None o ts))) hk in
       left ∙ rw (sp.gone, l, w)
 
-pub array_led : (s : Bytes) (n : ℕ) (a : PartAt) (p : Step) → Octets s → checked (nested 64 s) ≡ Readable → length s ≤ 65536
-    → header s ≡ Array n → spot (header s) s p ≡ At a
+pub array_led : (s : Bytes) (n : ℕ) (a : PartAt) (p : Step) → Octets s → checked (nested 64 s) ≡ Ok tt → length s ≤ 65536
+    → header s ≡ Ok (Array n) → spot (header s) s p ≡ Some a
     → Led s n a p × (remains_of s (p ∷ []) ≡ record_of (2 ^ 31 + (n - 1)) (without a.index (parts_of s n)))
 array_led s n a p o c l h q =
     let k = contains 64 s o l c in
@@ -233,11 +232,11 @@ module _ (s : Bytes) (n : ℕ) (a : PartAt) (p : Step) (v : ValueAt s n a p) (ha
         changed = λ u. changed_object u;
       }
     where
-      changed_object : (u : Tree) → payload (anew (some u) p (object ms))
+      changed_object : (u : Tree) → payload (anew (Some u) p (object ms))
           ≡ record_of (2 ^ 30 + n) ((name_parts (names ms) ++ sp.vals_left) ++ (part u ∷ sp.vals_right))
       changed_object u =
           let l : length (sp.vals_left ++ (part u ∷ sp.vals_right)) ≡ n = omega (arith, vals_all, length-append sp.vals_left (part u ∷ sp.vals_right)) in
-          rw (stays (some u), sp.keys_changed u, sp.vals_changed u, l, append_assoc (name_parts (names ms)) sp.vals_left (part u ∷ sp.vals_right))
+          rw (stays (Some u), sp.keys_changed u, sp.vals_changed u, l, append_assoc (name_parts (names ms)) sp.vals_left (part u ∷ sp.vals_right))
 
   rising_gone_by : remains_of s (p ∷ []) ≡ record_of (2 ^ 30 + (n - 1)) (without_member n (a.index - n) (parts_of s (n + n)))
   unfolding remains_of
@@ -252,12 +251,12 @@ module _ (s : Bytes) (n : ℕ) (a : PartAt) (p : Step) (v : ValueAt s n a p) (ha
       rw (k, tk, dv)
       (ap₂ ◌++◌ (without_split sp.keys_left (name_part (step_name p)) sp.keys_right sp.count sp.keys_before)
       (without_split sp.vals_left (part v.value) sp.vals_right sp.count sp.vals_before)) in
-      let left : remains_of s (p ∷ []) ≡ payload (object (in_order (change_member nothing (step_name p) ms))) =
+      let left : remains_of s (p ∷ []) ≡ payload (object (in_order (change_member None (step_name p) ms))) =
       ap (λ r. remains_in r (p ∷ [])) v.reads ∙ ap (λ o. payload (anew (o then remains []) p (object ms))) v.found in
-      left ∙ rw (stays nothing, sp.keys_gone, sp.vals_gone, l, w)
+      left ∙ rw (stays None, sp.keys_gone, sp.vals_gone, l, w)
 
-pub rising_led : (s : Bytes) (n : ℕ) (a : PartAt) (p : Step) → Octets s → checked (nested 64 s) ≡ Readable → length s ≤ 65536
-    → header s ≡ Object n → rises s n ≡ true → spot (header s) s p ≡ At a
+pub rising_led : (s : Bytes) (n : ℕ) (a : PartAt) (p : Step) → Octets s → checked (nested 64 s) ≡ Ok tt → length s ≤ 65536
+    → header s ≡ Ok (Object n) → rises s n ≡ true → spot (header s) s p ≡ Some a
     → Led s (n + n) a p × (n ≤ a.index) × (remains_of s (p ∷ []) ≡ record_of (2 ^ 30 + (n - 1)) (without_member n (a.index - n) (parts_of s (n + n))))
 rising_led s n a p o c l h up q =
     let v = value_at s n a p o c l h q in (
@@ -266,8 +265,8 @@ rising_led s n a p o c l h up q =
       rising_gone_by s n a p v v.stands up,
     )
 
-pub runs_led : (s : Bytes) (n : ℕ) (a : PartAt) (p : Step) → Octets s → checked (nested 64 s) ≡ Readable → length s ≤ 65536 → InRuns s n
-    → spot (header s) s p ≡ At a → Led s n a p
+pub runs_led : (s : Bytes) (n : ℕ) (a : PartAt) (p : Step) → Octets s → checked (nested 64 s) ≡ Ok tt → length s ≤ 65536 → InRuns s n
+    → spot (header s) s p ≡ Some a → Led s n a p
 runs_led s n a p o c l r q =
     ⊎_elim
     (λ h. (array_led s n a p o c l h q).0)

@@ -4,7 +4,6 @@ use native.Mathlib.Omega.{arith}
 use mathlib.Core.Path.{◌≡◌, refl, ap, ap₂, sym, ◌∙◌}
 use mathlib.Core.Bool.{true, false}
 use mathlib.Core.List.{List, [], ◌∷◌}
-use mathlib.Core.Option.{Option, some}
 use lib.ListN.{length, take, drop}
 use Rattle.layout.specs.Bytes.{Bytes, Octets}
 use Rattle.layout.specs.Answer.{gives}
@@ -16,7 +15,6 @@ use Rattle.layout.specs.Check.{checked}
 use Rattle.layout.specs.Limits.{size}
 use Rattle.layout.specs.Place.{part_at, parts_at}
 use Rattle.layout.specs.declared.item.Kind.TheVariants.{Container}
-use Rattle.layout.specs.declared.check.Check.TheVariants.{Readable}
 use Rattle.layout.proofs.Fields.{length_lt}
 use Rattle.layout.proofs.Words.{octets_take, octets_drop}
 use Rattle.layout.proofs.Readables.{nested_reads, size_payload}
@@ -31,14 +29,13 @@ use Rattle.layout.specs.Parts.{next_part}
 use Rattle.layout.proofs.Carries.{part_on}
 use Rattle.edits.specs.Way.{step_at, steps_from, way_behind, Cuts, Onward}
 use Rattle.layout.specs.declared.parts.PartAt.{PartAt}
-use Rattle.edits.specs.declared.find.Spot.{Spot}
-use Rattle.edits.specs.declared.find.Spot.TheVariants.{Nothing}
 use Rattle.edits.specs.declared.delete.Way.{Way}
 use Rattle.edits.proofs.Deletes.{then_some, some_inj, nothing_some}
 use Rattle.edits.proofs.Kept.{delete_kept, step_inside}
 use Rattle.edits.proofs.Tables.{Contains, contains, contains_more}
 use Rattle.edits.proofs.Keys.{part_key_at}
 use Rattle.edits.proofs.Spots.{spot_part, spot_none}
+use Rattle.std.specs.Prelude.{Ok, Some, None, Option}
 
 -- The next step, and those behind it.
 pub steps_cons : (path : Bytes) (w : Way) → w.step.index < w.count → steps_from path w ≡ step_at path w.step ∷ steps_from path (way_behind path w)
@@ -46,7 +43,7 @@ unfolding parts_at
 steps_cons path w h = let z : w.count - w.step.index ≡ suc (w.count - (w.step.index + 1)) = omega arith in rw z
 
 -- Only a container has something inside.
-pub inside_container : (p : Step) (t v : Tree) → step_into p t ≡ some v → kind t ≡ Container
+pub inside_container : (p : Step) (t v : Tree) → step_into p t ≡ Some v → kind t ≡ Container
 inside_container p null v e = nothing_some e
 inside_container p (boolean x) v e = nothing_some e
 inside_container p (number b) v e = nothing_some e
@@ -61,7 +58,7 @@ pub record Below (s path : Bytes) (w : Way) (a : PartAt) (allowance : ℕ) : Typ
   pub value : Tree
   pub after : Tree
   pub contained : Contains 64 s tree
-  pub found : step_into (step_at path w.step) tree ≡ some value
+  pub found : step_into (step_at path w.step) tree ≡ Some value
   pub container : kind value ≡ Container
   pub child : take (length_of (entry_at s a.index)) (drop a.place s) ≡ payload value
   pub child_within : a.place + length (payload value) ≤ length s
@@ -70,7 +67,7 @@ pub record Below (s path : Bytes) (w : Way) (a : PartAt) (allowance : ℕ) : Typ
   pub inner : remains_of (payload value) (steps_from path (way_behind path w)) ≡ payload after
   pub made : kind after ≡ Container
   pub shorter : length (payload after) ≤ length (payload value)
-  pub remains_is : remains_of s (steps_from path w) ≡ payload (anew (some after) (step_at path w.step) tree)
+  pub remains_is : remains_of s (steps_from path w) ≡ payload (anew (Some after) (step_at path w.step) tree)
   pub remains_shorter : length (remains_of s (steps_from path w)) ≤ length s
 
 -- What is left of a container is a container.
@@ -85,7 +82,7 @@ anew_kind o p (array ts) = refl
 anew_kind o p (object ms) = refl
 
 -- Where a path of one step or more finds something, what is left is shorter or as long.
-remains_no_longer : (p : Step) (q : List Step) (t x u : Tree) → look_up (p ∷ q) t ≡ some x → remains (p ∷ q) t ≡ some u → length (payload u) ≤ length (payload t)
+remains_no_longer : (p : Step) (q : List Step) (t x u : Tree) → look_up (p ∷ q) t ≡ Some x → remains (p ∷ q) t ≡ Some u → length (payload u) ≤ length (payload t)
 remains_no_longer p q t x u e h =
     let d : delete (p ∷ q) t ≡ u = rw (e, some_inj h) in
     omega (arith, (delete_kept (p ∷ q) t).payload, ap size d, size_payload t, size_payload u)
@@ -100,8 +97,8 @@ below_by s path w a allowance p₂ q₂ o c h e₂ t k =
     let sp = spot_part t s (step_at path w.step) a k.bytes k.container k.short h.leads in
     let v : Tree = sp.tree in
     let x : Tree = c.finds.0 in
-    let found_all : look_up (step_at path w.step ∷ p₂ ∷ q₂) t ≡ some c.finds.0 = rw (all, k₆.reads) at c.finds.1 in
-    let found_in : look_up (p₂ ∷ q₂) sp.tree ≡ some c.finds.0 = rw sp.found at found_all in
+    let found_all : look_up (step_at path w.step ∷ p₂ ∷ q₂) t ≡ Some c.finds.0 = rw (all, k₆.reads) at c.finds.1 in
+    let found_in : look_up (p₂ ∷ q₂) sp.tree ≡ Some c.finds.0 = rw sp.found at found_all in
     let step₂ = then_some (step_into p₂ sp.tree) (look_up q₂) c.finds.0 found_in in
     let kv : kind sp.tree ≡ Container = inside_container p₂ sp.tree step₂.0 step₂.1 in
     let ins = step_inside (step_at path w.step) t sp.tree sp.found in
@@ -112,11 +109,11 @@ below_by s path w a allowance p₂ q₂ o c h e₂ t k =
     (nested_reads (allowance - 1) (payload sp.tree) sp.tree ov (omega (arith, len, c.short))).1 (same, ins.valid k.valid, omega (arith, ins.deep, k.deep)) in
     let r₆ : nested 64 (payload sp.tree) ≡ gives sp.tree =
     (nested_reads 64 (payload sp.tree) sp.tree ov (omega (arith, len, c.short))).1 (same, ins.valid k.valid, omega (arith, ins.deep, k.deep, c.allowed)) in
-    let li : remains_of s (steps_from path w) ≡ payload (anew (some (anew (step_into p₂ sp.tree then remains q₂) p₂ sp.tree)) (step_at path w.step) t) =
+    let li : remains_of s (steps_from path w) ≡ payload (anew (Some (anew (step_into p₂ sp.tree then remains q₂) p₂ sp.tree)) (step_at path w.step) t) =
     rw (all, k₆.reads, sp.found) in
-    let ls : length (payload (anew (some (anew (step_into p₂ sp.tree then remains q₂) p₂ sp.tree)) (step_at path w.step) t)) ≤ length (payload t) =
+    let ls : length (payload (anew (Some (anew (step_into p₂ sp.tree then remains q₂) p₂ sp.tree)) (step_at path w.step) t)) ≤ length (payload t) =
     remains_no_longer (step_at path w.step) (p₂ ∷ q₂) t c.finds.0
-    (anew (some (anew (step_into p₂ sp.tree then remains q₂) p₂ sp.tree)) (step_at path w.step) t) found_all (rw sp.found) in
+    (anew (Some (anew (step_into p₂ sp.tree then remains q₂) p₂ sp.tree)) (step_at path w.step) t) found_all (rw sp.found) in
     record {
       tree = t;
       value = sp.tree;
@@ -161,7 +158,7 @@ cuts_shorter s path w allowance o c =
     let all = steps_cons path w c.more in
     let p : Step = step_at path w.step in
     let q : List Step = steps_from path (way_behind path w) in
-    let found : look_up (step_at path w.step ∷ steps_from path (way_behind path w)) k.0 ≡ some c.finds.0 = rw (all, k₆.reads) at c.finds.1 in
+    let found : look_up (step_at path w.step ∷ steps_from path (way_behind path w)) k.0 ≡ Some c.finds.0 = rw (all, k₆.reads) at c.finds.1 in
     let u : Tree = anew (step_into (step_at path w.step) k.0 then remains (steps_from path (way_behind path w))) (step_at path w.step) k.0 in
     rw (all, k₆.reads)
     (omega (
@@ -172,10 +169,10 @@ cuts_shorter s path w allowance o c =
     ))
 
 -- Where the next step leads; the same as the code reads the step.
-abbrev pub next_spot : Bytes → Bytes → Way → Spot
+abbrev pub next_spot : Bytes → Bytes → Way → Option PartAt
 next_spot s path w = spot (header s) s (step_at path w.step)
 
-pub leads_is : (s path : Bytes) (w : Way) (e l : ℕ) (piece : Bytes) (r : Spot) → e ≡ entry_at path w.step.index → l ≡ length_of e
+pub leads_is : (s path : Bytes) (w : Way) (e l : ℕ) (piece : Bytes) (r : Option PartAt) → e ≡ entry_at path w.step.index → l ≡ length_of e
     → piece ≡ take l (drop w.step.place path) → r ≡ spot (header s) s (step (code_key (code_of e) piece) piece)
     → r ≡ next_spot s path w
 leads_is s path w e l piece r he hl hp hr =
@@ -184,13 +181,13 @@ leads_is s path w e l piece r he hl hp hr =
     hr ∙ ap (spot (header s) s) (sym (ap₂ step q b))
 
 pub leads_nowhere : {C : Type 0} {s path : Bytes} {w : Way} {allowance : ℕ} → Octets s → Cuts s path w allowance
-    → next_spot s path w ≡ Nothing → C
+    → next_spot s path w ≡ None → C
 unfolding search_in
 leads_nowhere {C} {s} {path} {w} {allowance} o c q =
     let k = contains allowance s o c.short c.readable in
     let k₆ : Contains 64 s k.0 = contains_more allowance 64 s k.0 o c.allowed k.1 in
     let none = spot_none k.0 s (step_at path w.step) k₆.bytes k₆.container k₆.short q in
-    let found : look_up (step_at path w.step ∷ steps_from path (way_behind path w)) k.0 ≡ some c.finds.0 =
+    let found : look_up (step_at path w.step ∷ steps_from path (way_behind path w)) k.0 ≡ Some c.finds.0 =
     rw (steps_cons path w c.more, k₆.reads) at c.finds.1 in
     nothing_some (rw none at found)
 
@@ -200,7 +197,7 @@ unfolding parts_at
 last_step path w h = let z : w.count - w.step.index ≡ suc 0 = omega arith in rw z
 
 -- Readable with as many levels as a record has.
-pub whole_levels : {s path : Bytes} {w : Way} {allowance : ℕ} → Octets s → Cuts s path w allowance → checked (nested 64 s) ≡ Readable
+pub whole_levels : {s path : Bytes} {w : Way} {allowance : ℕ} → Octets s → Cuts s path w allowance → checked (nested 64 s) ≡ Ok tt
 whole_levels {s} {path} {w} {allowance} o c =
     let k = contains allowance s o c.short c.readable in
     ap checked (contains_more allowance 64 s k.0 o c.allowed k.1).reads

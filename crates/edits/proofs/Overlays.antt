@@ -18,8 +18,6 @@ use Rattle.layout.specs.Patch.{patch}
 use Rattle.layout.specs.Room.{EndedIn}
 use Rattle.layout.specs.declared.refusal.Refusal.{Refusal}
 use Rattle.layout.specs.declared.refusal.Refusal.TheVariants.{Repeated}
-use Rattle.layout.specs.declared.ending.Ending.{Ending}
-use Rattle.layout.specs.declared.ending.Ending.TheVariants.{Done, Refused}
 use Rattle.layout.proofs.Patches.{length_patch, patch_empty, patch_none}
 use Rattle.layout.proofs.Readables.{reads, size_payload}
 use Rattle.builders.specs.Order.{distinct, in_order, follow}
@@ -27,8 +25,6 @@ use Rattle.layout.specs.Parts.{texts, name_in, value_in, members_at}
 use Rattle.builders.specs.Weave.{own_entry, woven, column}
 use Rattle.builders.specs.Build.{on_two}
 use Rattle.builders.specs.Room.{room_for, sized}
-use Rattle.builders.specs.declared.room.Room.{Room}
-use Rattle.builders.specs.declared.room.Room.TheVariants.{Serves, Refused as NoRoom}
 use Rattle.layout.specs.declared.parts.MemberAt.{MemberAt}
 use Rattle.layout.specs.declared.parts.Places.{Places}
 use Rattle.builders.proofs.Knowns.{BothOctets}
@@ -47,6 +43,8 @@ use Rattle.edits.proofs.Withouts.{object_word}
 use Rattle.edits.proofs.Sorteds.{ObjectAt, stand_sizes, stand_woven}
 use Rattle.edits.proofs.Moves.{both_stand}
 use Rattle.edits.proofs.Merges.{objects_at, few_both}
+use Rattle.std.specs.Prelude.{Ok, Err, Some, Result}
+use Rattle.layout.specs.Ended.{Ending}
 
 object_reads : (s : Bytes) (n : ℕ) → Octets s → (w : ObjectAt s n) → read s ≡ gives (object w.members)
 object_reads s n o w =
@@ -165,7 +163,7 @@ module _ {l : Bytes} {m : ℕ} {r : Bytes} {n : ℕ} (s : Overlaid l m r n) wher
     told : {b : Bool} → d ≡ b → distinct (names rs) ≡ b
     told q = ap distinct (sym right_names) ∙ sym hd ∙ q
 
-    pub overlay_repeated : d ≡ false → {o : Bytes} (room : ℕ) → EndedIn (Refused Repeated) o o (on_two concat l r room)
+    pub overlay_repeated : d ≡ false → {o : Bytes} (room : ℕ) → EndedIn (Err Repeated) o o (on_two concat l r room)
     overlay_repeated q {o} room =
         two_edit concat l r o room (object ls) (object_reads l m s.octets.left left) (object rs)
         (object_reads r n s.octets.right right) Repeated (concat_refused ls rs (told q))
@@ -179,19 +177,19 @@ module _ {l : Bytes} {m : ℕ} {r : Bytes} {n : ℕ} (s : Overlaid l m r n) wher
           (concat_given ls rs (told q)) x o' result
           (concat_depth ls rs 64 left.contained.deep right.contained.deep) refl w
 
-      pub overlay_refused : {x : Room} → x ≡ room_for (length_by end) room → {y : Refusal} → x ≡ NoRoom y
-          → EndedIn (Refused y) o (e ++ o) (on_two concat l r room)
+      pub overlay_refused : {x : Result (Unit {0}) Refusal} → x ≡ room_for (length_by end) room → {y : Refusal} → x ≡ Err y
+          → EndedIn (Err y) o (e ++ o) (on_two concat l r room)
       overlay_refused {x} hx {y} p =
           rw (untouched he o)
-          (sized_ends (Refused y) o (sized_refused result o room (length_by end) (measured he) x hx y p))
+          (sized_ends (Err y) o (sized_refused result o room (length_by end) (measured he) x hx y p))
 
       -- Lent no bytes, nothing is stored.
-      pub overlay_measured : {x : Room} → x ≡ room_for (length_by end) room → x ≡ Serves → length (e ++ o) ≡ 0
-          → EndedIn (Done (length_by end)) o (e ++ o) (on_two concat l r room)
+      pub overlay_measured : {x : Result (Unit {0}) Refusal} → x ≡ room_for (length_by end) room → x ≡ Ok tt → length (e ++ o) ≡ 0
+          → EndedIn (Ok (Some (length_by end))) o (e ++ o) (on_two concat l r room)
       overlay_measured {x} hx p h =
           let none : length o ≡ 0 = rw (untouched he o) at h in
           rw (untouched he o)
-          (sized_ends (Done (length_by end)) o
+          (sized_ends (Ok (Some (length_by end))) o
           (sized_done result o room (length_by end) (measured he) x hx o p (patch_none o 0 result none)))
 
       -- What the header and the second run of the writer stored.
@@ -209,6 +207,6 @@ module _ {l : Bytes} {m : ℕ} {r : Bytes} {n : ℕ} (s : Overlaid l m r n) wher
         pub overlay_length : length o₂ ≡ length o
         overlay_length = ap length written ∙ length_patch o 0 result
 
-        pub overlay_done : {x : Room} → x ≡ room_for (length_by end) room → x ≡ Serves
-            → EndedIn (Done (length_by end)) o o₂ (on_two concat l r room)
-        overlay_done {x} hx p = sized_ends (Done (length_by end)) o₂ (sized_done result o room (length_by end) (measured he) x hx o₂ p written)
+        pub overlay_done : {x : Result (Unit {0}) Refusal} → x ≡ room_for (length_by end) room → x ≡ Ok tt
+            → EndedIn (Ok (Some (length_by end))) o o₂ (on_two concat l r room)
+        overlay_done {x} hx p = sized_ends (Ok (Some (length_by end))) o₂ (sized_done result o room (length_by end) (measured he) x hx o₂ p written)

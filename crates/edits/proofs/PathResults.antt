@@ -3,7 +3,6 @@ use Prim.Native.Nat.{ℕ, ◌≤◌}
 use native.Mathlib.Omega.{arith}
 use mathlib.Core.Path.{◌≡◌, refl, ap, sym, ◌∙◌}
 use mathlib.Core.List.{List}
-use mathlib.Core.Option.{Option, some}
 use lib.ListN.{length}
 use Rattle.layout.specs.Bytes.{Bytes, Octets}
 use Rattle.layout.specs.Answer.{Answer, gives, ◌>>=◌}
@@ -24,6 +23,7 @@ use Rattle.edits.specs.Path.{get_by, delete_by, on_path}
 use Rattle.edits.proofs.Deletes.{some_inj}
 use Rattle.edits.proofs.Lookups.{get_is}
 use Rattle.edits.proofs.Kept.{NoMore, look_up_kept, delete_kept}
+use Rattle.std.specs.Prelude.{Some, Option}
 
 pub on_path_is : (edit : List Step → Tree → Answer (Option Tree)) (target path : Bytes) (room : ℕ)
     → on_path edit target path room ≡ found room (read target >>= λ t. path_of path >>= λ p. edit p t)
@@ -37,7 +37,7 @@ pub record KeptMade {P : Type 0} (beside : Bytes → Answer P) (edit : Tree → 
   pub made : Tree
   pub target_reads : read target ≡ gives tree
   pub asked_reads : beside other ≡ gives asked
-  pub edited : edit tree asked ≡ gives (some made)
+  pub edited : edit tree asked ≡ gives (Some made)
   pub bytes : b ≡ encode made
   pub reads : read b ≡ gives made
   pub stays_sound : Sound tree → Sound made
@@ -45,7 +45,7 @@ pub record KeptMade {P : Type 0} (beside : Bytes → Answer P) (edit : Tree → 
   pub short : length b ≤ 65536
 
 pub kept_made : {P : Type 0} (beside : Bytes → Answer P) (edit : Tree → P → Answer (Option Tree))
-    → ((p : P) (t v : Tree) → edit t p ≡ gives (some v) → NoMore v t)
+    → ((p : P) (t v : Tree) → edit t p ≡ gives (Some v) → NoMore v t)
     → (target other b : Bytes) (room : ℕ) → Octets target → on_record beside edit target other room ≡ result b
     → KeptMade beside edit target other b
 kept_made beside edit keeps target other b room o e =
@@ -88,11 +88,11 @@ deletable_same (extension b) u e = gives_inj e
 deletable_same (array ts) u e = gives_inj e
 deletable_same (object ms) u e = gives_inj e
 
-pub delete_gives : (p : List Step) (t v : Tree) → delete_by p t ≡ gives (some v) → delete p t ≡ v
+pub delete_gives : (p : List Step) (t v : Tree) → delete_by p t ≡ gives (Some v) → delete p t ≡ v
 delete_gives p t v e =
     from_bind (sym (delete_is p t) ∙ e) λ u hu e₁. ap (delete p) (deletable_same t u hu) ∙ some_inj (gives_inj e₁)
   where
-    delete_is : (p : List Step) (t : Tree) → delete_by p t ≡ (deletable t >>= λ u. gives (some (delete p u)))
+    delete_is : (p : List Step) (t : Tree) → delete_by p t ≡ (deletable t >>= λ u. gives (Some (delete p u)))
     delete_is p t = unfold delete_by in refl
 
 pub delete_made : (target path b : Bytes) (room : ℕ) → Octets target → on_path delete_by target path room ≡ result b

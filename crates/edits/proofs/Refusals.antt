@@ -1,6 +1,5 @@
 -- Which numbers a path and the edits can have, beside those of reading: 6 of a path, 7 of delete, 8 of concat and of strip.
 use Prim.Native.Nat.{◌^◌}
-use mathlib.Core.Option.{Option, none as nothing, some}
 use lib.Dec.{ltb}
 use lib.IntN.{ℤ}
 use lib.Signed.{mag}
@@ -10,14 +9,15 @@ use Rattle.layout.specs.Number.{decoded}
 use Rattle.layout.specs.Tree.{Tree, null, boolean, number, string, extension, array, object, Items, none, item, Members}
 use Rattle.layout.specs.Read.{read}
 use Rattle.layout.specs.declared.number.Number.{Number}
-use Rattle.layout.specs.declared.number.Number.TheVariants.{Nan, Infinity, NegInfinity, Int64, UInt64, Float64, Decimal64, WideDecimal, Refused}
+use Rattle.layout.specs.declared.number.Number.TheVariants.{Nan, Infinity, NegInfinity, Int64, UInt64, Float64, Decimal64, WideDecimal}
 use Rattle.layout.specs.declared.refusal.Refusal.{Refusal}
 use Rattle.layout.specs.declared.refusal.Refusal.TheVariants.{Path, Kind, Repeated}
 use Rattle.layout.proofs.Refusals.{RefusedBy, by_bind, by_require, by_cond}
-use Rattle.edits.specs.Keypath.{index, in_range, integer, step_of, steps_of, path_in, or_path, path_of}
+use Rattle.edits.specs.Keypath.{index, in_range, integer, step_of, steps_of, path_in, or_path, path_of, integer_of}
 use Rattle.edits.specs.Delete.{deletable}
 use Rattle.edits.specs.Concat.{members_in, overlay_or, concat}
 use Rattle.edits.specs.Strip.{stripped, unrepeated, strip}
+use Rattle.std.specs.Prelude.{Err, Some, None, Option, Result, Ok}
 
 -- A path: 6, whatever is wrong with it.
 module _ (P : Refusal → Type 0) (path : P Path) where
@@ -34,12 +34,15 @@ module _ (P : Refusal → Type 0) (path : P Path) where
   integer_by (Float64 b) = path
   integer_by (Decimal64 z s) = path
   integer_by (WideDecimal n) = path
-  integer_by (Refused r) = path
+
+  integer_of_by : (n : Result Number Refusal) → RefusedBy P (integer_of n)
+  integer_of_by (Ok n) = integer_by n
+  integer_of_by (Err r) = path
 
   step_by : (t : Tree) → RefusedBy P (step_of t)
   step_by null = path
   step_by (boolean x) = path
-  step_by (number b) = integer_by (decoded b)
+  step_by (number b) = integer_of_by (decoded b)
   step_by (string b) = tt
   step_by (extension b) = path
   step_by (array ts) = path
@@ -79,9 +82,9 @@ deletable_by P kind (object ms) = tt
 -- A repeated name: 8.
 module _ (P : Refusal → Type 0) (repeated : P Repeated) where
   overlay_by : (other : Tree) (ls rs : Option Members) → RefusedBy P (overlay_or other ls rs)
-  overlay_by other nothing rs = tt
-  overlay_by other (some ls) nothing = tt
-  overlay_by other (some ls) (some rs) = by_require P _ Repeated _ repeated tt
+  overlay_by other None rs = tt
+  overlay_by other (Some ls) None = tt
+  overlay_by other (Some ls) (Some rs) = by_require P _ Repeated _ repeated tt
 
   pub concat_by : (t u : Tree) → RefusedBy P (concat t u)
   unfolding concat

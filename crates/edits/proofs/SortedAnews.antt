@@ -6,20 +6,20 @@ use mathlib.Core.Path.{◌≡◌, refl, ap, sym, ◌∙◌}
 use mathlib.Core.Logic.{inl, inr}
 use mathlib.Core.Bool.{true, false}
 use mathlib.Core.List.{List, [], ◌∷◌, ◌++◌, append_assoc}
-use mathlib.Core.Option.{some}
 use lib.Bits.{bit_or}
 use lib.ListN.{length, take, drop}
 use Rattle.layout.specs.Bytes.{Bytes, Octets, be32}
 use Rattle.layout.specs.Entry.{length_of, entry_at, lengths}
 use Rattle.layout.specs.Tree.{Tree, object, Members, empty, member, names, kind}
 use Rattle.layout.specs.Encode.{Part, name_part, name_parts, member_parts, payload, record_of}
-use Rattle.layout.specs.Order.{order, is_equal, same_bytes}
+use Rattle.std.specs.Ordering.{is_eq}
+use Rattle.layout.specs.Order.{order, same_bytes}
 use Rattle.layout.specs.Sound.{Rising}
 use Rattle.layout.specs.Read.{header}
 use Rattle.layout.specs.Check.{checked}
 use Rattle.layout.specs.Patch.{patch}
-use Rattle.layout.specs.declared.order.Ordering.{Ordering}
-use Rattle.layout.specs.declared.order.Ordering.TheVariants.{Less, Equal, Greater}
+use Rattle.std.specs.declared.cmp.Ordering.{Ordering}
+use Rattle.std.specs.declared.cmp.Ordering.TheVariants.{Less, Equal, Greater}
 use Rattle.layout.specs.declared.item.Kind.TheVariants.{Container}
 use Rattle.layout.specs.declared.util.Header.TheVariants.{Object}
 use Rattle.layout.proofs.Orders.{bytes_test, unlike_bytes}
@@ -35,7 +35,6 @@ use Rattle.builders.specs.Weave.{own_entry, woven, column}
 use Rattle.builders.specs.declared.search.Kept.TheVariants.{All}
 use Rattle.layout.specs.declared.parts.MemberAt.{MemberAt}
 use Rattle.layout.specs.declared.parts.Places.{Places}
-use Rattle.builders.specs.declared.search.Found.TheVariants.{At as FoundAt}
 use Rattle.builders.proofs.Orderings.{order_equal, order_refl}
 use Rattle.builders.proofs.InOrders.{in_order_rising, find_in_order}
 use Rattle.builders.proofs.Searches.{kept_all, nth_inside}
@@ -58,9 +57,10 @@ use Rattle.edits.proofs.Rows.{row_bytes}
 use Rattle.edits.proofs.Withouts.{object_word}
 use Rattle.edits.proofs.Sorteds.{ValueAt, value_at, stand_sizes, stand_woven}
 use Rattle.edits.proofs.Onwards.{Below, below}
+use Rattle.std.specs.Prelude.{Ok, Some}
 
 -- Two names by the test.
-same_as : (n m : Bytes) (o : Ordering) → order n m ≡ o → same_bytes n m ≡ is_equal o
+same_as : (n m : Bytes) (o : Ordering) → order n m ≡ o → same_bytes n m ≡ is_eq o
 unfolding same_bytes
 same_as n m o q = rw q
 
@@ -72,7 +72,7 @@ same_false n m d = sym (unlike_bytes n m d)
 
 -- The name of a member that stands is among the names.
 pub nth_in : (name value : MemberAt → Bytes) (entry : MemberAt → ℕ) (xs : List MemberAt) (ms : Members) → Stand name value entry xs ms
-    → (i : ℕ) (m : MemberAt) → nth xs i ≡ FoundAt m → In (name m) (names ms)
+    → (i : ℕ) (m : MemberAt) → nth xs i ≡ Some m → In (name m) (names ms)
 unfolding nth
 nth_in name value entry [] ms h i m e = let z : ◌≡◌ {A = ℕ} 0 1 = cc in let w : ⊥ = omega arith in absurd w
 nth_in name value entry (x ∷ xs) empty h i m e = absurd h
@@ -112,9 +112,9 @@ module _ (s n : Bytes) (rest : List Step) (before after : Tree)
   )
 
   anew_by : (o : Ordering) (x : MemberAt) (xs : List MemberAt) (m : Bytes) (t : Tree) (ms : Members) → order n m ≡ o → Rising (m ∷ names ms)
-      → by o (find n ms) (some t) (find n ms) ≡ some before → Stand name value own_entry (x ∷ xs) (member m t ms)
-      → (find n ms ≡ some before → Anew xs (change_member (some after) n ms))
-      → Anew (x ∷ xs) (by o (member m t (change_member (some after) n ms)) (member m after ms) (member m t (change_member (some after) n ms)))
+      → by o (find n ms) (Some t) (find n ms) ≡ Some before → Stand name value own_entry (x ∷ xs) (member m t ms)
+      → (find n ms ≡ Some before → Anew xs (change_member (Some after) n ms))
+      → Anew (x ∷ xs) (by o (member m t (change_member (Some after) n ms)) (member m after ms) (member m t (change_member (Some after) n ms)))
   anew_by Equal x xs m t ms q r f h go =
       let a : n ≡ m = order_equal n m q in
       let b : t ≡ before = some_inj f in
@@ -125,8 +125,8 @@ module _ (s n : Bytes) (rest : List Step) (before after : Tree)
   anew_by Less x xs m t ms q r f h go = (other_head x m t h.0 (rw h.0.2 (same_as n m Less q)), go f)
   anew_by Greater x xs m t ms q r f h go = (other_head x m t h.0 (rw h.0.2 (same_as n m Greater q)), go f)
 
-  pub stand_anew : (xs : List MemberAt) (ms : Members) → Rising (names ms) → find n ms ≡ some before → Stand name value own_entry xs ms
-      → Anew xs (change_member (some after) n ms)
+  pub stand_anew : (xs : List MemberAt) (ms : Members) → Rising (names ms) → find n ms ≡ Some before → Stand name value own_entry xs ms
+      → Anew xs (change_member (Some after) n ms)
   stand_anew [] empty r f h = nothing_some f
   stand_anew [] (member m t ms) r f h = absurd h
   stand_anew (x ∷ xs) empty r f h = absurd h
@@ -134,20 +134,20 @@ module _ (s n : Bytes) (rest : List Step) (before after : Tree)
       anew_by (order n m) x xs m t ms refl r f h (λ g. stand_anew xs ms (rising_tail m (names ms) r) g h.1)
 
   -- The member that the search finds, by its name.
-  found_later : (o : Ordering) (m : Bytes) (t : Tree) (ms : Members) → order n m ≡ o → by o (find n ms) (some t) (find n ms) ≡ some before
-      → (n ≡ m → ⊥) → find n ms ≡ some before
+  found_later : (o : Ordering) (m : Bytes) (t : Tree) (ms : Members) → order n m ≡ o → by o (find n ms) (Some t) (find n ms) ≡ Some before
+      → (n ≡ m → ⊥) → find n ms ≡ Some before
   found_later Less m t ms q f d = f
   found_later Equal m t ms q f d = absurd (d (order_equal n m q))
   found_later Greater m t ms q f d = f
 
-  found_now : (o : Ordering) (m : Bytes) (t : Tree) (ms : Members) → order n m ≡ o → by o (find n ms) (some t) (find n ms) ≡ some before
+  found_now : (o : Ordering) (m : Bytes) (t : Tree) (ms : Members) → order n m ≡ o → by o (find n ms) (Some t) (find n ms) ≡ Some before
       → n ≡ m → t ≡ before
   found_now Equal m t ms q f e = some_inj f
   found_now Less m t ms q f e = let z : Less ≡ Equal = sym q ∙ rw e (order_refl m) in let w : ◌≡◌ {A = ℕ} 0 1 = cc in let v : ⊥ = omega arith in absurd v
   found_now Greater m t ms q f e = let z : Greater ≡ Equal = sym q ∙ rw e (order_refl m) in let w : ◌≡◌ {A = ℕ} 0 1 = cc in let v : ⊥ = omega arith in absurd v
 
-  pub stand_found : (xs : List MemberAt) (ms : Members) → Rising (names ms) → find n ms ≡ some before → Stand name value own_entry xs ms
-      → (i : ℕ) (m : MemberAt) → nth xs i ≡ FoundAt m → same_bytes n (name_in s m) ≡ true → value_in s m ≡ payload before
+  pub stand_found : (xs : List MemberAt) (ms : Members) → Rising (names ms) → find n ms ≡ Some before → Stand name value own_entry xs ms
+      → (i : ℕ) (m : MemberAt) → nth xs i ≡ Some m → same_bytes n (name_in s m) ≡ true → value_in s m ≡ payload before
   unfolding nth
   stand_found [] ms r f h i m e g = let z : ◌≡◌ {A = ℕ} 0 1 = cc in let w : ⊥ = omega arith in absurd w
   stand_found (x ∷ xs) empty r f h i m e g = absurd h
@@ -162,7 +162,7 @@ module _ (s n : Bytes) (rest : List Step) (before after : Tree)
       stand_found xs ms (rising_tail k (names ms) r) (found_later (order n k) k t ms refl f d) h.1 i m e g
 
 -- One of a column is no longer than the column.
-pub column_part : (f : MemberAt → Bytes) (xs : List MemberAt) (i : ℕ) (m : MemberAt) → nth xs i ≡ FoundAt m → length (f m) ≤ length (column f xs)
+pub column_part : (f : MemberAt → Bytes) (xs : List MemberAt) (i : ℕ) (m : MemberAt) → nth xs i ≡ Some m → length (f m) ≤ length (column f xs)
 unfolding nth
 column_part f [] i m e = let z : ◌≡◌ {A = ℕ} 0 1 = cc in let w : ⊥ = omega arith in absurd w
 column_part f (x ∷ xs) zero m e = let q : x ≡ m = cc in rw (← q) (omega (arith, column_cons f x xs))
@@ -192,7 +192,7 @@ pub record SortedAnew (s path : Bytes) (n : ℕ) (val : PartAt) (w : Way) (allow
   pub octets : Octets s
   pub cuts : Cuts s path w allowance
   pub onward : Onward s path w val
-  pub is_object : header s ≡ Object n
+  pub is_object : header s ≡ Ok (Object n)
 
 pub record Measured (s path : Bytes) (n : ℕ) (val : PartAt) (w : Way) (from : Places) (z : Sizes) (next : Way) (name : Bytes) : Type 0 where
   pub from_is : from ≡ members_of s n
@@ -242,21 +242,21 @@ module _ {s path : Bytes} {n : ℕ} {val : PartAt} {w : Way} {allowance : ℕ} (
         stand_sorted (name_in s) (value_in s) own_entry searched ms
         (rw (kept_all 0 (members_at s s from n), measured.from_is) at_value.stand)
 
-    finds : find name (in_order ms) ≡ some down.value
-    finds = rw named (find_in_order key ms ∙ at_value.found ∙ ap some (sym same_value))
+    finds : find name (in_order ms) ≡ Some down.value
+    finds = rw named (find_in_order key ms ∙ at_value.found ∙ ap Some (sym same_value))
 
     inner : remains_of (payload down.value) steps ≡ payload down.after
     inner = rw measured.next_is down.inner
 
-    standing : Stand (name_in s) (anew_value s name steps) (anew_entry s name steps) all (change_member (some down.after) name (in_order ms))
+    standing : Stand (name_in s) (anew_value s name steps) (anew_entry s name steps) all (change_member (Some down.after) name (in_order ms))
     standing = stand_anew s name steps down.value down.after inner down.made all (in_order ms) (in_order_rising ms) finds own
 
-    remains_is : remains_of s (steps_from path w) ≡ payload (object (change_member (some down.after) name (in_order ms)))
+    remains_is : remains_of s (steps_from path w) ≡ payload (object (change_member (Some down.after) name (in_order ms)))
     remains_is =
         down.remains_is
-        ∙ ap (λ (t : Tree). payload (anew (some down.after) (step_at path w.step) t)) same_tree
+        ∙ ap (λ (t : Tree). payload (anew (Some down.after) (step_at path w.step) t)) same_tree
         ∙ ap (λ (q : Members). payload (object q)) (change_in_order key down.after ms)
-        ∙ ap (λ (k : Bytes). payload (object (change_member (some down.after) k (in_order ms)))) (sym named)
+        ∙ ap (λ (k : Bytes). payload (object (change_member (Some down.after) k (in_order ms)))) (sym named)
 
     counted : z.count ≡ length all
     counted = ap (λ (x : Sizes). x.count) measured.sizes_are
@@ -272,23 +272,23 @@ module _ {s path : Bytes} {n : ℕ} {val : PartAt} {w : Way} {allowance : ℕ} (
           keyed,
           ap length remains_is,
           stand_sizes (name_in s) (anew_value s name steps) (anew_entry s name steps) all
-              (change_member (some down.after) name (in_order ms)) standing,
+              (change_member (Some down.after) name (in_order ms)) standing,
         )
 
     pub anew_room : 4 + 8 * z.count + z.keys + length (column (anew_value s name steps) all) ≤ 65536
     anew_room = omega (arith, summed, down.remains_shorter, given.cuts.short)
 
     -- The member whose value is written anew: what the nested call asks.
-    pub anew_cuts : (i : ℕ) {m : MemberAt} → nth all i ≡ FoundAt m → same_bytes name (name_in s m) ≡ true → Cuts (value_in s m) path next (allowance - 1)
+    pub anew_cuts : (i : ℕ) {m : MemberAt} → nth all i ≡ Some m → same_bytes name (name_in s m) ≡ true → Cuts (value_in s m) path next (allowance - 1)
     anew_cuts i {m} e g =
         let v : value_in s m ≡ payload down.value =
         stand_found s name steps down.value down.after inner down.made all (in_order ms) (in_order_rising ms) finds own i m e g in
         rw (v, measured.next_is) down.cuts
 
-    pub value_anew_short : (i : ℕ) {m : MemberAt} → nth all i ≡ FoundAt m → length (anew_value s name steps m) < 2 ^ 28
+    pub value_anew_short : (i : ℕ) {m : MemberAt} → nth all i ≡ Some m → length (anew_value s name steps m) < 2 ^ 28
     value_anew_short i {m} e = omega (arith, anew_room, column_part (anew_value s name steps) all i m e)
 
-    pub anew_count : (i : ℕ) {m : MemberAt} → nth all i ≡ FoundAt m → i < z.count
+    pub anew_count : (i : ℕ) {m : MemberAt} → nth all i ≡ Some m → i < z.count
     anew_count i {m} e = omega (arith, counted, nth_inside all i m e)
 
     pub anew_remains : {to : Places} {at v end : ℕ} {b b₁ b₂ : Bytes} → to ≡ places_for z at → v ≡ bit_or (2 ^ 30) z.count
@@ -303,5 +303,5 @@ module _ {s path : Bytes} {n : ℕ} {val : PartAt} {w : Way} {allowance : ℕ} (
           length_is = omega (arith, ee, tv, summed, ap length remains_is);
           stored =
               stand_woven (name_in s) (anew_value s name steps) (anew_entry s name steps) all
-              (change_member (some down.after) name (in_order ms)) standing b b₁ b₂ at z counted keyed (rw q at e₁) (rw et at e₂);
+              (change_member (Some down.after) name (in_order ms)) standing b b₁ b₂ at z counted keyed (rw q at e₁) (rw et at e₂);
         })

@@ -5,7 +5,6 @@ use native.Mathlib.Omega.{arith}
 use mathlib.Core.Path.{◌≡◌, refl, ap, subst, ap₂, sym, ◌∙◌}
 use mathlib.Core.Bool.{false, cond}
 use mathlib.Core.List.{List, [], ◌∷◌, ◌++◌, append_assoc, append-nil}
-use mathlib.Core.Option.{Option, none as nothing, some}
 use lib.Bits.{bit_or}
 use lib.Dec.{eqb}
 use lib.ListN.{length, drop, length-append}
@@ -19,11 +18,11 @@ use Rattle.layout.specs.Limits.{size}
 use Rattle.layout.specs.Read.{header, nested}
 use Rattle.layout.specs.Check.{checked}
 use Rattle.layout.specs.Patch.{patch}
-use Rattle.layout.specs.Order.{order, is_equal, same_bytes}
-use Rattle.layout.specs.declared.check.Check.TheVariants.{Readable}
+use Rattle.std.specs.Ordering.{is_eq}
+use Rattle.layout.specs.Order.{order, same_bytes}
 use Rattle.layout.specs.declared.util.Header.TheVariants.{Object}
-use Rattle.layout.specs.declared.order.Ordering.{Ordering}
-use Rattle.layout.specs.declared.order.Ordering.TheVariants.{Less, Equal, Greater}
+use Rattle.std.specs.declared.cmp.Ordering.{Ordering}
+use Rattle.std.specs.declared.cmp.Ordering.TheVariants.{Less, Equal, Greater}
 use Rattle.layout.proofs.Encoding.{object_fits, names_count, pair_of}
 use Rattle.layout.proofs.Decoding.{payloads_append}
 use Rattle.layout.proofs.Readables.{record_of_length, size_payload}
@@ -46,7 +45,6 @@ use Rattle.edits.specs.Remains.{remains_in, remains_of}
 use Rattle.layout.specs.Parts.{members_of}
 use Rattle.edits.specs.Members.{places_for, in_turn, sizes_of}
 use Rattle.layout.specs.declared.parts.PartAt.{PartAt}
-use Rattle.edits.specs.declared.find.Spot.TheVariants.{At}
 use Rattle.edits.specs.declared.members.Sizes.{Sizes}
 use Rattle.edits.proofs.Tables.{Contains, contains, an_object}
 use Rattle.edits.proofs.Splits.{member_split}
@@ -55,6 +53,7 @@ use Rattle.edits.proofs.Withouts.{object_word}
 use Rattle.edits.proofs.Kept.{delete_kept}
 use Rattle.edits.proofs.Deletes.{some_inj, nothing_some}
 use Rattle.edits.proofs.Rows.{fits_left, fits_right, table_behind, payloads_behind, row_lengths}
+use Rattle.std.specs.Prelude.{Ok, Some, None, Option}
 
 -- Values and names by their parts.
 values_parts : (ms : Members) → item_parts (values ms) ≡ member_parts ms
@@ -126,39 +125,39 @@ kept_past k i (x ∷ xs) h =
     let d : eqb i k ≡ false = ne_eqb i k (λ q. omega arith) in
     rw (d, kept_past k (i + 1) xs (omega arith))
 
-one_fewer : (o : Option ℕ) (k : ℕ) → one_more o ≡ some k → (j : ℕ) × (k ≡ suc j) × (o ≡ some j)
-one_fewer nothing k e = nothing_some e
-one_fewer (some j) k e = (j, sym (some_inj e), refl)
+one_fewer : (o : Option ℕ) (k : ℕ) → one_more o ≡ Some k → (j : ℕ) × (k ≡ suc j) × (o ≡ Some j)
+one_fewer None k e = nothing_some e
+one_fewer (Some j) k e = (j, sym (some_inj e), refl)
 
 module _ (name value : MemberAt → Bytes) (entry : MemberAt → ℕ) (n : Bytes) where
   -- Without the first that has the name: it comes later, or it is this one.
   stand_later : (m : Bytes) (t : Tree) (ms : Members) (x : MemberAt) (xs : List MemberAt) (k i : ℕ)
-      → one_more (first n (names ms)) ≡ some k → Stand name value entry (x ∷ xs) (member m t ms)
-      → ((j : ℕ) → first n (names ms) ≡ some j → Stand name value entry (kept_of (But (i + 1 + j)) (i + 1) xs) (change_member nothing n ms))
-      → Stand name value entry (kept_of (But (i + k)) i (x ∷ xs)) (member m t (change_member nothing n ms))
+      → one_more (first n (names ms)) ≡ Some k → Stand name value entry (x ∷ xs) (member m t ms)
+      → ((j : ℕ) → first n (names ms) ≡ Some j → Stand name value entry (kept_of (But (i + 1 + j)) (i + 1) xs) (change_member None n ms))
+      → Stand name value entry (kept_of (But (i + k)) i (x ∷ xs)) (member m t (change_member None n ms))
   unfolding kept_of is_kept
   stand_later m t ms x xs k i e h rest =
       let j = one_fewer (first n (names ms)) k e in
       let d : eqb i (i + k) ≡ false = ne_eqb i (i + k) (λ z. omega (arith, j.1)) in
       let y : i + k ≡ i + 1 + j.0 = omega (arith, j.1) in
-      rw d (h.0, subst (λ (z : ℕ). Stand name value entry (kept_of (But z) (i + 1) xs) (change_member nothing n ms)) (sym y) (rest j.0 j.2))
+      rw d (h.0, subst (λ (z : ℕ). Stand name value entry (kept_of (But z) (i + 1) xs) (change_member None n ms)) (sym y) (rest j.0 j.2))
 
   stand_by : (o : Ordering) (m : Bytes) (t : Tree) (ms : Members) (x : MemberAt) (xs : List MemberAt) (k i : ℕ) → order n m ≡ o
-      → by o (one_more (first n (names ms))) (some 0) (one_more (first n (names ms))) ≡ some k
+      → by o (one_more (first n (names ms))) (Some 0) (one_more (first n (names ms))) ≡ Some k
       → Stand name value entry (x ∷ xs) (member m t ms)
-      → ((j : ℕ) → first n (names ms) ≡ some j → Stand name value entry (kept_of (But (i + 1 + j)) (i + 1) xs) (change_member nothing n ms))
-      → Stand name value entry (kept_of (But (i + k)) i (x ∷ xs)) (change_member nothing n (member m t ms))
+      → ((j : ℕ) → first n (names ms) ≡ Some j → Stand name value entry (kept_of (But (i + 1 + j)) (i + 1) xs) (change_member None n ms))
+      → Stand name value entry (kept_of (But (i + k)) i (x ∷ xs)) (change_member None n (member m t ms))
   unfolding kept_of is_kept
   stand_by Equal m t ms x xs k i q e h rest =
       let z : k ≡ 0 = sym (some_inj e) in
       let y : i + k ≡ i = omega arith in
-      subst (λ (w : ℕ). Stand name value entry (kept_of (But w) i (x ∷ xs)) (change_member nothing n (member m t ms))) (sym y)
+      subst (λ (w : ℕ). Stand name value entry (kept_of (But w) i (x ∷ xs)) (change_member None n (member m t ms))) (sym y)
       (rw (q, eq-eqb i i refl, kept_past i (i + 1) xs (omega arith)) h.1)
   stand_by Less m t ms x xs k i q e h rest = rw q (stand_later m t ms x xs k i e h rest)
   stand_by Greater m t ms x xs k i q e h rest = rw q (stand_later m t ms x xs k i e h rest)
 
-  pub stand_gone : (xs : List MemberAt) (ms : Members) (k i : ℕ) → first n (names ms) ≡ some k → Stand name value entry xs ms
-      → Stand name value entry (kept_of (But (i + k)) i xs) (change_member nothing n ms)
+  pub stand_gone : (xs : List MemberAt) (ms : Members) (k i : ℕ) → first n (names ms) ≡ Some k → Stand name value entry xs ms
+      → Stand name value entry (kept_of (But (i + k)) i xs) (change_member None n ms)
   unfolding first same_bytes
   stand_gone [] empty k i e h = nothing_some e
   stand_gone [] (member m t ms) k i e h = absurd h
@@ -166,7 +165,7 @@ module _ (name value : MemberAt → Bytes) (entry : MemberAt → ℕ) (n : Bytes
   stand_gone (x ∷ xs) (member m t ms) k i e h =
       stand_by (order n m) m t ms x xs k i refl (as_by (order n m) (first n (names ms)) e) h (λ j q. stand_gone xs ms j (i + 1) q h.1)
     where
-      as_by : (o : Ordering) (r : Option ℕ) → cond (is_equal o) (some 0) (one_more r) ≡ some k → by o (one_more r) (some 0) (one_more r) ≡ some k
+      as_by : (o : Ordering) (r : Option ℕ) → cond (is_eq o) (Some 0) (one_more r) ≡ Some k → by o (one_more r) (Some 0) (one_more r) ≡ Some k
       as_by Less r q = q
       as_by Equal r q = q
       as_by Greater r q = q
@@ -211,7 +210,7 @@ pub record ObjectAt (s : Bytes) (n : ℕ) : Type 0 where
   pub values : start_of (n + n) + lengths s 0 n ≤ length s
   pub stand : Stand (name_in s) (value_in s) own_entry (members_at s s (members_of s n) n) members
 
-pub object_at : (s : Bytes) (n : ℕ) → Octets s → checked (nested 64 s) ≡ Readable → length s ≤ 65536 → header s ≡ Object n → ObjectAt s n
+pub object_at : (s : Bytes) (n : ℕ) → Octets s → checked (nested 64 s) ≡ Ok tt → length s ≤ 65536 → header s ≡ Ok (Object n) → ObjectAt s n
 object_at s n o c l h =
     let k = contains 64 s o l c in
     let w = an_object k.0 n (sym k.1.head ∙ h) in
@@ -237,7 +236,7 @@ pub record ValueAt (s : Bytes) (n : ℕ) (val : PartAt) (p : Step) : Type 0 wher
   pub bytes : payload (object members) ≡ s
   pub short : length s ≤ 65536
   pub count : n ≡ length (member_parts members)
-  pub found : find (step_name p) members ≡ some value
+  pub found : find (step_name p) members ≡ Some value
   pub index : val.index ≡ n + (member_split (step_name p) members value found).count
   pub stands : val ≡ nth_part s (n + n) val.index
   pub below : (member_split (step_name p) members value found).count < n
@@ -245,8 +244,8 @@ pub record ValueAt (s : Bytes) (n : ℕ) (val : PartAt) (p : Step) : Type 0 wher
   pub values : start_of (n + n) + lengths s 0 n ≤ length s
   pub stand : Stand (name_in s) (value_in s) own_entry (members_at s s (members_of s n) n) members
 
-pub value_at : (s : Bytes) (n : ℕ) (val : PartAt) (p : Step) → Octets s → checked (nested 64 s) ≡ Readable → length s ≤ 65536
-    → header s ≡ Object n → spot (header s) s p ≡ At val → ValueAt s n val p
+pub value_at : (s : Bytes) (n : ℕ) (val : PartAt) (p : Step) → Octets s → checked (nested 64 s) ≡ Ok tt → length s ≤ 65536
+    → header s ≡ Ok (Object n) → spot (header s) s p ≡ Some val → ValueAt s n val p
 value_at s n val p o c l h q =
     let w = object_at s n o c l h in
     let sp = object_spot w.members s p val w.bytes l q in
@@ -284,9 +283,9 @@ gone s n val p v =
     let z : val.index - n ≡ 0 + (member_split (step_name p) v.members v.value v.found).count = omega (arith, v.index) in
     let st = stand_sorted (name_in s) (value_in s) own_entry _ _
     (stand_gone (name_in s) (value_in s) own_entry (step_name p) (members_at s s (members_of s n) n) v.members sp.count 0 sp.is_first v.stand) in
-    let d : delete (p ∷ []) (object v.members) ≡ object (in_order (change_member nothing (step_name p) v.members)) = rw v.found in
+    let d : delete (p ∷ []) (object v.members) ≡ object (in_order (change_member None (step_name p) v.members)) = rw v.found in
     record {
-      rest = in_order (change_member nothing (step_name p) v.members);
+      rest = in_order (change_member None (step_name p) v.members);
       stand = rw z st;
       left = ap (λ r. remains_in r (p ∷ [])) v.reads ∙ ap (λ o. payload (anew (o then remains []) p (object ms))) v.found;
       shorter =
@@ -295,7 +294,7 @@ gone s n val p v =
             (delete_kept (p ∷ []) (object v.members)).payload,
             ap size d,
             size_payload (object v.members),
-            size_payload (object (in_order (change_member nothing (step_name p) v.members))),
+            size_payload (object (in_order (change_member None (step_name p) v.members))),
             ap length v.bytes,
           );
     }

@@ -6,7 +6,6 @@ use mathlib.Core.Path.{◌≡◌, refl, ap, sym, ◌∙◌}
 use mathlib.Core.Logic.{⊎_elim}
 use mathlib.Core.Bool.{true, false}
 use mathlib.Core.List.{List, [], ◌∷◌, ◌++◌, append_assoc}
-use mathlib.Core.Option.{Option, none as nothing, some}
 use lib.ListN.{length, take, drop, length-append}
 use Rattle.layout.specs.Bytes.{Bytes}
 use Rattle.layout.specs.Entry.{length_of, entry_at}
@@ -29,34 +28,34 @@ use Rattle.edits.specs.Find.{step_place, step_name, item_at, step_into}
 use Rattle.layout.specs.Parts.{nth_part}
 use Rattle.edits.specs.Spot.{first, spot_at, spot_member, spot}
 use Rattle.layout.specs.declared.parts.PartAt.{PartAt}
-use Rattle.edits.specs.declared.find.Spot.TheVariants.{Nothing, At}
 use Rattle.edits.proofs.Deletes.{nothing_some, found_or_not, step_below, item_there}
 use Rattle.edits.proofs.Finds.{key_part, spot_array, spot_object}
 use Rattle.edits.proofs.Rows.{row_entry, row_bytes, row_within}
 use Rattle.edits.proofs.Splits.{item_split, member_split, no_first}
 use Rattle.edits.proofs.Tables.{object_names}
+use Rattle.std.specs.Prelude.{Ok, Some, None, Option}
 
 -- What a spot says of the number that it was made from.
 
-pub no_spot : {C : Type 0} (a : PartAt) → Nothing ≡ At a → C
+pub no_spot : {C : Type 0} (a : PartAt) → None ≡ Some a → C
 no_spot a e = let z : ◌≡◌ {A = ℕ} 0 1 = cc in let w : ⊥ = omega arith in absurd w
 
-spot_at_none : (s : Bytes) (n : ℕ) (o : Option ℕ) → spot_at s n o ≡ Nothing → o ≡ nothing
+spot_at_none : (s : Bytes) (n : ℕ) (o : Option ℕ) → spot_at s n o ≡ None → o ≡ None
 unfolding spot_at
-spot_at_none s n nothing e = refl
-spot_at_none s n (some k) e = no_spot _ (sym e)
+spot_at_none s n None e = refl
+spot_at_none s n (Some k) e = no_spot _ (sym e)
 
-spot_member_none : (s : Bytes) (n : ℕ) (o : Option ℕ) → spot_member s n o ≡ Nothing → o ≡ nothing
+spot_member_none : (s : Bytes) (n : ℕ) (o : Option ℕ) → spot_member s n o ≡ None → o ≡ None
 unfolding spot_member
-spot_member_none s n nothing e = refl
-spot_member_none s n (some k) e = no_spot _ (sym e)
+spot_member_none s n None e = refl
+spot_member_none s n (Some k) e = no_spot _ (sym e)
 
-spot_member_part : (s : Bytes) (n : ℕ) (o : Option ℕ) (a : PartAt) (k : ℕ) → spot_member s n o ≡ At a → o ≡ some k
+spot_member_part : (s : Bytes) (n : ℕ) (o : Option ℕ) (a : PartAt) (k : ℕ) → spot_member s n o ≡ Some a → o ≡ Some k
     → a ≡ nth_part s (n + n) (n + k)
 unfolding spot_member
-spot_member_part s n o a k e q = let z : At (nth_part s (n + n) (n + k)) ≡ At a = rw q at e in cc
+spot_member_part s n o a k e q = let z : Some (nth_part s (n + n) (n + k)) ≡ Some a = rw q at e in cc
 
-spot_member_some : (s : Bytes) (n : ℕ) (o : Option ℕ) (a : PartAt) → spot_member s n o ≡ At a → o ≡ nothing → ⊥
+spot_member_some : (s : Bytes) (n : ℕ) (o : Option ℕ) (a : PartAt) → spot_member s n o ≡ Some a → o ≡ None → ⊥
 unfolding spot_member
 spot_member_some s n o a e q = no_spot a (rw q at e)
 
@@ -65,21 +64,21 @@ spot_member_some s n o a e q = no_spot a (rw q at e)
 module _ (ts : Items) (s : Bytes) (p : Step) (e : payload (array ts) ≡ s) (l : length s ≤ 65536) where
   array_spot_is : spot (header s) s p ≡ spot_at s (length (item_parts ts)) (step_place p (length (item_parts ts)))
   array_spot_is =
-      let h : header s ≡ Array (length (item_parts ts)) = ap header (sym e) ∙ header_encode (array ts) (rw e l) in
+      let h : header s ≡ Ok (Array (length (item_parts ts))) = ap header (sym e) ∙ header_encode (array ts) (rw e l) in
       rw h (spot_array (length (item_parts ts)) s p)
 
-  array_none : spot (header s) s p ≡ Nothing → step_into p (array ts) ≡ nothing
+  array_none : spot (header s) s p ≡ None → step_into p (array ts) ≡ None
   array_none q =
-      let c : step_place p (length (item_parts ts)) ≡ nothing = spot_at_none s _ _ (sym array_spot_is ∙ q) in
+      let c : step_place p (length (item_parts ts)) ≡ None = spot_at_none s _ _ (sym array_spot_is ∙ q) in
       rw (count_item_parts ts, c)
 
 pub array_spot : (ts : Items) (s : Bytes) (p : Step) (a : PartAt) → payload (array ts) ≡ s → length s ≤ 65536
-    → spot (header s) s p ≡ At a
-    → (k : ℕ) × (v : Tree) × (step_place p (count ts) ≡ some k) × (item_at ts k ≡ some v)
+    → spot (header s) s p ≡ Some a
+    → (k : ℕ) × (v : Tree) × (step_place p (count ts) ≡ Some k) × (item_at ts k ≡ Some v)
     × (a ≡ nth_part s (length (item_parts ts)) k)
 array_spot ts s p a e l q =
     let w = key_part s (length (item_parts ts)) _ a (sym q ∙ array_spot_is ts s p e l) in
-    let c : step_place p (count ts) ≡ some w.0 = rw (count_item_parts ts) w.1 in
+    let c : step_place p (count ts) ≡ Some w.0 = rw (count_item_parts ts) w.1 in
     let v = item_there ts w.0 (step_below p (count ts) w.0 c) in
     (w.0, v.0, c, v.1, w.2)
 
@@ -98,21 +97,21 @@ module _ (ms : Members) (s : Bytes) (p : Step) (e : payload (object ms) ≡ s) (
 
   object_spot_is : spot (header s) s p ≡ spot_member s size (first (step_name p) (names ms))
   object_spot_is =
-      let h : header s ≡ Object size = ap header (sym e) ∙ header_encode (object ms) (rw e l) in
+      let h : header s ≡ Ok (Object size) = ap header (sym e) ∙ header_encode (object ms) (rw e l) in
       rw (h, spot_object size s p, texts_are)
 
-  object_none : spot (header s) s p ≡ Nothing → step_into p (object ms) ≡ nothing
+  object_none : spot (header s) s p ≡ None → step_into p (object ms) ≡ None
   object_none q =
-      let c : first (step_name p) (names ms) ≡ nothing = spot_member_none s size _ (sym object_spot_is ∙ q) in
+      let c : first (step_name p) (names ms) ≡ None = spot_member_none s size _ (sym object_spot_is ∙ q) in
       ⊎_elim (λ n. n) (λ w. nothing_some (sym c ∙ (member_split (step_name p) ms w.0 w.1).is_first))
       (found_or_not (find (step_name p) ms))
 
 pub object_spot : (ms : Members) (s : Bytes) (p : Step) (a : PartAt) → payload (object ms) ≡ s → length s ≤ 65536
-    → spot (header s) s p ≡ At a
-    → (v : Tree) × (e : find (step_name p) ms ≡ some v)
+    → spot (header s) s p ≡ Some a
+    → (v : Tree) × (e : find (step_name p) ms ≡ Some v)
     × (a ≡ nth_part s (length (member_parts ms) + length (member_parts ms)) (length (member_parts ms) + (member_split (step_name p) ms v e).count))
 object_spot ms s p a e l q =
-    let r : spot_member s (length (member_parts ms)) (first (step_name p) (names ms)) ≡ At a = sym (object_spot_is ms s p e l) ∙ q in
+    let r : spot_member s (length (member_parts ms)) (first (step_name p) (names ms)) ≡ Some a = sym (object_spot_is ms s p e l) ∙ q in
     ⊎_elim
     (λ n. absurd (spot_member_some s (length (member_parts ms)) _ a r (no_first (step_name p) ms n)))
     (λ w. (
@@ -124,7 +123,7 @@ object_spot ms s p a e l q =
 
 -- Where there is no part, there is no tree.
 pub spot_none : (t : Tree) (s : Bytes) (p : Step) → payload t ≡ s → kind t ≡ Container → length s ≤ 65536
-    → spot (header s) s p ≡ Nothing → step_into p t ≡ nothing
+    → spot (header s) s p ≡ None → step_into p t ≡ None
 spot_none null s p e k l q = refl
 spot_none (boolean x) s p e k l q = refl
 spot_none (number b) s p e k l q = refl
@@ -136,7 +135,7 @@ spot_none (object ms) s p e k l q = object_none ms s p e l q
 -- The part that a step finds, and the tree that it is of.
 pub record Spotted (t : Tree) (s : Bytes) (p : Step) (a : PartAt) : Type 0 where
   pub tree : Tree
-  pub found : step_into p t ≡ some tree
+  pub found : step_into p t ≡ Some tree
   pub entry : entry_at s a.index ≡ entry_word (part tree)
   pub len : length_of (entry_at s a.index) ≡ length (payload tree)
   pub bytes : take (length (payload tree)) (drop a.place s) ≡ payload tree
@@ -145,7 +144,7 @@ pub record Spotted (t : Tree) (s : Bytes) (p : Step) (a : PartAt) : Type 0 where
 
 -- The part that stands behind `xs` in a record.
 row_spotted : (t : Tree) (s : Bytes) (p : Step) (a : PartAt) (w : ℕ) (xs : List Part) (v : Tree) (ys all : List Part)
-    → step_into p t ≡ some v → AllFit all → all ≡ xs ++ (part v ∷ ys) → record_of w all ≡ s → length s ≤ 65536
+    → step_into p t ≡ Some v → AllFit all → all ≡ xs ++ (part v ∷ ys) → record_of w all ≡ s → length s ≤ 65536
     → a ≡ nth_part s (length all) (length xs) → Spotted t s p a
 row_spotted t s p a w xs v ys all found f split e l ha =
     let fit : AllFit (xs ++ (part v ∷ ys)) = rw split at f in
@@ -168,7 +167,7 @@ row_spotted t s p a w xs v ys all found f split e l ha =
     })
 
 array_spotted : (ts : Items) (s : Bytes) (p : Step) (a : PartAt) → payload (array ts) ≡ s → length s ≤ 65536
-    → spot (header s) s p ≡ At a → Spotted (array ts) s p a
+    → spot (header s) s p ≡ Some a → Spotted (array ts) s p a
 array_spotted ts s p a e l q =
     let w = array_spot ts s p a e l q in
     let k = item_split ts w.0 w.1 w.3 in
@@ -176,7 +175,7 @@ array_spotted ts s p a e l q =
     (rw w.2 w.3) (array_fits ts (omega (arith, ap length e))).fits k.whole e l (rw k.before w.4)
 
 object_spotted : (ms : Members) (s : Bytes) (p : Step) (a : PartAt) → payload (object ms) ≡ s → length s ≤ 65536
-    → spot (header s) s p ≡ At a → Spotted (object ms) s p a
+    → spot (header s) s p ≡ Some a → Spotted (object ms) s p a
 object_spotted ms s p a e l q =
     let w = object_spot ms s p a e l q in
     let k = member_split (step_name p) ms w.0 w.1 in
@@ -192,7 +191,7 @@ object_spotted ms s p a e l q =
 
 -- Where there is a part, there is a tree, and the part is the tree's.
 pub spot_part : (t : Tree) (s : Bytes) (p : Step) (a : PartAt) → payload t ≡ s → kind t ≡ Container → length s ≤ 65536
-    → spot (header s) s p ≡ At a → Spotted t s p a
+    → spot (header s) s p ≡ Some a → Spotted t s p a
 spot_part null s p a e k l q = let z : ◌≡◌ {A = ℕ} 0 1 = cc in let w : ⊥ = omega arith in absurd w
 spot_part (boolean true) s p a e k l q = let z : ◌≡◌ {A = ℕ} 0 1 = cc in let w : ⊥ = omega arith in absurd w
 spot_part (boolean false) s p a e k l q = let z : ◌≡◌ {A = ℕ} 0 1 = cc in let w : ⊥ = omega arith in absurd w

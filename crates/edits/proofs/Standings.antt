@@ -1,6 +1,5 @@
 -- Members as they stand: the loops over them, one member at a time.
 use Prim.Native.Nat.{ℕ, suc, ◌+◌, ◌*◌, ◌-◌, ◌^◌, ◌≤◌, ◌<◌}
-use native.Mathlib.Nat.{sub-zero}
 use native.Mathlib.Omega.{arith}
 use mathlib.Core.Path.{◌≡◌, refl, ap, sym, ◌∙◌}
 use mathlib.Core.Bool.{Bool, true, false, cond}
@@ -10,19 +9,25 @@ use Rattle.layout.specs.Bytes.{Bytes}
 use Rattle.layout.proofs.Fields.{length_lt}
 use Rattle.layout.specs.Parts.{name_in, value_in, member_at, members_from, members_at, behind_member}
 use Rattle.layout.proofs.Carries.{object_on}
-use Rattle.builders.specs.Search.{is_kept, kept_of, Bound, least}
+use Rattle.builders.specs.Search.{is_kept, kept_of, Bound}
 use Rattle.builders.specs.Weave.{column}
 use Rattle.builders.specs.declared.search.Kept.{Kept}
 use Rattle.layout.specs.declared.parts.MemberAt.{MemberAt}
-use Rattle.builders.specs.declared.search.Found.{Found}
-use Rattle.builders.specs.declared.search.Found.TheVariants.{Nothing, At}
+use Rattle.layout.specs.declared.parts.Places.{Places}
 use Rattle.builders.proofs.Searches.{length_kept, length_members, bytes_short}
 use Rattle.builders.proofs.Storing.{column_cons, column_none}
 use Rattle.edits.specs.Members.{behind_ahead, kept_ahead, sizes_of, Near, CarriedAhead, Standing, Next}
 use Rattle.edits.specs.declared.members.Ahead.{Ahead}
 use Rattle.edits.specs.declared.members.Sizes.{Sizes}
-use Rattle.edits.specs.declared.members.NextMember.{NextMember}
-use Rattle.edits.specs.declared.members.NextMember.TheVariants.{End, Member}
+use Rattle.std.specs.Prelude.{Option}
+
+-- What is ahead in a loop that goes by an index, from the places that it has come to.
+abbrev pub ahead_at : Ahead → Places → ℕ → Ahead
+ahead_at a at i = record { at = at; index = i; count = a.count; is_rising = a.is_rising }
+
+pub behind_at : (a : Ahead) (at at' : Places) (i : ℕ) (m : MemberAt) → at' ≡ behind_member at m
+    → ahead_at a at' (i + 1) ≡ behind_ahead (ahead_at a at i) m
+behind_at a at at' i m e = ap (λ (x : Places). ahead_at a x (i + 1)) e
 
 -- What is ahead stays near, and becomes less.
 pub near_on : (a : Ahead) (m : MemberAt) (next : Ahead) → Near a → a.index < a.count → next ≡ behind_ahead a m → Near next
@@ -141,23 +146,5 @@ module _ (s : Bytes) (kept : Kept) (all : Ahead) where
 
 -- The next in byte order, by how it was taken.
 module _ (s : Bytes) (kept : Kept) (last : Bound) (a : Ahead) where
-  pub next_stands : (r : NextMember) → a.is_rising ≡ true → Standing s kept a r → Next s kept last a r
+  pub next_stands : (r : Option (MemberAt × Ahead)) → a.is_rising ≡ true → Standing s kept a r → Next s kept last a r
   next_stands r t st = record { stands = λ _. st; searched = λ f. let z : true ≡ false = sym t ∙ f in let y : ◌≡◌ {A = ℕ} 0 1 = cc in let w : ⊥ = omega arith in absurd w }
-
-  -- All are searched.
-  all_searched : a.index ≡ 0 → kept_of kept 0 (members_at s s a.at a.count) ≡ kept_ahead s kept a
-  all_searched e = rw (e, sub-zero a.count)
-
-  module _ (f : a.is_rising ≡ false) (e : a.index ≡ 0) (found : Found)
-      (hf : found ≡ least (name_in s) last Nothing (kept_of kept 0 (members_at s s a.at a.count))) where
-    here_is : least (name_in s) last Nothing (kept_ahead s kept a) ≡ found
-    here_is = ap (least (name_in s) last Nothing) (sym (all_searched e)) ∙ sym hf
-
-    not_standing : {C : Type 0} → a.is_rising ≡ true → C
-    not_standing t = let z : true ≡ false = sym t ∙ f in let y : ◌≡◌ {A = ℕ} 0 1 = cc in let w : ⊥ = omega arith in absurd w
-
-    pub next_end : found ≡ Nothing → Next s kept last a End
-    next_end q = record { stands = λ t. not_standing t; searched = λ _. here_is ∙ q }
-
-    pub next_found : (m : MemberAt) → found ≡ At m → Next s kept last a (Member m a)
-    next_found m q = record { stands = λ t. not_standing t; searched = λ _. (here_is ∙ q, refl) }

@@ -32,14 +32,13 @@ use Rattle.edits.specs.Strip.{stripped, stripped_items, unrepeated, unrepeated_i
 use Rattle.edits.specs.Stripping.{stripped_of, unrepeated_of, Strippable, strip_item, strip_entry, unrepeated_item, Strips}
 use Rattle.layout.specs.declared.parts.PartAt.{PartAt}
 use Rattle.layout.specs.declared.parts.Cursor.{Cursor}
-use Rattle.edits.specs.declared.strip.Stripped.{Stripped}
-use Rattle.edits.specs.declared.strip.Stripped.TheVariants.{Len, Repeated}
 use Rattle.edits.proofs.Strips.{strip_shrinks}
 use Rattle.edits.proofs.Rows.{row_entry, row_bytes, row_lengths}
 use Rattle.edits.proofs.Runs.{laid, laid_append, laid_record}
 use Rattle.edits.proofs.Withouts.{array_word}
 use Rattle.edits.proofs.Tables.{Contains}
 use Rattle.edits.proofs.Stripped.{stripped_tree, TreeAt, strippable_at, stripped_at, ends_len}
+use Rattle.std.specs.Prelude.{Ok, Option, Some, None}
 
 -- Some items and one more.
 abbrev one_more : Items → Tree → Items
@@ -129,7 +128,7 @@ pub record ArrayAt (s : Bytes) (n a : ℕ) : Type 0 where
   pub stripped_is : stripped_of s ≡ payload (array (stripped_items items))
   pub unrepeated_is : unrepeated_of s ≡ unrepeated_items items
 
-pub array_at : {s : Bytes} {n a : ℕ} → Octets s → Strippable s a → header s ≡ Array n → ArrayAt s n a
+pub array_at : {s : Bytes} {n a : ℕ} → Octets s → Strippable s a → header s ≡ Ok (Array n) → ArrayAt s n a
 array_at {s} {n} {a} o st h =
     let b = stripped_tree s a o st in
     let w = an_array b.tree n (sym b.contained.head ∙ h) in
@@ -213,7 +212,7 @@ module _ {s : Bytes} {n a at : ℕ} {w : ArrayAt s n a} {o out : Bytes} {here : 
   -- All are stored.
   all_stored : (v : ℕ) (o₀ : Bytes) → o ≡ patch o₀ at (be32 v) → now.done ≡ w.items → length (item_parts (stripped_items now.done)) ≡ n
       → stripped_of s ≡ payload (array (stripped_items now.done)) → v ≡ 2 ^ 31 + length (item_parts (stripped_items now.done))
-      → Strips (Len (here.place - at)) (unrepeated_of s) (stripped_of s) out (patch o₀ at (stripped_of s))
+      → Strips (Some (here.place - at)) (unrepeated_of s) (stripped_of s) out (patch o₀ at (stripped_of s))
   all_stored v o₀ eo all c is word = (
     w.unrepeated_is ∙ ap unrepeated_items (sym all) ∙ now.fine,
     rw is (omega (
@@ -229,10 +228,10 @@ module _ {s : Bytes} {n a at : ℕ} {w : ArrayAt s n a} {o out : Bytes} {here : 
   )
 
   pub storing_ends : {v : ℕ} (o₀ : Bytes) → n ≤ p.index → v ≡ bit_or (2 ^ 31) n → o ≡ patch o₀ at (be32 v)
-      → Strips (Len (here.place - at)) (unrepeated_of s) (stripped_of s) out (patch o₀ at (stripped_of s))
+      → Strips (Some (here.place - at)) (unrepeated_of s) (stripped_of s) out (patch o₀ at (stripped_of s))
   storing_ends {v} o₀ h ev eo = go now.rest refl
     where
-      go : (r : Items) → now.rest ≡ r → Strips (Len (here.place - at)) (unrepeated_of s) (stripped_of s) out (patch o₀ at (stripped_of s))
+      go : (r : Items) → now.rest ≡ r → Strips (Some (here.place - at)) (unrepeated_of s) (stripped_of s) out (patch o₀ at (stripped_of s))
       go (item t r) q =
           let few : n ≡ length (item_parts now.done) + length (item_parts (item t r)) =
           w.count
@@ -309,15 +308,15 @@ module _ {s : Bytes} {n a at : ℕ} {w : ArrayAt s n a} {o out : Bytes} {here : 
     pub item_asks : code_of x.jentry ≡ 5 → Strippable (bytes_at s x) (a - 1)
     item_asks = strippable_at s x next_item.0 (a - 1) item_at
 
-    module _ (r : Stripped) (out₁ : Bytes)
+    module _ (r : Option ℕ) (out₁ : Bytes)
         (st : Strips r (unrepeated_item s x) (strip_item s x) out₁ (patch (patch out here.jentry (be32 (strip_entry s x))) here.place (strip_item s x))) where
-      pub storing_repeats : r ≡ Repeated → unrepeated_of s ≡ false
+      pub storing_repeats : r ≡ None → unrepeated_of s ≡ false
       storing_repeats q =
           let z : unrepeated_item s x ≡ false = rw q at st in
           let f : unrepeated next_item.0 ≡ false = sym (stripped_at s x next_item.0 (a - 1) item_at).2 ∙ z in
           w.unrepeated_is ∙ ap unrepeated_items (sym whole) ∙ repeats_in now.done next_item.0 next_item.1 f
 
-      module _ {len : ℕ} (q : r ≡ Len len) where
+      module _ {len : ℕ} (q : r ≡ Some len) where
         told : (unrepeated_item s x ≡ true) × (len ≡ length (strip_item s x))
             × (out₁ ≡ patch (patch out here.jentry (be32 (strip_entry s x))) here.place (strip_item s x))
         told = ends_len _ _ _ _ st q

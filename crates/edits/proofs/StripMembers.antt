@@ -5,7 +5,6 @@ use native.Mathlib.Decide.{dec_le}
 use mathlib.Core.Path.{◌≡◌, refl, ap, sym, ◌∙◌}
 use mathlib.Core.Bool.{Bool, true, false, not, cond, ◌&&◌}
 use mathlib.Core.List.{List, [], ◌∷◌}
-use mathlib.Core.Option.{some}
 use lib.Bits.{bit_or}
 use lib.Dec.{eqb}
 use lib.ListN.{length, take, drop, length-take, length-drop}
@@ -19,8 +18,8 @@ use Rattle.layout.specs.Read.{header}
 use Rattle.layout.specs.Check.{checked}
 use Rattle.layout.specs.Limits.{Valid, ValidMembers, depth, depth_members, size_members}
 use Rattle.layout.specs.Patch.{patch}
-use Rattle.layout.specs.declared.order.Ordering.{Ordering}
-use Rattle.layout.specs.declared.order.Ordering.TheVariants.{Less, Equal, Greater}
+use Rattle.std.specs.declared.cmp.Ordering.{Ordering}
+use Rattle.std.specs.declared.cmp.Ordering.TheVariants.{Less, Equal, Greater}
 use Rattle.layout.specs.declared.util.Header.TheVariants.{Object}
 use Rattle.layout.proofs.Words.{octets_take, octets_drop}
 use Rattle.layout.proofs.Readables.{size_payload}
@@ -28,14 +27,12 @@ use Rattle.layout.proofs.Answers.{gives_inj}
 use Rattle.layout.proofs.Values.{rising_tail, rising_all, ≺-irrefl}
 use Rattle.builders.specs.Order.{by, insert, insert_all, in_order, find, distinct}
 use Rattle.layout.specs.Parts.{name_in, value_in, members_at, past}
-use Rattle.builders.specs.Search.{is_kept, kept_of, Bound, bound, least, nth}
+use Rattle.builders.specs.Search.{is_kept, kept_of, Bound, least, nth}
 use Rattle.builders.specs.Sorted.{sorted}
 use Rattle.builders.specs.Weave.{own_entry, stored, woven, column}
 use Rattle.builders.specs.declared.search.Kept.TheVariants.{NonNull}
 use Rattle.layout.specs.declared.parts.MemberAt.{MemberAt}
 use Rattle.layout.specs.declared.parts.Places.{Places}
-use Rattle.builders.specs.declared.search.Found.{Found}
-use Rattle.builders.specs.declared.search.Found.TheVariants.{Nothing, At}
 use Rattle.builders.proofs.Orderings.{order_equal, order_refl}
 use Rattle.builders.proofs.InOrders.{in_order_rising, find_in_order, in_order_count, in_order_names, count_distinct}
 use Rattle.builders.proofs.Searches.{length_sorted, nth_inside, bytes_short}
@@ -48,8 +45,6 @@ use Rattle.layout.specs.Parts.{members_of}
 use Rattle.edits.specs.Members.{places_for, sizes_of, kept_ahead, all_ahead, Near}
 use Rattle.edits.specs.declared.members.Ahead.{Ahead}
 use Rattle.edits.specs.declared.members.Sizes.{Sizes}
-use Rattle.edits.specs.declared.strip.Stripped.{Stripped}
-use Rattle.edits.specs.declared.strip.Stripped.TheVariants.{Len, Repeated}
 use Rattle.edits.proofs.Deletes.{some_inj, nothing_some}
 use Rattle.edits.proofs.Strips.{in_order_unrepeated, kept_unrepeated, find_unrepeated}
 use Rattle.edits.proofs.Helds.{entry_code}
@@ -59,6 +54,7 @@ use Rattle.edits.proofs.Sorteds.{ObjectAt, object_at, stand_count, stand_sizes, 
 use Rattle.edits.proofs.SortedAnews.{nth_in, column_part}
 use Rattle.edits.proofs.Aheads.{searched, all_is, ahead_starts}
 use Rattle.edits.proofs.Stripped.{handed, stripped_tree, no_longer, TreeAt, strippable_at, stripped_at, ends_len}
+use Rattle.std.specs.Prelude.{Ok, Some, None, Option}
 
 -- Only null has code 0.
 null_code : (t : Tree) → eqb (code (kind t)) 0 ≡ is_null t
@@ -165,7 +161,7 @@ module _ (s : Bytes) (a : ℕ) (o : Octets s) (l : length s ≤ 65536) (al : a �
 
   -- Where each value is found unrepeated, all are.
   each_one : (xs : List MemberAt) (ms : Members) → Stand (name_in s) (value_in s) own_entry xs ms → AllFine ms s a
-      → ((k : ℕ) (m : MemberAt) → nth xs k ≡ At m → unrepeated_item s m.val ≡ true) → unrepeated_members ms ≡ true
+      → ((k : ℕ) (m : MemberAt) → nth xs k ≡ Some m → unrepeated_item s m.val ≡ true) → unrepeated_members ms ≡ true
   unfolding nth
   each_one [] empty h f e = refl
   each_one [] (member n t ms) h f e = absurd h
@@ -174,18 +170,18 @@ module _ (s : Bytes) (a : ℕ) (o : Octets s) (l : length s ≤ 65536) (al : a �
       let u : unrepeated t ≡ true = sym (stripped_at s x.val t a (tree_at x n t h.0 f.0)).2 ∙ e 0 x refl in
       rw u (each_one xs ms h.1 f.1 (λ k m q. e (suc k) m q))
 
-  fine_find : (ms : Members) (n : Bytes) (t : Tree) → AllFine ms s a → find n ms ≡ some t → Fine t s a
+  fine_find : (ms : Members) (n : Bytes) (t : Tree) → AllFine ms s a → find n ms ≡ Some t → Fine t s a
   fine_find empty n t f e = nothing_some e
   fine_find (member m u ms) n t f e = go (order n m) e (fine_find ms n t f.1)
     where
-      go : (c : Ordering) → by c (find n ms) (some u) (find n ms) ≡ some t → (find n ms ≡ some t → Fine t s a) → Fine t s a
+      go : (c : Ordering) → by c (find n ms) (Some u) (find n ms) ≡ Some t → (find n ms ≡ Some t → Fine t s a) → Fine t s a
       go Less q r = r q
       go Equal q r = rw (← some_inj q) f.0
       go Greater q r = r q
 
 -- The member that stands at a place of members in order, by its name.
 stand_nth : (name value : MemberAt → Bytes) (entry : MemberAt → ℕ) (xs : List MemberAt) (ms : Members) → Rising (names ms) → Stand name value entry xs ms
-    → (i : ℕ) (m : MemberAt) → nth xs i ≡ At m → (t : Tree) × (find (name m) ms ≡ some t) × Stands name value entry m (name m) t
+    → (i : ℕ) (m : MemberAt) → nth xs i ≡ Some m → (t : Tree) × (find (name m) ms ≡ Some t) × Stands name value entry m (name m) t
 unfolding nth
 stand_nth name value entry [] ms r h i m e = let z : ◌≡◌ {A = ℕ} 0 1 = cc in let w : ⊥ = omega arith in absurd w
 stand_nth name value entry (x ∷ xs) empty r h i m e = absurd h
@@ -198,7 +194,7 @@ stand_nth name value entry (x ∷ xs) (member k t ms) r h (suc i) m e =
     let d : name m ≡ k → ⊥ = λ q. ≺-irrefl k (rw q at (rising_all k (names ms) r (name m) (nth_in name value entry xs ms h.1 i m e))) in
     (w.0, later (order (name m) k) refl d ∙ w.1, w.2)
   where
-    later : (c : Ordering) → order (name m) k ≡ c → (name m ≡ k → ⊥) → by c (find (name m) ms) (some t) (find (name m) ms) ≡ find (name m) ms
+    later : (c : Ordering) → order (name m) k ≡ c → (name m ≡ k → ⊥) → by c (find (name m) ms) (Some t) (find (name m) ms) ≡ find (name m) ms
     later Less q d = refl
     later Equal q d = absurd (d (order_equal (name m) k q))
     later Greater q d = refl
@@ -213,7 +209,7 @@ pub record ObjectStripped (s : Bytes) (n a : ℕ) : Type 0 where
   pub stripped_is : stripped_of s ≡ payload (object (in_order (stripped_members object_is.members)))
   pub unrepeated_is : unrepeated_of s ≡ (distinct (names (kept object_is.members)) && unrepeated_members object_is.members)
 
-pub object_stripped : {s : Bytes} {n a : ℕ} → Octets s → Strippable s a → header s ≡ Object n → ObjectStripped s n a
+pub object_stripped : {s : Bytes} {n a : ℕ} → Octets s → Strippable s a → header s ≡ Ok (Object n) → ObjectStripped s n a
 object_stripped {s} {n} {a} o st h =
     let b = stripped_tree s a o st in
     let w = object_at s n o (ap checked b.contained.reads) st.short h in
@@ -255,11 +251,11 @@ module _ (s : Bytes) (n a : ℕ) (w : ObjectStripped s n a) where
       (stand_stripped s (a - 1) w.octets short lower 0 (members_at s s (members_of s n) n) ms w.object_is.stand w.fine)
 
   -- A member of them.
-  module _ (i : ℕ) (m : MemberAt) (e : nth all i ≡ At m) where
-    pub value_tree : (t : Tree) × (find (name_in s m) (kept ms) ≡ some t) × TreeAt s m.val t (a - 1)
+  module _ (i : ℕ) (m : MemberAt) (e : nth all i ≡ Some m) where
+    pub value_tree : (t : Tree) × (find (name_in s m) (kept ms) ≡ Some t) × TreeAt s m.val t (a - 1)
     value_tree =
         let x = stand_nth (name_in s) (value_in s) own_entry all (in_order (kept ms)) (in_order_rising (kept ms)) own i m e in
-        let f : find (name_in s m) (kept ms) ≡ some x.0 = sym (find_in_order (name_in s m) (kept ms)) ∙ x.1 in (
+        let f : find (name_in s m) (kept ms) ≡ Some x.0 = sym (find_in_order (name_in s m) (kept ms)) ∙ x.1 in (
           x.0,
           f,
           tree_at s (a - 1) w.octets short lower m (name_in s m) x.0 x.2
@@ -315,7 +311,7 @@ module _ (s : Bytes) (n a : ℕ) (w : ObjectStripped s n a) where
           go false h = omega arith
 
   -- All are stored, and no name was repeated.
-  module _ (full : length (searched s n NonNull) ≤ length all) (each : (k : ℕ) (m : MemberAt) → nth all k ≡ At m → unrepeated_item s m.val ≡ true) where
+  module _ (full : length (searched s n NonNull) ≤ length all) (each : (k : ℕ) (m : MemberAt) → nth all k ≡ Some m → unrepeated_item s m.val ≡ true) where
     apart : distinct (names (kept ms)) ≡ true
     apart = count_distinct (kept ms) (omega (arith, counted_kept, counted_all, full, length_sorted (name_in s) (searched s n NonNull)))
 
@@ -337,7 +333,7 @@ module _ (s : Bytes) (n a : ℕ) (w : ObjectStripped s n a) where
         → v ≡ bit_or (2 ^ 30) z.count → b₁ ≡ patch b at (be32 v)
         → b₂ ≡ woven (name_in s) (strip_value s) (value_entry s) b₁ to.key_jentry to.val_jentry to.key to.val all
         → end ≡ to.val + length (column (strip_value s) all)
-        → Strips (Len (end - at)) (unrepeated_of s) (stripped_of s) b₂ (patch b at (stripped_of s))
+        → Strips (Some (end - at)) (unrepeated_of s) (stripped_of s) b₂ (patch b at (stripped_of s))
     object_stored z to at v end b b₁ b₂ ez et ev e₁ e₂ ee =
         let c : z.count ≡ length all = ap (λ (x : Sizes). x.count) ez ∙ omega (arith, full, length_sorted (name_in s) (searched s n NonNull)) in
         let k : z.keys ≡ length (column (name_in s) all) = ap (λ (x : Sizes). x.keys) ez ∙ keys_same in
@@ -354,14 +350,14 @@ module _ (s : Bytes) (n a : ℕ) (w : ObjectStripped s n a) where
 pub handed_near : {s : Bytes} {n a : ℕ} {ahead : Ahead} → ObjectStripped s n a → ahead ≡ all_ahead (take (length s - 0) s) n → Near ahead
 handed_near {s} {n} w e = rw (e, handed s) (ahead_starts s n NonNull w.object_is).near
 
-pub handed_members : {s : Bytes} {n a : ℕ} {ahead : Ahead} {z : Sizes} → Strippable s a → header s ≡ Object n
+pub handed_members : {s : Bytes} {n a : ℕ} {ahead : Ahead} {z : Sizes} → Strippable s a → header s ≡ Ok (Object n)
     → ahead ≡ all_ahead (take (length s - 0) s) n → z ≡ sizes_of (take (length s - 0) s) (kept_ahead (take (length s - 0) s) NonNull ahead)
     → Prepared (take (length s - 0) s) ahead z a
 handed_members {s} {n} {a} {ahead} {z} st h e hz =
     let c : n ≡ ahead.count = sym (ap (λ (x : Ahead). x.count) e) in
     let k : ahead ≡ all_ahead s n = rw (handed s) at e in
     let m : z ≡ sizes_of s (kept_ahead s NonNull ahead) = rw (handed s) at hz in
-    rw (handed s) (record { strippable = st; object = h ∙ ap (λ (j : ℕ). Object j) c; all = k ∙ ap (all_ahead s) c; measured = m })
+    rw (handed s) (record { strippable = st; object = h ∙ ap (λ (j : ℕ). (Ok (Object j))) c; all = k ∙ ap (all_ahead s) c; measured = m })
 
 -- An object that is stored at `at`: the sizes of what is kept of it, and the places of its members.
 pub record Setting (s : Bytes) (n a at : ℕ) (z : Sizes) (to₀ : Places) : Type 0 where
@@ -397,22 +393,22 @@ module _ {s : Bytes} {ahead : Ahead} {z : Sizes} {a : ℕ} (o : Octets s) (p : P
       let z : ahead.index ≡ 0 = ap (λ (x : Ahead). x.index) p.all in
       (h.few, omega (arith, h.key_jentry), omega (arith, h.val_jentry), omega (arith, h.key), omega (arith, h.val))
 
-  pub found_among : (last : Bound) {found : Found} → found ≡ least (name_in s) last Nothing (kept_of NonNull 0 (members_at s s ahead.at ahead.count))
-      → found ≡ least (name_in s) last Nothing (searched s ahead.count NonNull)
-  found_among last hf = hf ∙ ap (λ (x : Ahead). least (name_in s) last Nothing (kept_of NonNull 0 (members_at s s x.at ahead.count))) p.all
+  pub found_among : (last : Bound) {found : Option MemberAt} → found ≡ least (name_in s) last None (kept_of NonNull 0 (members_at s s ahead.at ahead.count))
+      → found ≡ least (name_in s) last None (searched s ahead.count NonNull)
+  found_among last hf = hf ∙ ap (λ (x : Ahead). least (name_in s) last None (kept_of NonNull 0 (members_at s s x.at ahead.count))) p.all
 
 -- The loop, as the code goes: `i` members are stored, and no value so far has a name twice.
-pub record StoringMembers (s : Bytes) (n a at : ℕ) (z : Sizes) (to₀ : Places) (o out last : Bytes) (to : Places) (i : ℕ) : Type 0 where
+pub record StoringMembers (s : Bytes) (n a at : ℕ) (z : Sizes) (to₀ : Places) (o out : Bytes) (last : Bound) (to : Places) (i : ℕ) : Type 0 where
   pub setting : Setting s n a at z to₀
   pub stored : Stored (name_in s) (strip_value s) (value_entry s) (searched s n NonNull) o to₀ out last to i
-  pub each : (k : ℕ) (m : MemberAt) → k < i → nth (sorted (name_in s) (searched s n NonNull)) k ≡ At m → unrepeated_item s m.val ≡ true
+  pub each : (k : ℕ) (m : MemberAt) → k < i → nth (sorted (name_in s) (searched s n NonNull)) k ≡ Some m → unrepeated_item s m.val ≡ true
 
-pub members_starts : {s : Bytes} {n a at : ℕ} {z : Sizes} {to₀ : Places} → Setting s n a at z to₀ → (o last : Bytes)
-    → StoringMembers s n a at z to₀ o o last to₀ 0
-members_starts h o last =
-    record { setting = h; stored = begins _ _ _ _ _ _ last; each = λ k m h. let z : ⊥ = omega arith in absurd z }
+pub members_starts : {s : Bytes} {n a at : ℕ} {z : Sizes} {to₀ : Places} → Setting s n a at z to₀ → (o : Bytes)
+    → StoringMembers s n a at z to₀ o o None to₀ 0
+members_starts h o =
+    record { setting = h; stored = begins _ _ _ _ _ _; each = λ k m h. let z : ⊥ = omega arith in absurd z }
 
-module _ {s : Bytes} {n a at : ℕ} {z : Sizes} {to₀ : Places} {o out last : Bytes} {to : Places} {i : ℕ}
+module _ {s : Bytes} {n a at : ℕ} {z : Sizes} {to₀ : Places} {o out : Bytes} {last : Bound} {to : Places} {i : ℕ}
     (now : StoringMembers s n a at z to₀ o out last to i) where
   sizes_all : 4 + 8 * z.count + z.keys + length (column (strip_value s) (sorted (name_in s) (searched s n NonNull))) ≤ 65536
   sizes_all = stripped_sizes s n a now.setting.object_is z now.setting.sizes
@@ -445,15 +441,15 @@ module _ {s : Bytes} {n a at : ℕ} {z : Sizes} {to₀ : Places} {o out last : B
       )
 
   -- No member is found, though some are left.
-  pub members_few : {found : Found} → i < z.count → found ≡ least (name_in s) (bound (eqb i 0) last) Nothing (searched s n NonNull) → found ≡ Nothing
+  pub members_few : {found : Option MemberAt} → i < z.count → found ≡ least (name_in s) last None (searched s n NonNull) → found ≡ None
       → unrepeated_of s ≡ false
   members_few {found} h hf q =
       too_few s n a now.setting.object_is (omega (arith, h, count_is, sought_end (name_in s) (searched s n NonNull) last i now.stored.sought found hf q))
 
   -- A member is found.
-  module _ {m : MemberAt} (found : At m ≡ least (name_in s) (bound (eqb i 0) last) Nothing (searched s n NonNull)) where
-    is_nth : nth (sorted (name_in s) (searched s n NonNull)) i ≡ At m
-    is_nth = sought_nth (name_in s) (searched s n NonNull) last i now.stored.sought (At m) found m refl
+  module _ {m : MemberAt} (found : Some m ≡ least (name_in s) last None (searched s n NonNull)) where
+    is_nth : nth (sorted (name_in s) (searched s n NonNull)) i ≡ Some m
+    is_nth = sought_nth (name_in s) (searched s n NonNull) last i now.stored.sought (Some m) found m refl
 
     -- What storing it asks.
     pub members_asks : i < z.count → (code_of m.val.jentry ≡ 5 → Strippable (value_in s m) (a - 1))
@@ -469,12 +465,14 @@ module _ {s : Bytes} {n a at : ℕ} {z : Sizes} {to₀ : Places} {o out last : B
           omega (arith, r),
         )
 
-    module _ (e : Stripped) (out₁ : Bytes) (st : Strips e (unrepeated_item s m.val) (strip_item s m.val) out₁
+    module _ (e : Option ℕ) (out₁ : Bytes) (st : Strips e (unrepeated_item s m.val) (strip_item s m.val) out₁
         (stored (name_in s) (strip_value s) (value_entry s) out to.key_jentry to.val_jentry to.key to.val m)) where
-      pub members_repeats : e ≡ Repeated → unrepeated_of s ≡ false
-      members_repeats qe = let y : unrepeated_item s m.val ≡ false = rw qe at st in member_repeats s n a now.setting.object_is i m is_nth y
+      pub members_repeats : e ≡ None → unrepeated_of s ≡ false
+      members_repeats qe =
+          let z : unrepeated_item s m.val ≡ false = rw qe at st in
+          member_repeats s n a now.setting.object_is i m is_nth z
 
-      module _ {len : ℕ} (qe : e ≡ Len len) where
+      module _ {len : ℕ} (qe : e ≡ Some len) where
         told : (unrepeated_item s m.val ≡ true) × (len ≡ length (strip_item s m.val))
             × (out₁ ≡ stored (name_in s) (strip_value s) (value_entry s) out to.key_jentry to.val_jentry to.key to.val m)
         told = ends_len _ _ _ _ st qe
@@ -494,22 +492,22 @@ module _ {s : Bytes} {n a at : ℕ} {z : Sizes} {to₀ : Places} {o out last : B
                 omega (arith, r, len_short),
               )
 
-          pub members_on : {to' : Places} → to' ≡ past to (length key) len → StoringMembers s n a at z to₀ o out₁ key to' (i + 1)
+          pub members_on : {to' : Places} → to' ≡ past to (length key) len → StoringMembers s n a at z to₀ o out₁ (Some key) to' (i + 1)
           members_on {to'} et =
               record {
                 setting = now.setting;
                 stored =
-                    goes (name_in s) (strip_value s) (value_entry s) (searched s n NonNull) o to₀ out last to i now.stored (At m) found m key out₁ to' refl
+                    goes (name_in s) (strip_value s) (value_entry s) (searched s n NonNull) o to₀ out last to i now.stored (Some m) found m key out₁ to' refl
                     (et ∙ rw (hk, told.1), told.2) hk (bytes_short s m.key) (omega (arith, told.1, len_short));
                 each = λ k y h e. more k y (dec_le (suc k) i) h e;
               }
             where
-              more : (k : ℕ) (y : MemberAt) → Dec (suc k ≤ i) → k < i + 1 → nth (sorted (name_in s) (searched s n NonNull)) k ≡ At y
+              more : (k : ℕ) (y : MemberAt) → Dec (suc k ≤ i) → k < i + 1 → nth (sorted (name_in s) (searched s n NonNull)) k ≡ Some y
                   → unrepeated_item s y.val ≡ true
               more k y (yes d) h e = now.each k y d e
               more k y (no d) h e =
                   let same : k ≡ i = omega arith in
-                  let f : At y ≡ At m = sym e ∙ ap (nth (sorted (name_in s) (searched s n NonNull))) same ∙ is_nth in
+                  let f : Some y ≡ Some m = sym e ∙ ap (nth (sorted (name_in s) (searched s n NonNull))) same ∙ is_nth in
                   let g : y ≡ m = cc in
                   rw g told.0
 
@@ -520,12 +518,12 @@ module _ {s : Bytes} {n a at : ℕ} {z : Sizes} {to₀ : Places} {o out last : B
   done : z.count ≤ i → length (sorted (name_in s) (searched s n NonNull)) ≤ i
   done h = omega (arith, h, count_is, length_sorted (name_in s) (searched s n NonNull))
 
-  each_done : z.count ≤ i → (k : ℕ) (m : MemberAt) → nth (sorted (name_in s) (searched s n NonNull)) k ≡ At m
+  each_done : z.count ≤ i → (k : ℕ) (m : MemberAt) → nth (sorted (name_in s) (searched s n NonNull)) k ≡ Some m
       → unrepeated_item s m.val ≡ true
   each_done h k m e = now.each k m (omega (arith, done h, nth_inside (sorted (name_in s) (searched s n NonNull)) k m e)) e
 
   pub members_ends : {v : ℕ} (o₀ : Bytes) → z.count ≤ i → v ≡ bit_or (2 ^ 30) z.count → o ≡ patch o₀ at (be32 v)
-      → Strips (Len (to.val - at)) (unrepeated_of s) (stripped_of s) out (patch o₀ at (stripped_of s))
+      → Strips (Some (to.val - at)) (unrepeated_of s) (stripped_of s) out (patch o₀ at (stripped_of s))
   members_ends {v} o₀ h ev eo =
       object_stored s n a now.setting.object_is (full h) (each_done h) z to₀ at v to.val o₀ o out
       now.setting.sizes now.setting.places ev eo

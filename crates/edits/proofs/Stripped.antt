@@ -19,7 +19,7 @@ use Rattle.layout.specs.Limits.{Valid, depth}
 use Rattle.layout.specs.Patch.{patch}
 use Rattle.layout.specs.declared.refusal.Refusal.{Refusal}
 use Rattle.layout.specs.declared.util.Header.{Header}
-use Rattle.layout.specs.declared.util.Header.TheVariants.{Array, Object, Scalar, Refused}
+use Rattle.layout.specs.declared.util.Header.TheVariants.{Array, Object, Scalar}
 use Rattle.layout.specs.declared.item.Kind.{Kind}
 use Rattle.layout.specs.declared.item.Kind.TheVariants.{Null, String, Number, False, True, Container, Extension}
 use Rattle.layout.proofs.Words.{length_be32, octets_take, octets_drop}
@@ -33,12 +33,11 @@ use Rattle.layout.specs.declared.parts.MemberAt.{MemberAt}
 use Rattle.layout.specs.declared.parts.Places.{Places}
 use Rattle.edits.specs.Strip.{stripped, unrepeated}
 use Rattle.edits.specs.Stripping.{stripped_in, stripped_of, unrepeated_of, Strippable, strip_item, strip_entry, strip_value, value_entry, unrepeated_item, Strips}
-use Rattle.edits.specs.declared.strip.Stripped.{Stripped}
-use Rattle.edits.specs.declared.strip.Stripped.TheVariants.{Len, Repeated}
 use Rattle.layout.specs.declared.parts.Cursor.{Cursor}
 use Rattle.edits.proofs.Strips.{kind_stripped, strip_shrinks}
 use Rattle.edits.proofs.Helds.{entry_code}
 use Rattle.edits.proofs.Tables.{Contains, contains, contains_more}
+use Rattle.std.specs.Prelude.{Ok, Err, Result, Option, Some, None}
 
 -- A container that can be stripped, by its tree.
 pub record StrippedTree (s : Bytes) (a : ℕ) : Type 0 where
@@ -157,7 +156,7 @@ module _ (s : Bytes) (x : ItemAt) (t : Tree) (a : ℕ) (h : TreeAt s x t a) wher
       go (no d) = (rw (no_five d, h.bytes, (own_strip t d).0), rw (no_five d, h.entry, (own_strip t d).0), rw (no_five d, (own_strip t d).1))
 
 -- Storing that ended with a length.
-pub ends_len : {r : Stripped} {len : ℕ} (f : Bool) (b o w : Bytes) → Strips r f b o w → r ≡ Len len → Strips (Len len) f b o w
+pub ends_len : {r : Option ℕ} {len : ℕ} (f : Bool) (b o w : Bytes) → Strips r f b o w → r ≡ Some len → Strips (Some len) f b o w
 ends_len f b o w h q = rw q at h
 
 -- An item that is a container, as the code finds it: its payload is read, and can be stripped.
@@ -174,19 +173,20 @@ module _ {s : Bytes} {x : ItemAt} {b : Bytes} {a : ℕ} (item : NestedItem s x b
   pub item_asked : Strippable b a
   item_asked = rw item.payload_is (item.asked item.is_container)
 
-  pub item_repeats : {r : Stripped} (o w : Bytes) → Strips r (unrepeated_of b) (stripped_of b) o w → r ≡ Repeated → unrepeated_item s x ≡ false
-  item_repeats o w h q = let z : unrepeated_of b ≡ false = rw q at h in rw (test, ← item.payload_is) z
+  pub item_repeats : {r : Option ℕ} (o w : Bytes) → Strips r (unrepeated_of b) (stripped_of b) o w → r ≡ None
+      → unrepeated_item s x ≡ false
+  item_repeats {r} o w h q = let z : unrepeated_of b ≡ false = rw q at h in rw (test, ← item.payload_is) z
 
-  pub item_short : {r : Stripped} {len : ℕ} (o w : Bytes) → Strips r (unrepeated_of b) (stripped_of b) o w → r ≡ Len len → len ≤ 65536
+  pub item_short : {r : Option ℕ} {len : ℕ} (o w : Bytes) → Strips r (unrepeated_of b) (stripped_of b) o w → r ≡ Some len → len ≤ 65536
   item_short o w h q =
       let ob : Octets b = rw item.payload_is (octets_take (length_of x.jentry) (drop x.place s) (octets_drop x.place s item.octets)) in
       omega (arith, (ends_len (unrepeated_of b) (stripped_of b) o w h q).1, (stripped_tree b a ob item_asked).shorter, item_asked.short)
 
   -- It is stored, and its entry behind it.
-  pub item_stripped : (at : Cursor) (o o₁ o₂ : Bytes) {r : Stripped} {len e : ℕ}
-      → Strips r (unrepeated_of b) (stripped_of b) o₁ (patch o at.place (stripped_of b)) → r ≡ Len len
+  pub item_stripped : (at : Cursor) (o o₁ o₂ : Bytes) {r : Option ℕ} {len e : ℕ}
+      → Strips r (unrepeated_of b) (stripped_of b) o₁ (patch o at.place (stripped_of b)) → r ≡ Some len
       → e ≡ entry_of (5 % 2 ^ 3) (len % 2 ^ 28) → o₂ ≡ patch o₁ at.jentry (be32 e) → at.jentry + 4 ≤ at.place
-      → Strips (Len len) (unrepeated_item s x) (strip_item s x) o₂
+      → Strips (Some len) (unrepeated_item s x) (strip_item s x) o₂
       (patch (patch o at.jentry (be32 (strip_entry s x))) at.place (strip_item s x))
   item_stripped at o o₁ o₂ {r} {len} {e} h q ee e₂ ap' =
       let told = ends_len (unrepeated_of b) (stripped_of b) o₁ (patch o at.place (stripped_of b)) h q in
@@ -204,18 +204,18 @@ module _ {s : Bytes} {x : ItemAt} {b : Bytes} {a : ℕ} (item : NestedItem s x b
 -- Anything else is stored as it is.
 pub item_as_is : (s : Bytes) (x : ItemAt) (b : Bytes) (c : ℕ) (at : Cursor) (o o₁ o₂ : Bytes) → b ≡ bytes_at s x → c ≡ code_of x.jentry
     → (c ≡ 5 → ⊥) → o₁ ≡ patch o at.jentry (be32 x.jentry) → o₂ ≡ patch o₁ at.place b
-    → Strips (Len (length b)) (unrepeated_item s x) (strip_item s x) o₂
+    → Strips (Some (length b)) (unrepeated_item s x) (strip_item s x) o₂
     (patch (patch o at.jentry (be32 (strip_entry s x))) at.place (strip_item s x))
 item_as_is s x b c at o o₁ o₂ hb hc d e₁ e₂ =
     let t : eqb (code_of x.jentry) 5 ≡ false = ne_eqb (code_of x.jentry) 5 (λ z. d (hc ∙ z)) in
     (rw t, rw (t, hb), e₂ ∙ rw (e₁, t, hb))
 
 -- How storing ended, told of an equal buffer.
-pub strips_as : (r : Stripped) (f : Bool) (b o w w' : Bytes) → w ≡ w' → Strips r f b o w → Strips r f b o w'
+pub strips_as : (r : Option ℕ) (f : Bool) (b o w w' : Bytes) → w ≡ w' → Strips r f b o w → Strips r f b o w'
 strips_as r f b o w w' e h = rw (← e) h
 
 -- A member stored: the name's entry and the name, then the value as an item.
-pub member_stripped : (s : Bytes) (m : MemberAt) (at : Places) (key o o₁ o₂ out : Bytes) (r : Stripped) → key ≡ bytes_at s m.key
+pub member_stripped : (s : Bytes) (m : MemberAt) (at : Places) (key o o₁ o₂ out : Bytes) (r : Option ℕ) → key ≡ bytes_at s m.key
     → o₁ ≡ patch o at.key_jentry (be32 m.key.jentry) → o₂ ≡ patch o₁ at.key key → at.val_jentry + 4 ≤ at.key
     → Strips r (unrepeated_item s m.val) (strip_item s m.val) out
     (patch (patch o₂ at.val_jentry (be32 (strip_entry s m.val))) at.val (strip_item s m.val))
@@ -230,7 +230,7 @@ member_stripped s m at key o o₁ o₂ out r hk e₁ e₂ h st =
     st
 
 -- What can be stripped is an array or an object.
-pub neither : (t : Tree) (h : Header) → kind t ≡ Container → h ≡ head_of t → ((n : ℕ) → h ≡ Array n → ⊥) → ((n : ℕ) → h ≡ Object n → ⊥) → ⊥
+pub neither : (t : Tree) (h : Result Header Refusal) → kind t ≡ Container → h ≡ head_of t → ((n : ℕ) → h ≡ Ok (Array n) → ⊥) → ((n : ℕ) → h ≡ Ok (Object n) → ⊥) → ⊥
 neither null h k e a b = let z : ◌≡◌ {A = ℕ} 0 1 = cc in omega arith
 neither (boolean true) h k e a b = let z : ◌≡◌ {A = ℕ} 0 1 = cc in omega arith
 neither (boolean false) h k e a b = let z : ◌≡◌ {A = ℕ} 0 1 = cc in omega arith
@@ -241,28 +241,28 @@ neither (array ts) h k e a b = a (length (item_parts ts)) e
 neither (object ms) h k e a b = b (length (member_parts ms)) e
 
 module _ {C : Type 0} {s : Bytes} {a : ℕ} (o : Octets s) (h : Strippable s a) where
-  no_other : ((n : ℕ) → header s ≡ Array n → ⊥) → ((n : ℕ) → header s ≡ Object n → ⊥) → C
+  no_other : ((n : ℕ) → header s ≡ Ok (Array n) → ⊥) → ((n : ℕ) → header s ≡ Ok (Object n) → ⊥) → C
   no_other d e = let w = (stripped_tree s a o h).contained in absurd (neither (stripped_tree s a o h).tree (header s) w.container w.head d e)
 
-  pub no_scalar : {n : ℕ} → header s ≡ Scalar n → C
+  pub no_scalar : {n : ℕ} → header s ≡ Ok (Scalar n) → C
   no_scalar {n} q =
-      no_other (λ m e. let z : Scalar n ≡ Array m = sym q ∙ e in let y : ◌≡◌ {A = ℕ} 0 1 = cc in omega arith)
-      (λ m e. let z : Scalar n ≡ Object m = sym q ∙ e in let y : ◌≡◌ {A = ℕ} 0 1 = cc in omega arith)
+      no_other (λ m e. let z : Ok (Scalar n) ≡ Ok (Array m) = sym q ∙ e in let y : ◌≡◌ {A = ℕ} 0 1 = cc in omega arith)
+      (λ m e. let z : Ok (Scalar n) ≡ Ok (Object m) = sym q ∙ e in let y : ◌≡◌ {A = ℕ} 0 1 = cc in omega arith)
 
-  pub no_refusal : {r : Refusal} → header s ≡ Refused r → C
+  pub no_refusal : {r : Refusal} → header s ≡ Err r → C
   no_refusal {r} q =
-      no_other (λ m e. let z : Refused r ≡ Array m = sym q ∙ e in let y : ◌≡◌ {A = ℕ} 0 1 = cc in omega arith)
-      (λ m e. let z : Refused r ≡ Object m = sym q ∙ e in let y : ◌≡◌ {A = ℕ} 0 1 = cc in omega arith)
+      no_other (λ m e. let z : Err r ≡ Ok (Array m) = sym q ∙ e in let y : ◌≡◌ {A = ℕ} 0 1 = cc in omega arith)
+      (λ m e. let z : Err r ≡ Ok (Object m) = sym q ∙ e in let y : ◌≡◌ {A = ℕ} 0 1 = cc in omega arith)
 
 -- A slice that is handed on as `&s[0..]` is the whole, and so is what comes back.
 pub handed : (s : Bytes) → take (length s - 0) s ≡ s
 handed s = rw (sub-zero (length s)) (take-length s)
 
-pub handed_asks : {s : Bytes} {a : ℕ} {h : Header} → Strippable s a → header s ≡ h
+pub handed_asks : {s : Bytes} {a : ℕ} {h : Result Header Refusal} → Strippable s a → header s ≡ h
     → Strippable (take (length s - 0) s) a × (header (take (length s - 0) s) ≡ h)
 handed_asks {s} st e = rw (handed s) (st, e)
 
-pub handed_back : (r : Stripped) (s o x : Bytes) (at : ℕ)
+pub handed_back : (r : Option ℕ) (s o x : Bytes) (at : ℕ)
     → Strips r (unrepeated_of (take (length s - 0) s)) (stripped_of (take (length s - 0) s)) x (patch (take (length o - 0) o) at (stripped_of (take (length s - 0) s)))
     → Strips r (unrepeated_of s) (stripped_of s) (x ++ drop (length o - 0) o) (patch o at (stripped_of s))
 handed_back r s o x at h =

@@ -6,7 +6,6 @@ use mathlib.Core.Path.{◌≡◌, refl, ap, subst, sym, ◌∙◌}
 use mathlib.Core.Logic.{inl, inr, ⊎_elim}
 use mathlib.Core.Bool.{Bool, true, false, cond, ◌&&◌}
 use mathlib.Core.List.{List, [], ◌∷◌}
-use mathlib.Core.Option.{Option, none as nothing, some}
 use lib.IntN.{pos}
 use Rattle.layout.specs.Bytes.{Bytes}
 use Rattle.layout.specs.Answer.{gives, refused, ◌>>=◌, require}
@@ -14,8 +13,8 @@ use Rattle.layout.specs.Order.{order}
 use Rattle.layout.specs.Tree.{Tree, null, boolean, number, string, extension, array, object, Items, none, item, Members, empty, member, kind, names}
 use Rattle.layout.specs.Sound.{Rising, Sound, SoundItems, SoundMembers}
 use Rattle.layout.specs.Every.{every, every_items}
-use Rattle.layout.specs.declared.order.Ordering.{Ordering}
-use Rattle.layout.specs.declared.order.Ordering.TheVariants.{Less, Equal, Greater}
+use Rattle.std.specs.declared.cmp.Ordering.{Ordering}
+use Rattle.std.specs.declared.cmp.Ordering.TheVariants.{Less, Equal, Greater}
 use Rattle.layout.specs.declared.refusal.Refusal.TheVariants.{Repeated}
 use Rattle.layout.proofs.Answers.{from_require, to_require, gives_inj}
 use Rattle.layout.proofs.Values.{In, rising_tail, rising_all}
@@ -32,6 +31,7 @@ use Rattle.edits.specs.Strip.{is_null, kept, stripped, stripped_items, stripped_
 use Rattle.edits.proofs.Deletes.{some_inj, nothing_some, then_some, by_equal, find_first, find_later, found_in, not_in}
 use Rattle.edits.proofs.Findings.{index_finds}
 use Rattle.edits.proofs.Kept.{NoMore, NoMoreItems, NoMoreMembers, no_more_same, in_order_shorter}
+use Rattle.std.specs.Prelude.{Some, None, Option}
 
 -- ---- null members
 
@@ -95,10 +95,10 @@ kept_unrepeated (member n t ms) =
     (λ _. ap (λ (b : Bool). unrepeated t && b) (kept_unrepeated ms))
 
 -- A name repeated within a member is one repeated within the object.
-pub find_unrepeated : (ms : Members) (n : Bytes) (t : Tree) → find n ms ≡ some t → unrepeated t ≡ false → unrepeated_members ms ≡ false
+pub find_unrepeated : (ms : Members) (n : Bytes) (t : Tree) → find n ms ≡ Some t → unrepeated t ≡ false → unrepeated_members ms ≡ false
 find_unrepeated empty n t e h = nothing_some e
 find_unrepeated (member m u ms) n t e h =
-    by_equal n m (λ (a : Option Tree). a ≡ some t → unrepeated_members (member m u ms) ≡ false) _ _
+    by_equal n m (λ (a : Option Tree). a ≡ Some t → unrepeated_members (member m u ms) ≡ false) _ _
     (λ _ e. rw (find_unrepeated ms n t e h) (and_false (unrepeated u)))
     (λ _ e. rw (some_inj {x = u} e, h))
     e
@@ -216,21 +216,21 @@ mutual
 -- ---- what a name finds, and a place in an array
 
 -- A name finds what it found among the members that stay, stripped.
-pub strip_find : (ms : Members) (n : Bytes) → find n (in_order (stripped_members ms)) ≡ (find n (kept ms) then λ t. some (stripped t))
+pub strip_find : (ms : Members) (n : Bytes) → find n (in_order (stripped_members ms)) ≡ (find n (kept ms) then λ t. Some (stripped t))
 strip_find ms n = find_in_order n (stripped_members ms) ∙ go ms
   where
-    first : (t : Tree) (o : Ordering) (x y : Option Tree) → x ≡ (y then λ t. some (stripped t))
-        → by o x (some (stripped t)) x ≡ (by o y (some t) y then λ t. some (stripped t))
+    first : (t : Tree) (o : Ordering) (x y : Option Tree) → x ≡ (y then λ t. Some (stripped t))
+        → by o x (Some (stripped t)) x ≡ (by o y (Some t) y then λ t. Some (stripped t))
     first t Less x y e = e
     first t Equal x y e = refl
     first t Greater x y e = e
 
-    go : (ms : Members) → find n (stripped_members ms) ≡ (find n (kept ms) then λ t. some (stripped t))
+    go : (ms : Members) → find n (stripped_members ms) ≡ (find n (kept ms) then λ t. Some (stripped t))
     go empty = refl
     go (member m t ms) =
         by_test (is_null t)
         (λ p. find n (cond p (stripped_members ms) (member m (stripped t) (stripped_members ms)))
-        ≡ (find n (cond p (kept ms) (member m t (kept ms))) then λ t. some (stripped t)))
+        ≡ (find n (cond p (kept ms) (member m t (kept ms))) then λ t. Some (stripped t)))
         (λ _. go ms)
         (λ _. first t (order n m) (find n (stripped_members ms)) (find n (kept ms)) (go ms))
 
@@ -243,49 +243,49 @@ kept_names (member n t ms) x i =
     (λ _ i. ⊎_elim (λ j. inl j) (λ j. inr (kept_names ms x j)) i)
     i
 
-kept_not_null : (ms : Members) (n : Bytes) (t : Tree) → find n (kept ms) ≡ some t → is_null t ≡ false
+kept_not_null : (ms : Members) (n : Bytes) (t : Tree) → find n (kept ms) ≡ Some t → is_null t ≡ false
 kept_not_null empty n t e = nothing_some e
 kept_not_null (member m u ms) n t e =
-    by_test (is_null u) (λ p. find n (cond p (kept ms) (member m u (kept ms))) ≡ some t → is_null t ≡ false)
+    by_test (is_null u) (λ p. find n (cond p (kept ms) (member m u (kept ms))) ≡ Some t → is_null t ≡ false)
     (λ _ e. kept_not_null ms n t e)
     (λ h e.
-    by_equal n m (λ (a : Option Tree). a ≡ some t → is_null t ≡ false) _ _
+    by_equal n m (λ (a : Option Tree). a ≡ Some t → is_null t ≡ false) _ _
     (λ _ e. kept_not_null ms n t e) (λ _ e. rw (← some_inj {x = u} e) h) e)
     e
 
 -- Where no name is there twice, a name finds what it found, unless that is null.
 kept_find : (ms : Members) → distinct (names ms) ≡ true → (n : Bytes)
-    → find n (kept ms) ≡ (find n ms then λ t. cond (is_null t) nothing (some t))
+    → find n (kept ms) ≡ (find n ms then λ t. cond (is_null t) None (Some t))
 kept_find empty d n = refl
 kept_find (member m t ms) d n =
     let c = distinct_cons m (names ms) d in
-    by_equal n m (λ (a : Option Tree). find n (kept (member m t ms)) ≡ (a then λ t. cond (is_null t) nothing (some t))) _ _
+    by_equal n m (λ (a : Option Tree). find n (kept (member m t ms)) ≡ (a then λ t. cond (is_null t) None (Some t))) _ _
     (λ h. later h (is_null t) ∙ kept_find ms c.1 n)
     (λ e.
-    by_test (is_null t) (λ p. find n (cond p (kept ms) (member m t (kept ms))) ≡ cond p nothing (some t))
+    by_test (is_null t) (λ p. find n (cond p (kept ms) (member m t (kept ms))) ≡ cond p None (Some t))
     (λ _. not_in n (kept ms) (λ i. has_not m (names ms) c.0 (rw e at (kept_names ms n i))))
-    (λ _. subst (λ (k : Bytes). find k (member m t (kept ms)) ≡ some t) (sym e) (find_first m t (kept ms))))
+    (λ _. subst (λ (k : Bytes). find k (member m t (kept ms)) ≡ Some t) (sym e) (find_first m t (kept ms))))
   where
     later : (n ≡ m → ⊥) → (p : Bool) → find n (cond p (kept ms) (member m t (kept ms))) ≡ find n (kept ms)
     later h true = refl
     later h false = find_later n m t (kept ms) h
 
 pub strip_finds : (ms : Members) → distinct (names ms) ≡ true → (n : Bytes)
-    → find n (in_order (stripped_members ms)) ≡ (find n ms then λ t. cond (is_null t) nothing (some (stripped t)))
+    → find n (in_order (stripped_members ms)) ≡ (find n ms then λ t. cond (is_null t) None (Some (stripped t)))
 strip_finds ms d n =
-    strip_find ms n ∙ ap (λ (o : Option Tree). o then λ t. some (stripped t)) (kept_find ms d n) ∙ go (find n ms)
+    strip_find ms n ∙ ap (λ (o : Option Tree). o then λ t. Some (stripped t)) (kept_find ms d n) ∙ go (find n ms)
   where
-    test : (t : Tree) (p : Bool) → (cond p nothing (some t) then λ t. some (stripped t)) ≡ cond p nothing (some (stripped t))
+    test : (t : Tree) (p : Bool) → (cond p None (Some t) then λ t. Some (stripped t)) ≡ cond p None (Some (stripped t))
     test t true = refl
     test t false = refl
 
-    go : (o : Option Tree) → ((o then λ t. cond (is_null t) nothing (some t)) then λ t. some (stripped t))
-        ≡ (o then λ t. cond (is_null t) nothing (some (stripped t)))
-    go nothing = refl
-    go (some t) = test t (is_null t)
+    go : (o : Option Tree) → ((o then λ t. cond (is_null t) None (Some t)) then λ t. Some (stripped t))
+        ≡ (o then λ t. cond (is_null t) None (Some (stripped t)))
+    go None = refl
+    go (Some t) = test t (is_null t)
 
 -- Every item of an array stays in its place, stripped: "nulls in arrays .. stay".
-pub strip_item : (ts : Items) (i : ℕ) → item_at (stripped_items ts) i ≡ (item_at ts i then λ t. some (stripped t))
+pub strip_item : (ts : Items) (i : ℕ) → item_at (stripped_items ts) i ≡ (item_at ts i then λ t. Some (stripped t))
 strip_item none i = refl
 strip_item (item t ts) zero = refl
 strip_item (item t ts) (suc i) = strip_item ts i
@@ -297,7 +297,7 @@ strip_count (item t ts) = ap suc (strip_count ts)
 -- ---- no null member
 
 -- What a step finds in what is stripped is itself something stripped.
-strip_step : (s : Step) (t c : Tree) → step_into s (stripped t) ≡ some c → (u : Tree) × (stripped u ≡ c)
+strip_step : (s : Step) (t c : Tree) → step_into s (stripped t) ≡ Some c → (u : Tree) × (stripped u ≡ c)
 strip_step s null c e = nothing_some e
 strip_step s (boolean x) c e = nothing_some e
 strip_step s (number b) c e = nothing_some e
@@ -305,13 +305,13 @@ strip_step s (string b) c e = nothing_some e
 strip_step s (extension b) c e = nothing_some e
 strip_step s (array ts) c e =
     let f = then_some (step_place s (count (stripped_items ts))) (item_at (stripped_items ts)) c e in
-    let g = then_some (item_at ts f.0) (λ t. some (stripped t)) c (sym (strip_item ts f.0) ∙ f.2) in
+    let g = then_some (item_at ts f.0) (λ t. Some (stripped t)) c (sym (strip_item ts f.0) ∙ f.2) in
     (g.0, some_inj g.2)
 strip_step s (object ms) c e =
-    let g = then_some (find (step_name s) (kept ms)) (λ t. some (stripped t)) c (sym (strip_find ms (step_name s)) ∙ e) in
+    let g = then_some (find (step_name s) (kept ms)) (λ t. Some (stripped t)) c (sym (strip_find ms (step_name s)) ∙ e) in
     (g.0, some_inj g.2)
 
-strip_not_null : (t : Tree) (n : Bytes) → step_into (name n) (stripped t) ≡ some null → ⊥
+strip_not_null : (t : Tree) (n : Bytes) → step_into (name n) (stripped t) ≡ Some null → ⊥
 strip_not_null null n e = nothing_some e
 strip_not_null (boolean x) n e = nothing_some e
 strip_not_null (number b) n e = nothing_some e
@@ -319,7 +319,7 @@ strip_not_null (string b) n e = nothing_some e
 strip_not_null (extension b) n e = nothing_some e
 strip_not_null (array ts) n e = nothing_some e
 strip_not_null (object ms) n e =
-    let g = then_some (find n (kept ms)) (λ t. some (stripped t)) null (sym (strip_find ms n) ∙ e) in
+    let g = then_some (find n (kept ms)) (λ t. Some (stripped t)) null (sym (strip_find ms n) ∙ e) in
     let no = kept_not_null ms n g.0 g.1 in
     let yes : is_null g.0 ≡ true = sym (null_stripped g.0) ∙ ap is_null (some_inj g.2) in
     let z : ◌≡◌ {A = ℕ} 0 1 = cc in
@@ -327,10 +327,10 @@ strip_not_null (object ms) n e =
 
 -- "Members whose value is null go, at every level": no object that a path leads to has one.
 abbrev pub NoNull : Tree → Type 0
-NoNull t = (p : List Step) (ms : Members) (n : Bytes) → look_up p t ≡ some (object ms) → find n ms ≡ some null → ⊥
+NoNull t = (p : List Step) (ms : Members) (n : Bytes) → look_up p t ≡ Some (object ms) → find n ms ≡ Some null → ⊥
 
-pub strip_no_null : (t : Tree) (p : List Step) (ms : Members) (n : Bytes) → look_up p (stripped t) ≡ some (object ms)
-    → find n ms ≡ some null → ⊥
+pub strip_no_null : (t : Tree) (p : List Step) (ms : Members) (n : Bytes) → look_up p (stripped t) ≡ Some (object ms)
+    → find n ms ≡ Some null → ⊥
 strip_no_null t [] ms n e f = strip_not_null t n (ap (step_into (name n)) (some_inj e) ∙ f)
 strip_no_null t (s ∷ p) ms n e f =
     let g = then_some (step_into s (stripped t)) (look_up p) (object ms) e in
@@ -340,8 +340,8 @@ strip_no_null t (s ∷ p) ms n e f =
 -- ---- a tree that is its own strip
 
 -- What a name finds behind the first of rising names.
-behind : (n : Bytes) (t : Tree) (ms : Members) → Rising (n ∷ names ms) → (x : Bytes) (u : Tree) → find x ms ≡ some u
-    → find x (member n t ms) ≡ some u
+behind : (n : Bytes) (t : Tree) (ms : Members) → Rising (n ∷ names ms) → (x : Bytes) (u : Tree) → find x ms ≡ Some u
+    → find x (member n t ms) ≡ Some u
 behind n t ms r x u e =
     find_later x n t ms (λ k. unlike n x (rising_all n (names ms) r x (found_in x ms u e)) (sym k)) ∙ e
 
@@ -364,19 +364,19 @@ mutual
       (λ x t k p ns n e f. h (name x ∷ p) ns n (ap (λ (o : Option Tree). o then look_up p) k ∙ e) f))
       ∙ rising_in_order ms s.0)
 
-  strip_items_same : (ts : Items) → SoundItems ts → ((i : ℕ) (t : Tree) → item_at ts i ≡ some t → NoNull t) → stripped_items ts ≡ ts
+  strip_items_same : (ts : Items) → SoundItems ts → ((i : ℕ) (t : Tree) → item_at ts i ≡ Some t → NoNull t) → stripped_items ts ≡ ts
   strip_items_same none s h = refl
   strip_items_same (item t ts) s h =
       let a = strip_same t s.0 (h 0 t refl) in
       let b = strip_items_same ts s.1 (λ i u k. h (suc i) u k) in
       cc
 
-  strip_members_same : (ms : Members) → Rising (names ms) → SoundMembers ms → ((n : Bytes) → find n ms ≡ some null → ⊥)
-      → ((n : Bytes) (t : Tree) → find n ms ≡ some t → NoNull t) → stripped_members ms ≡ ms
+  strip_members_same : (ms : Members) → Rising (names ms) → SoundMembers ms → ((n : Bytes) → find n ms ≡ Some null → ⊥)
+      → ((n : Bytes) (t : Tree) → find n ms ≡ Some t → NoNull t) → stripped_members ms ≡ ms
   strip_members_same empty r s z h = refl
   strip_members_same (member n t ms) r s z h =
       by_test (is_null t) (λ p. cond p (stripped_members ms) (member n (stripped t) (stripped_members ms)) ≡ member n t ms)
-      (λ e. absurd (z n (find_first n t ms ∙ ap some (null_is t e))))
+      (λ e. absurd (z n (find_first n t ms ∙ ap Some (null_is t e))))
       (λ _.
       let a = strip_same t s.0 (h n t (find_first n t ms)) in
       let b = strip_members_same ms (rising_tail n (names ms) r) s.1 (λ x k. z x (behind n t ms r x null k))

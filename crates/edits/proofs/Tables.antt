@@ -18,7 +18,6 @@ use Rattle.layout.specs.Read.{header, nested}
 use Rattle.layout.specs.Place.{parts_at, rising_parts}
 use Rattle.layout.specs.Check.{checked}
 use Rattle.layout.specs.declared.item.Kind.TheVariants.{Container}
-use Rattle.layout.specs.declared.check.Check.TheVariants.{Readable}
 use Rattle.layout.specs.declared.util.Header.TheVariants.{Object}
 use Rattle.layout.proofs.Level.{AllFit}
 use Rattle.layout.proofs.Encoding.{array_fits, object_fits, names_count}
@@ -29,6 +28,7 @@ use Rattle.layout.proofs.Sounds.{rising_test, rising_names}
 use Rattle.layout.proofs.Places.{parts_at_record, take_parts}
 use Rattle.layout.specs.Parts.{count_parts, parts_of}
 use Rattle.edits.specs.Runs.{Table}
+use Rattle.std.specs.Prelude.{Ok}
 
 -- A container that reads as `t`, where `a` levels are left.
 pub record Contains (a : ℕ) (s : Bytes) (t : Tree) : Type 0 where
@@ -40,9 +40,9 @@ pub record Contains (a : ℕ) (s : Bytes) (t : Tree) : Type 0 where
   pub valid : Valid t
   pub deep : depth t ≤ a
 
-pub contains : (a : ℕ) (s : Bytes) → Octets s → length s ≤ 65536 → checked (nested a s) ≡ Readable → (t : Tree) × Contains a s t
+pub contains : (a : ℕ) (s : Bytes) → Octets s → length s ≤ 65536 → checked (nested a s) ≡ Ok tt → (t : Tree) × Contains a s t
 contains a s o l c =
-    let g = readable_gives (nested a s) Readable (sym c) refl in
+    let g = readable_gives (nested a s) (Ok tt) (sym c) refl in
     let t : Tree = g.0 in
     let r = (nested_reads a s g.0 o l).0 g.1 in
     let e = container_encode g.0 s r.0 in (
@@ -74,7 +74,7 @@ contains_more a b s t o h c =
     same_part : part t ≡ record { kind = Container; bytes = s }
     same_part = rw (c.container, c.bytes)
 
-pub an_object : (t : Tree) (n : ℕ) → head_of t ≡ Object n → (ms : Members) × (t ≡ object ms) × (n ≡ length (member_parts ms))
+pub an_object : (t : Tree) (n : ℕ) → head_of t ≡ Ok (Object n) → (ms : Members) × (t ≡ object ms) × (n ≡ length (member_parts ms))
 an_object null n e = let z : ◌≡◌ {A = ℕ} 0 1 = cc in let w : ⊥ = omega arith in absurd w
 an_object (boolean x) n e = let z : ◌≡◌ {A = ℕ} 0 1 = cc in let w : ⊥ = omega arith in absurd w
 an_object (number b) n e = let z : ◌≡◌ {A = ℕ} 0 1 = cc in let w : ⊥ = omega arith in absurd w

@@ -12,15 +12,15 @@ use lib.ListN.{length}
 use borrow.Author.Tests.{lt-ltb, le-ltb, ltb-true, ltb-false}
 use Rattle.layout.specs.Bytes.{Bytes}
 use Rattle.layout.specs.Order.{order}
-use Rattle.layout.specs.declared.order.Ordering.{Ordering}
-use Rattle.layout.specs.declared.order.Ordering.TheVariants.{Less, Equal, Greater}
+use Rattle.std.specs.declared.cmp.Ordering.{Ordering}
+use Rattle.std.specs.declared.cmp.Ordering.TheVariants.{Less, Equal, Greater}
 use Rattle.layout.proofs.Fields.{length_lt}
 use Rattle.layout.proofs.Patches.{length_patch}
 use Rattle.layout.specs.Table.{CarriedPair}
 use Rattle.layout.proofs.Carries.{pair_start, pair_on}
 use Rattle.layout.proofs.Places.{and_both}
 use Rattle.layout.specs.Parts.{bytes_at, name_in, value_in, member_at, members_from, members_at}
-use Rattle.builders.specs.Search.{is_kept, Bound, start, bound}
+use Rattle.builders.specs.Search.{is_kept, Bound}
 use Rattle.builders.specs.Weave.{behind, own_entry, stored, woven, column}
 use Rattle.builders.specs.declared.search.Kept.TheVariants.{All}
 use Rattle.layout.specs.declared.parts.MemberAt.{MemberAt}
@@ -31,14 +31,13 @@ use Rattle.layout.specs.Parts.{members_of, behind_member}
 use Rattle.edits.specs.Members.{all_ahead, Near, Standing, Next}
 use Rattle.edits.specs.Merge.{chosen, merged, behind_members, behind_all}
 use Rattle.edits.specs.declared.members.Ahead.{Ahead}
-use Rattle.edits.specs.declared.members.NextMember.{NextMember}
-use Rattle.edits.specs.declared.members.NextMember.TheVariants.{End as NoMember, Member}
-use Rattle.edits.specs.declared.merge.Turn.TheVariants.{Left, Right, Both, End}
+use Rattle.edits.specs.declared.merge.Turn.TheVariants.{Left, Right, Both}
 use Rattle.edits.proofs.Sorteds.{ObjectAt}
 use Rattle.edits.proofs.Standings.{one_kept, none_left, near_on, carried_ahead, column_short, next_stands}
 use Rattle.edits.proofs.Aheads.{ahead_starts}
 use Rattle.edits.proofs.Turns.{turn_less, turn_equal, turn_greater}
 use Rattle.edits.proofs.Merges.{Merging, merging_starts, merging_within, goes_left, goes_right, goes_both, merging_end}
+use Rattle.std.specs.Prelude.{Some, None, Option}
 
 -- The member that stands at some places, and what is stored of it.
 abbrev pub member_here : Bytes → Places → MemberAt
@@ -215,17 +214,17 @@ module _ (s : Bytes) (n : ℕ) (During : Bytes → Places → Places → ℕ →
 abbrev pub standing_at : Places → ℕ → ℕ → Ahead
 standing_at at i n = record { at = at; index = i; count = n; is_rising = true }
 
-unfoldable pub standing_member : Bytes → Places → ℕ → ℕ → NextMember
+unfoldable pub standing_member : Bytes → Places → ℕ → ℕ → Option (MemberAt × Ahead)
 standing_member s at i n =
-    cond (ltb i n) (Member (member_here s at) (standing_at (behind_member at (member_here s at)) (i + 1) n)) NoMember
+    cond (ltb i n) (Some ((member_here s at), (standing_at (behind_member at (member_here s at)) (i + 1) n))) None
 
 module _ (s : Bytes) (at : Places) (i n : ℕ) where
   taken_more : (m : MemberAt) → m ≡ member_here s at → i < n
-      → standing_member s at i n ≡ Member m (standing_at (behind_member at m) (i + 1) n)
+      → standing_member s at i n ≡ Some (m, (standing_at (behind_member at m) (i + 1) n))
   unfolding standing_member
   taken_more m e h = rw (lt-ltb i n h, e)
 
-  taken_none : n ≤ i → standing_member s at i n ≡ NoMember
+  taken_none : n ≤ i → standing_member s at i n ≡ None
   unfolding standing_member
   taken_none h = rw (le-ltb i n h)
 
@@ -247,7 +246,7 @@ module _ (s : Bytes) (at : Places) (i n : ℕ) where
       where
         go : (b : Bool) → ltb i n ≡ b
             → Standing s All (standing_at at i n)
-            (cond b (Member (member_here s at) (standing_at (behind_member at (member_here s at)) (i + 1) n)) NoMember)
+            (cond b (Some ((member_here s at), (standing_at (behind_member at (member_here s at)) (i + 1) n))) None)
         go true q =
             let lt : i < n = ltb-true i n q in (
               one_kept s All (standing_at at i n) lt (member_here s at) refl _ refl true refl refl,
@@ -288,8 +287,8 @@ module _ (l : Bytes) (m : ℕ) (r : Bytes) (n : ℕ) (o : Bytes) (to : Places) w
         right_near = nr;
         merging =
             merging_starts l m r n o to w.0 w.1 (standing_at (members_of l m) 0 m) (standing_at (members_of r n) 0 n) el er
-            (standing_member l (members_of l m) 0 m) (standing_member r (members_of r n) 0 n) (next_at l (members_of l m) 0 m nl start)
-            (next_at r (members_of r n) 0 n nr start);
+            (standing_member l (members_of l m) 0 m) (standing_member r (members_of r n) 0 n) (next_at l (members_of l m) 0 m nl None)
+            (next_at r (members_of r n) 0 n nr None);
       })
 
   module _ (out : Bytes) (x y at : Places) (i j : ℕ) (h : Walking out x y at i j) where
@@ -300,7 +299,7 @@ module _ (l : Bytes) (m : ℕ) (r : Bytes) (n : ℕ) (o : Bytes) (to : Places) w
 
     -- A member is stored, and its side is behind it; of equal names both sides are.
     left_on : (w : MemberAt) → i < m
-        → Left w (standing_at (behind_member x w) (i + 1) m) ≡ chosen l r (standing_member l x i m) (standing_member r y j n)
+        → Some (Left w (standing_at (behind_member x w) (i + 1) m)) ≡ chosen l r (standing_member l x i m) (standing_member r y j n)
         → Walking (put_here l out at w) (behind_member x w) y (behind (name_in l w) (value_in l w) at) (i + 1) j
     left_on w lt e =
         let near = near_behind l x i m h.left_near w lt in
@@ -313,11 +312,11 @@ module _ (l : Bytes) (m : ℕ) (r : Bytes) (n : ℕ) (o : Bytes) (to : Places) w
               goes_left l m r n o to out (standing_member l x i m) (standing_member r y j n) at h.done h.merging _ e w _ _ _ _ _ _
               refl refl (name_in l w)
               (standing_at (behind_member x w) (i + 1) m) (standing_member l (behind_member x w) (i + 1) m) refl refl (refl, refl)
-              (next_at l (behind_member x w) (i + 1) m near (bound false (name_in l w))) refl refl;
+              (next_at l (behind_member x w) (i + 1) m near (Some (name_in l w))) refl refl;
         }
 
     right_on : (w : MemberAt) → j < n
-        → Right w (standing_at (behind_member y w) (j + 1) n) ≡ chosen l r (standing_member l x i m) (standing_member r y j n)
+        → Some (Right w (standing_at (behind_member y w) (j + 1) n)) ≡ chosen l r (standing_member l x i m) (standing_member r y j n)
         → Walking (put_here r out at w) x (behind_member y w) (behind (name_in r w) (value_in r w) at) i (j + 1)
     right_on w lt e =
         let near = near_behind r y j n h.right_near w lt in
@@ -330,11 +329,11 @@ module _ (l : Bytes) (m : ℕ) (r : Bytes) (n : ℕ) (o : Bytes) (to : Places) w
               goes_right l m r n o to out (standing_member l x i m) (standing_member r y j n) at h.done h.merging _ e w _ _ _ _ _ _
               refl refl (name_in r w)
               (standing_at (behind_member y w) (j + 1) n) (standing_member r (behind_member y w) (j + 1) n) refl refl (refl, refl)
-              (next_at r (behind_member y w) (j + 1) n near (bound false (name_in r w))) refl refl;
+              (next_at r (behind_member y w) (j + 1) n near (Some (name_in r w))) refl refl;
         }
 
     both_on : (v w : MemberAt) → i < m → j < n
-        → Both w (standing_at (behind_member x v) (i + 1) m) (standing_at (behind_member y w) (j + 1) n)
+        → Some (Both w (standing_at (behind_member x v) (i + 1) m) (standing_at (behind_member y w) (j + 1) n))
         ≡ chosen l r (standing_member l x i m) (standing_member r y j n)
         → Walking (put_here r out at w) (behind_member x v) (behind_member y w)
         (behind (name_in r w) (value_in r w) at) (i + 1) (j + 1)
@@ -351,8 +350,8 @@ module _ (l : Bytes) (m : ℕ) (r : Bytes) (n : ℕ) (o : Bytes) (to : Places) w
               refl refl (name_in r w)
               (standing_at (behind_member x v) (i + 1) m) (standing_at (behind_member y w) (j + 1) n)
               (standing_member l (behind_member x v) (i + 1) m) (standing_member r (behind_member y w) (j + 1) n) refl refl (refl, refl)
-              (next_at l (behind_member x v) (i + 1) m nl (bound false (name_in r w)))
-              (next_at r (behind_member y w) (j + 1) n nr (bound false (name_in r w))) refl refl;
+              (next_at l (behind_member x v) (i + 1) m nl (Some (name_in r w)))
+              (next_at r (behind_member y w) (j + 1) n nr (Some (name_in r w))) refl refl;
         }
 
     -- In the code's terms, by how the two names compare.
@@ -386,7 +385,7 @@ module _ (l : Bytes) (m : ℕ) (r : Bytes) (n : ℕ) (o : Bytes) (to : Places) w
 
   walking_ends : (out : Bytes) (x y at : Places) (i j : ℕ) → m ≤ i → n ≤ j → Walking out x y at i j → AllPut out at
   walking_ends out x y at i j le le' h =
-      merging_end l m r n o to out (standing_member l x i m) (standing_member r y j n) at h.done h.merging End
+      merging_end l m r n o to out (standing_member l x i m) (standing_member r y j n) at h.done h.merging None
       (rw (taken_none l x i m le, taken_none r y j n le')) refl
 
   -- Where one side is at its end, the rest of the other is stored as it stands.

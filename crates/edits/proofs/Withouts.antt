@@ -11,7 +11,6 @@ use Rattle.layout.specs.Entry.{length_of, entry_at, lengths}
 use Rattle.layout.specs.Encode.{record_of}
 use Rattle.layout.specs.Patch.{patch}
 use Rattle.layout.proofs.Level.{AllFit}
-use Rattle.layout.proofs.Pieces.{same_part, nth_is}
 use Rattle.edits.specs.Cut.{Stores}
 use Rattle.edits.specs.Runs.{without, without_member, Copied}
 use Rattle.layout.specs.declared.parts.PartAt.{PartAt}
@@ -88,20 +87,16 @@ module _ (s : Bytes) (n : ℕ) (p : Parted s (n + n)) (val : PartAt) (h : PartOf
         val_below = omega (arith, vz, ve);
       }
 
-  module _ (o o₁ o₂ o₃ o₄ : Bytes) (at w place : ℕ) (start keys vals end : Cursor) (next after : PartAt) where
-    abbrev name : PartAt
-    name = record { index = val.index - n; place = place }
-
+  module _ (o o₁ o₂ o₃ o₄ : Bytes) (at w : ℕ) (start keys vals end : Cursor) (name next after : PartAt) where
     pub object_gone : (first last : PartAt) → first ≡ first_part (n + n) → last ≡ parts_end s (n + n)
-        → w ≡ bit_or (2 ^ 30) (n - 1) → place ≡ first.place + lengths s first.index (val.index - n - first.index)
+        → w ≡ bit_or (2 ^ 30) (n - 1) → name ≡ nth_part s (n + n) (val.index - n)
         → o₁ ≡ patch o at (be32 w) → start.jentry ≡ at + 4 → start.place ≡ at + 4 + 4 * (n - 1 + (n - 1))
         → Copied s first name start keys o₁ o₂ → next ≡ next_part s name → Copied s next val keys vals o₂ o₃
         → after ≡ next_part s val → Copied s after last vals end o₃ o₄
         → Stores (end.place - at) o o₄ at (record_of (2 ^ 30 + (n - 1)) (without_member n (val.index - n) (parts_of s (n + n))))
-    object_gone first last hf hl ew ep e₁ sj sp h₁ en h₂ ea h₃ =
+    object_gone first last hf hl ew hk e₁ sj sp h₁ en h₂ ea h₃ =
         let q : w ≡ 2 ^ 30 + (n - 1) = ew ∙ object_word (n - 1) (omega (arith, p.table, p.short)) in
-        let k : place ≡ start_of (n + n) + lengths s 0 (val.index - n) = (same_part (nth_is s (n + n) _ place first hf ep)).1 in
         rw (mem.gone, ← q)
-        (two_stored s (n + n) p.word mem.left mem.key mem.middle mem.val mem.right bytes fits total name val
-        (sym mem.before) val_at k val_stands o o₁ o₂ o₃ o₄ at w start keys vals end next after e₁ sj
-        (omega (arith, sp, lo, h.inside)) (rw hf at h₁) en h₂ ea (rw hl at h₃))
+        (two_stored s (n + n) p.word mem.left mem.key mem.middle mem.val mem.right bytes fits total key val
+        (sym mem.before) val_at refl val_stands o o₁ o₂ o₃ o₄ at w start keys vals end next after e₁ sj
+        (omega (arith, sp, lo, h.inside)) (rw (hf, hk) at h₁) (rw hk at en) h₂ ea (rw hl at h₃))

@@ -14,10 +14,6 @@ use Rattle.layout.specs.Check.{checked, soundness}
 use Rattle.layout.specs.Ended.{Outcome, result, absence, refusal}
 use Rattle.layout.specs.Order.{order, before, same_bytes}
 use Rattle.layout.specs.declared.refusal.Refusal.TheVariants.{Short, Layout, Repeated}
-use Rattle.layout.specs.declared.check.Check.{Check}
-use Rattle.layout.specs.declared.check.Check.TheVariants.{Readable, Refused}
-use Rattle.layout.specs.declared.sound.Soundness.{Soundness}
-use Rattle.layout.specs.declared.sound.Soundness.TheVariants.{Unsound}
 use Rattle.layout.proofs.Lists.{Each}
 use Rattle.layout.proofs.Cases.{◌▸◌, told, ◌also◌}
 use Rattle.builders.specs.Order.{has}
@@ -26,13 +22,15 @@ use Rattle.edits.specs.Find.{place}
 use Rattle.edits.specs.Path.{get_by, delete_by, on_path}
 use Rattle.edits.specs.Concat.{concat}
 use Rattle.edits.specs.Strip.{strip, on_one}
+use Rattle.std.specs.Prelude.{Ok, Err, Result, Bool, false}
+use Rattle.layout.specs.declared.refusal.Refusal.{Refusal}
 
 -- ---- what a line says
 
 data Line : Type 0 where
   reads : Bytes → Tree → Line
-  checks : Bytes → Check → Line
-  tests : Bytes → Soundness → Line
+  checks : Bytes → Result (Unit {0}) Refusal → Line
+  tests : Bytes → Result Bool Refusal → Line
   gets : Bytes → Bytes → Outcome → Line
   deletes : Bytes → Bytes → Outcome → Line
   strips : Bytes → Outcome → Line
@@ -96,8 +94,8 @@ table =
     ∷ strips nulls (result nulls)
     -- "* D is readable, not sound. * Strip and * deletion of "a" both give 40000001 10000001 40000000 61."
     ∷ reads D (object (member (0x61 ∷ []) null (member (0x61 ∷ []) (boolean true) empty)))
-    ∷ checks D Readable
-    ∷ tests D Unsound
+    ∷ checks D (Ok tt)
+    ∷ tests D (Ok false)
     ∷ strips D (result true_a)
     ∷ deletes D name_a (result true_a)
     -- "* 40000000 then D: 8. D then 40000000: 40000001 10000001 00000000 61."
@@ -106,8 +104,8 @@ table =
     -- "* Root null then root null: 80000002 00000000 00000000."
     ∷ concats root_null root_null (result (0x80000002 ▸ 0x00000000 ▸ 0x00000000 ▸ []))
     -- "* 400000: 1. .. * 80000000 00: 2."
-    ∷ checks (0x40 ∷ 0x00 ∷ 0x00 ∷ []) (Refused Short)
-    ∷ checks (0x80000000 ▸ 0x00 ∷ []) (Refused Layout)
+    ∷ checks (0x40 ∷ 0x00 ∷ 0x00 ∷ []) (Err Short)
+    ∷ checks (0x80000000 ▸ 0x00 ∷ []) (Err Layout)
     ∷ []
 
 worked : Each Holds table

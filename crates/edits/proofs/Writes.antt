@@ -4,7 +4,6 @@ use Prim.Native.Nat.{ℕ, ◌-◌, ◌^◌, ◌≤◌, ◌<◌}
 use native.Mathlib.Omega.{arith}
 use mathlib.Core.Path.{◌≡◌, refl, ap, sym, ◌∙◌}
 use mathlib.Core.List.{[], ◌++◌}
-use mathlib.Core.Option.{some}
 use lib.ListN.{length}
 use Rattle.layout.specs.Bytes.{Bytes, Octets}
 use Rattle.layout.specs.Tree.{Tree}
@@ -15,9 +14,7 @@ use Rattle.layout.specs.Ended.{into}
 use Rattle.layout.specs.Room.{EndedIn}
 use Rattle.layout.specs.Parts.{first_part, parts_of}
 use Rattle.layout.proofs.Carries.{part_start}
-use Rattle.layout.specs.declared.check.Check.TheVariants.{Readable}
 use Rattle.layout.specs.declared.refusal.Refusal.TheVariants.{Buffer}
-use Rattle.layout.specs.declared.ending.Ending.TheVariants.{Done, Refused}
 use Rattle.layout.proofs.Patches.{patch_empty, in_short, in_full}
 use Rattle.edits.specs.Steps.{part_steps}
 use Rattle.edits.specs.Held.{finding}
@@ -26,16 +23,17 @@ use Rattle.edits.specs.Way.{Cuts, steps_from}
 use Rattle.edits.specs.Remains.{remains_of}
 use Rattle.edits.specs.declared.delete.Way.{Way}
 use Rattle.edits.proofs.Onwards.{cuts_shorter}
+use Rattle.std.specs.Prelude.{Ok, Err, Some}
 
 -- What the code knows of a deletion: the record, a path of `n` steps that finds an item in it, and the way at its start.
 pub record Deletion (s path : Bytes) (n : ℕ) (w : Way) : Type 0 where
   pub octets : Octets s
-  pub readable : checked (nested 64 s) ≡ Readable
+  pub readable : checked (nested 64 s) ≡ Ok tt
   pub short : length s ≤ 65536
   pub few : n < 2 ^ 29
   pub more : 0 < n
-  pub finds : (t : Tree) × (finding s (part_steps (parts_of path n)) ≡ some t)
-  pub whole : w ≡ record { step = first_part n; count = n }
+  pub finds : (t : Tree) × (finding s (part_steps (parts_of path n)) ≡ Some t)
+  pub whole : w ≡ record { path = w.path; step = first_part n; count = n }
 
 module _ {s path : Bytes} {n : ℕ} {w : Way} (d : Deletion s path n w) where
   abbrev result : Bytes
@@ -47,9 +45,9 @@ module _ {s path : Bytes} {n : ℕ} {w : Way} (d : Deletion s path n w) where
   as_steps : remains_of s (steps_from path w) ≡ result
   as_steps = ap (remains_of s) steps_whole
 
-  whole_way : Cuts s path (record { step = first_part n; count = n }) 64
+  whole_way : Cuts s path (record { path = w.path; step = first_part n; count = n }) 64
   whole_way =
-      let found : steps_from path (record { step = first_part n; count = n }) ≡ part_steps (parts_of path n) =
+      let found : steps_from path (record { path = w.path; step = first_part n; count = n }) ≡ part_steps (parts_of path n) =
       ap (steps_from path) (sym d.whole) ∙ steps_whole in
       record {
         readable = d.readable;
@@ -67,7 +65,7 @@ module _ {s path : Bytes} {n : ℕ} {w : Way} (d : Deletion s path n w) where
 
   -- A buffer that is as long as the record has room.
   pub room_enough : (o o' : Bytes) (room len : ℕ) → length s ≤ room → Stores len o o' 0 (remains_of s (steps_from path w))
-      → EndedIn (Done len) o o' (into room result)
+      → EndedIn (Ok (Some len)) o o' (into room result)
   room_enough o o' room len h l =
       let q : len ≡ length result = l.length_is ∙ ap length as_steps in
       let k : length result ≤ room = omega (arith, q, l.length_is, cuts_shorter s path w 64 d.octets whole_cuts, h) in
@@ -81,10 +79,10 @@ module _ {s path : Bytes} {n : ℕ} {w : Way} (d : Deletion s path n w) where
     untouched : e ++ o ≡ o
     untouched = rw (m.stored, patch_empty)
 
-    pub no_room : room < len → EndedIn (Refused Buffer) o (e ++ o) (into room result)
+    pub no_room : room < len → EndedIn (Err Buffer) o (e ++ o) (into room result)
     no_room h = rw untouched (in_short result o room (omega (arith, measured, h)))
 
     pub has_room : (len₂ : ℕ) (o' : Bytes) → len ≤ room → Stores len₂ (e ++ o) o' 0 (remains_of s (steps_from path w))
-        → EndedIn (Done len) o o' (into room result)
+        → EndedIn (Ok (Some len)) o o' (into room result)
     has_room len₂ o' h l =
         in_full result o room o' len (omega (arith, measured, h)) measured (l.stored ∙ rw (untouched, as_steps))

@@ -1,7 +1,7 @@
 -- A container without an item, or with one written anew, as the code of delete stores it. `array_led` and `rising_led` of
 -- proofs/Leds.antt, `gone` of proofs/Sorteds.antt and `below` of proofs/Onwards.antt tie it to `remains`.
 use Rattle.layout.specs.Parts.{nth_part, part_payload, name_in, value_in}
-use Rattle.std.specs.Prelude.{ℕ, ◌+◌, ◌≡◌, cond, List, [], ◌∷◌, length}
+use Rattle.std.specs.Prelude.{ℕ, ◌+◌, ◌≡◌, cond, List, [], ◌∷◌, length, Some}
 use Rattle.layout.specs.Bytes.{Bytes}
 use Rattle.layout.specs.Entry.{entry_of}
 use Rattle.layout.specs.Read.{header}
@@ -11,7 +11,6 @@ use Rattle.layout.specs.declared.parts.MemberAt.{MemberAt}
 use Rattle.edits.specs.Keypath.{Step}
 use Rattle.edits.specs.Spot.{spot}
 use Rattle.layout.specs.declared.parts.PartAt.{PartAt}
-use Rattle.edits.specs.declared.find.Spot.TheVariants.{At}
 use Rattle.edits.specs.Remains.{remains_of}
 
 -- What is stored of it, and its length.
@@ -21,10 +20,10 @@ pub record Stores (r : ℕ) (before after : Bytes) (at : ℕ) (b : Bytes) : Type
 
 -- A part that some step leads to; and what is stored of the container without it, for each such step.
 abbrev pub LedTo : Bytes → PartAt → Type 0
-LedTo s a = (p : Step) × (spot (header s) s p ≡ At a)
+LedTo s a = (p : Step) × (spot (header s) s p ≡ Some a)
 
 abbrev pub StoresBy : Bytes → PartAt → ℕ → Bytes → Bytes → ℕ → Type 0
-StoresBy s a r before after at = (p : Step) → spot (header s) s p ≡ At a → Stores r before after at (remains_of s (p ∷ []))
+StoresBy s a r before after at = (p : Step) → spot (header s) s p ≡ Some a → Stores r before after at (remains_of s (p ∷ []))
 
 -- The name of member `k`.
 abbrev pub name_of : Bytes → ℕ → ℕ → Bytes

@@ -1,7 +1,6 @@
 -- Delete: document 01, "An empty path or one that finds nothing returns the input's bytes. Otherwise every container above the
 -- deleted item is written anew; in its objects the first of any repeated names remaining is kept."
-use Rattle.std.specs.Prelude.{ℕ, zero, suc, List, [], ◌∷◌}
-use Rattle.std.proofs.Math.Option.{Option, none as nothing, some}
+use Rattle.std.specs.Prelude.{ℕ, zero, suc, List, [], ◌∷◌, Some, None, Option}
 use Rattle.layout.specs.Bytes.{Bytes}
 use Rattle.layout.specs.Answer.{Answer, gives, refused}
 use Rattle.layout.specs.Tree.{Tree, null, boolean, number, string, extension, array, object, Items, none, item, Members, empty, member}
@@ -14,12 +13,12 @@ use Rattle.edits.specs.Find.{◌then◌, step_place, step_name, step_into, look_
 
 -- What is left of an item: itself, changed or not, or nothing where it is gone.
 abbrev pub kept_item : Option Tree → Items → Items
-kept_item nothing ts = ts
-kept_item (some u) ts = item u ts
+kept_item None ts = ts
+kept_item (Some u) ts = item u ts
 
 abbrev pub kept_member : Bytes → Option Tree → Members → Members
-kept_member n nothing ms = ms
-kept_member n (some u) ms = member n u ms
+kept_member n None ms = ms
+kept_member n (Some u) ms = member n u ms
 
 -- The items, with what is left of the one at a place.
 abbrev pub change_item : Option Tree → ℕ → Items → Items
@@ -28,8 +27,8 @@ change_item o zero (item t ts) = kept_item o ts
 change_item o (suc i) (item t ts) = item t (change_item o i ts)
 
 abbrev pub change_at : Option Tree → Option ℕ → Items → Items
-change_at o nothing ts = ts
-change_at o (some i) ts = change_item o i ts
+change_at o None ts = ts
+change_at o (Some i) ts = change_item o i ts
 
 -- The members, with what is left of the first that has the name.
 abbrev pub change_member : Option Tree → Bytes → Members → Members
@@ -51,12 +50,12 @@ anew o s (object ms) = object (in_order (change_member o (step_name s) ms))
 -- What is left of a tree without the item that a path finds in it: nothing, where that is the tree itself. It means something
 -- only where the path finds one.
 abbrev pub remains : List Step → Tree → Option Tree
-remains [] t = nothing
-remains (s ∷ p) t = some (anew (step_into s t then remains p) s t)
+remains [] t = None
+remains (s ∷ p) t = Some (anew (step_into s t then remains p) s t)
 
 abbrev pub or_same : Tree → Option Tree → Tree
-or_same t nothing = t
-or_same t (some u) = u
+or_same t None = t
+or_same t (Some u) = u
 
 -- What `remains` gives where the path finds an item; the tree itself where it finds none, and for the empty path.
 abbrev pub delete : List Step → Tree → Tree

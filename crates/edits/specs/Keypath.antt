@@ -1,6 +1,6 @@
 -- Path records: document 01, "A path is itself an array record: strings are names, integers of any listed width, 00 among them,
 -- from −2^31 to 2^31−1 are indexes", and 6, "the path is unreadable, no array, or holds another kind of item".
-use Rattle.std.specs.Prelude.{suc, ◌^◌, cond, List, [], ◌∷◌, ltb, ℤ, pos, negsuc}
+use Rattle.std.specs.Prelude.{suc, ◌^◌, cond, List, [], ◌∷◌, ltb, ℤ, pos, negsuc, Err, Result, Ok}
 use Rattle.std.specs.Int.Signed.{mag}
 use Rattle.layout.specs.Bytes.{Bytes}
 use Rattle.layout.specs.Answer.{Answer, gives, refused, ◌>>=◌}
@@ -9,8 +9,9 @@ use Rattle.layout.specs.Decimal.{decimal}
 use Rattle.layout.specs.Tree.{Tree, null, boolean, number, string, extension, array, object, Items, none, item}
 use Rattle.layout.specs.Read.{read}
 use Rattle.layout.specs.declared.number.Number.{Number}
-use Rattle.layout.specs.declared.number.Number.TheVariants.{Nan, Infinity, NegInfinity, Int64, UInt64, Float64, Decimal64, WideDecimal, Refused}
+use Rattle.layout.specs.declared.number.Number.TheVariants.{Nan, Infinity, NegInfinity, Int64, UInt64, Float64, Decimal64, WideDecimal}
 use Rattle.layout.specs.declared.refusal.Refusal.TheVariants.{Path}
+use Rattle.layout.specs.declared.refusal.Refusal.{Refusal}
 
 pub data Step : Type 0 where
   name : Bytes → Step
@@ -30,12 +31,15 @@ integer (UInt64 v) = in_range (pos v)
 integer (Float64 b) = refused Path
 integer (Decimal64 z s) = refused Path
 integer (WideDecimal n) = refused Path
-integer (Refused r) = refused Path
+
+abbrev pub integer_of : Result Number Refusal → Answer Step
+integer_of (Ok n) = integer n
+integer_of (Err r) = refused Path
 
 abbrev pub step_of : Tree → Answer Step
 step_of null = refused Path
 step_of (boolean x) = refused Path
-step_of (number b) = integer (decoded b)
+step_of (number b) = integer_of (decoded b)
 step_of (string b) = gives (name b)
 step_of (extension b) = refused Path
 step_of (array ts) = refused Path

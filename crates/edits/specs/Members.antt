@@ -1,7 +1,7 @@
 -- The members of an object by their places, as the code takes them in byte order of their names: where the names rise they are
 -- taken as they stand, elsewhere each is searched for. `next_is` of proofs/Aheads.antt ties both to the search of builders.
 use Rattle.layout.specs.Parts.{rises}
-use Rattle.std.specs.Prelude.{ℕ, ◌+◌, ◌*◌, ◌-◌, ◌^◌, ◌≤◌, ◌<◌, ◌≡◌, true, false, List, [], ◌∷◌, length}
+use Rattle.std.specs.Prelude.{ℕ, ◌+◌, ◌*◌, ◌-◌, ◌^◌, ◌≤◌, ◌<◌, ◌≡◌, true, false, List, [], ◌∷◌, length, Some, None, Option}
 use Rattle.layout.specs.Bytes.{Bytes}
 use Rattle.layout.specs.Table.{nth_member}
 use Rattle.layout.specs.Parts.{name_in, value_in, members_at, members_of, behind_member}
@@ -11,19 +11,19 @@ use Rattle.builders.specs.Weave.{column}
 use Rattle.builders.specs.declared.search.Kept.{Kept}
 use Rattle.layout.specs.declared.parts.MemberAt.{MemberAt}
 use Rattle.layout.specs.declared.parts.Places.{Places}
-use Rattle.builders.specs.declared.search.Found.TheVariants.{Nothing, At}
 use Rattle.edits.specs.declared.members.Sizes.{Sizes}
 use Rattle.edits.specs.declared.members.Ahead.{Ahead}
-use Rattle.edits.specs.declared.members.NextMember.{NextMember}
-use Rattle.edits.specs.declared.members.NextMember.TheVariants.{End, Member}
 
 -- Members in byte order, and their sizes.
 abbrev pub in_turn : Bytes → Places → ℕ → Kept → List MemberAt
 in_turn s from n kept = sorted (name_in s) (kept_of kept 0 (members_at s s from n))
 
+abbrev pub sizes_in : Bytes → Bytes → List MemberAt → Sizes
+sizes_in ks vs xs =
+    record { count = length xs; keys = length (column (name_in ks) xs); vals = length (column (value_in vs) xs) }
+
 abbrev pub sizes_of : Bytes → List MemberAt → Sizes
-sizes_of s xs =
-    record { count = length xs; keys = length (column (name_in s) xs); vals = length (column (value_in s) xs) }
+sizes_of s = sizes_in s s
 
 -- The places of the members of an object that is written anew.
 abbrev pub places_for : Sizes → ℕ → Places
@@ -67,17 +67,17 @@ abbrev pub CarriedAhead : Bytes → Ahead → Ahead → Type 0
 CarriedAhead s a b = (n : ℕ) → a.at ≡ nth_member s n a.index → b.at ≡ nth_member s n b.index
 
 -- The next member as it stands, and what is ahead behind it.
-abbrev pub Standing : Bytes → Kept → Ahead → NextMember → Type 0
-Standing s kept a End = kept_ahead s kept a ≡ []
-Standing s kept a (Member m b) =
+abbrev pub Standing : Bytes → Kept → Ahead → Option (MemberAt × Ahead) → Type 0
+Standing s kept a None = kept_ahead s kept a ≡ []
+Standing s kept a (Some (m, b)) =
     (kept_ahead s kept a ≡ m ∷ kept_ahead s kept b) × (b.is_rising ≡ a.is_rising) × Near b × CarriedAhead s a b
 
 -- The next member by the search, behind which the same are searched.
-abbrev pub Searching : Bytes → Kept → Bound → Ahead → NextMember → Type 0
-Searching s kept last a End = least (name_in s) last Nothing (kept_ahead s kept a) ≡ Nothing
-Searching s kept last a (Member m b) = (least (name_in s) last Nothing (kept_ahead s kept a) ≡ At m) × (b ≡ a)
+abbrev pub Searching : Bytes → Kept → Bound → Ahead → Option (MemberAt × Ahead) → Type 0
+Searching s kept last a None = least (name_in s) last None (kept_ahead s kept a) ≡ None
+Searching s kept last a (Some (m, b)) = (least (name_in s) last None (kept_ahead s kept a) ≡ Some m) × (b ≡ a)
 
 -- The next member in byte order, behind the last one taken.
-pub record Next (s : Bytes) (kept : Kept) (last : Bound) (a : Ahead) (r : NextMember) : Type 0 where
+pub record Next (s : Bytes) (kept : Kept) (last : Bound) (a : Ahead) (r : Option (MemberAt × Ahead)) : Type 0 where
   pub stands : a.is_rising ≡ true → Standing s kept a r
   pub searched : a.is_rising ≡ false → Searching s kept last a r

@@ -1,10 +1,9 @@
 -- Two objects' members taken in turn, as the code of concat goes. proofs/Overlays.antt ties it to `concat`.
-use Rattle.std.specs.Prelude.{ℕ, ◌+◌, ◌*◌, ◌≤◌, ◌≡◌, List, [], ◌∷◌, ◌++◌, length}
+use Rattle.std.specs.Prelude.{ℕ, ◌+◌, ◌*◌, ◌≤◌, ◌≡◌, List, [], ◌∷◌, ◌++◌, length, Ok, Some, None, Option}
 use Rattle.layout.specs.Bytes.{Bytes}
 use Rattle.layout.specs.Read.{header, nested}
 use Rattle.layout.specs.Check.{checked}
 use Rattle.layout.specs.Order.{order}
-use Rattle.layout.specs.declared.check.Check.TheVariants.{Readable}
 use Rattle.layout.specs.declared.util.Header.TheVariants.{Object}
 use Rattle.builders.specs.Order.{by}
 use Rattle.layout.specs.Parts.{name_in, value_in, members_at}
@@ -14,26 +13,25 @@ use Rattle.layout.specs.declared.parts.ItemAt.{ItemAt}
 use Rattle.layout.specs.declared.parts.MemberAt.{MemberAt}
 use Rattle.layout.specs.declared.parts.Places.{Places}
 use Rattle.layout.specs.Parts.{members_of}
-use Rattle.edits.specs.declared.members.NextMember.{NextMember}
-use Rattle.edits.specs.declared.members.NextMember.TheVariants.{End as NoMember, Member}
 use Rattle.edits.specs.declared.merge.Turn.{Turn}
-use Rattle.edits.specs.declared.merge.Turn.TheVariants.{Left, Right, Both, End}
+use Rattle.edits.specs.declared.merge.Turn.TheVariants.{Left, Right, Both}
+use Rattle.edits.specs.declared.members.Ahead.{Ahead}
 
--- Which of the next members of both sides is taken.
-abbrev pub chosen : Bytes → Bytes → NextMember → NextMember → Turn
-chosen l r NoMember NoMember = End
-chosen l r NoMember (Member k b) = Right k b
-chosen l r (Member m a) NoMember = Left m a
-chosen l r (Member m a) (Member k b) = by (order (name_in l m) (name_in r k)) (Left m a) (Both k a b) (Right k b)
+-- Which of the next members of both sides is taken, if any is left.
+abbrev pub chosen : Bytes → Bytes → Option (MemberAt × Ahead) → Option (MemberAt × Ahead) → Option Turn
+chosen l r None None = None
+chosen l r None (Some (k, b)) = Some (Right k b)
+chosen l r (Some (m, a)) None = Some (Left m a)
+chosen l r (Some (m, a)) (Some (k, b)) = by (order (name_in l m) (name_in r k)) (Some (Left m a)) (Some (Both k a b)) (Some (Right k b))
 
 -- Readable objects of `m` and `n` members.
 pub record Objects (l : Bytes) (m : ℕ) (r : Bytes) (n : ℕ) : Type 0 where
-  pub left_readable : checked (nested 64 l) ≡ Readable
-  pub right_readable : checked (nested 64 r) ≡ Readable
+  pub left_readable : checked (nested 64 l) ≡ Ok tt
+  pub right_readable : checked (nested 64 r) ≡ Ok tt
   pub left_short : length l ≤ 65536
   pub right_short : length r ≤ 65536
-  pub left_object : header l ≡ Object m
-  pub right_object : header r ≡ Object n
+  pub left_object : header l ≡ Ok (Object m)
+  pub right_object : header r ≡ Ok (Object n)
 
 -- The members of both in one row, the right ones first. They stand in the bytes of the right one and those of the left one behind
 -- them.

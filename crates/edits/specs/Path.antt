@@ -1,6 +1,5 @@
 -- The two edits with a path, on bytes: document 01, "Order: left record, right record, path, 7, absence, 8, 9, 10".
-use Rattle.std.specs.Prelude.{ℕ, List}
-use Rattle.std.proofs.Math.Option.{Option, some}
+use Rattle.std.specs.Prelude.{ℕ, List, Some, Option}
 use Rattle.layout.specs.Bytes.{Bytes}
 use Rattle.layout.specs.Answer.{Answer, gives, ◌>>=◌}
 use Rattle.layout.specs.Tree.{Tree}
@@ -17,7 +16,7 @@ unfoldable pub delete_by : List Step → Tree → Answer (Option Tree)
 unfolding ◌>>=◌
 delete_by p t = do
   u ← deletable t
-  gives (some (delete p u))
+  gives (Some (delete p u))
 
 unfoldable pub on_path : (List Step → Tree → Answer (Option Tree)) → Bytes → Bytes → ℕ → Outcome
 unfolding on_record path_of get_by delete_by

@@ -1,7 +1,6 @@
 -- What remains of a container without the item that a path finds in it, by its bytes: `remains` of Delete.antt, for the contracts of
 -- src/delete.rt.
-use Rattle.std.specs.Prelude.{List, []}
-use Rattle.std.proofs.Math.Option.{Option, none as nothing, some}
+use Rattle.std.specs.Prelude.{List, [], Some, None, Option}
 use Rattle.layout.specs.Bytes.{Bytes}
 use Rattle.layout.specs.Answer.{Answer, gives, refused}
 use Rattle.layout.specs.Tree.{Tree}
@@ -12,8 +11,8 @@ use Rattle.edits.specs.Delete.{remains}
 
 -- The bytes of what is left of a container, by its bytes.
 abbrev pub remains_payload : Option Tree → Bytes
-remains_payload nothing = []
-remains_payload (some t) = payload t
+remains_payload None = []
+remains_payload (Some t) = payload t
 
 abbrev pub remains_in : Answer Tree → List Step → Bytes
 remains_in (gives t) p = remains_payload (remains p t)

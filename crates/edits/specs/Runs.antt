@@ -1,19 +1,18 @@
 -- Parts of a container in runs, as the code of delete copies them. `run_stored` and `laid_record` of proofs/Runs.antt say that parts stored
 -- in runs are a record.
-use Rattle.std.specs.Prelude.{ℕ, suc, ◌+◌, ◌*◌, ◌-◌, ◌≤◌, ◌≡◌, List, ◌++◌, length, take, drop}
+use Rattle.std.specs.Prelude.{ℕ, suc, ◌+◌, ◌*◌, ◌-◌, ◌≤◌, ◌≡◌, List, ◌++◌, length, take, drop, Ok}
 use Rattle.layout.specs.Bytes.{Bytes}
 use Rattle.layout.specs.Encode.{Part}
 use Rattle.layout.specs.Read.{header, nested}
 use Rattle.layout.specs.Check.{checked}
 use Rattle.layout.specs.Patch.{patch}
-use Rattle.layout.specs.declared.check.Check.TheVariants.{Readable}
 use Rattle.layout.specs.Parts.{count_parts}
 use Rattle.layout.specs.declared.parts.PartAt.{PartAt}
 use Rattle.layout.specs.declared.parts.Cursor.{Cursor}
 
 -- A readable container of `n` parts.
 pub record Table (s : Bytes) (n : ℕ) : Type 0 where
-  pub readable : checked (nested 64 s) ≡ Readable
+  pub readable : checked (nested 64 s) ≡ Ok tt
   pub short : length s ≤ 65536
   pub count : count_parts (header s) ≡ n
 

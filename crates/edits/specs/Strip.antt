@@ -1,7 +1,6 @@
 -- Strip: document 01, "every container is written anew; members whose value is null go, at every level; nulls in arrays and at the
 -- root stay. A name repeated among kept members is 8."
-use Rattle.std.specs.Prelude.{ℕ, Bool, true, false, cond, ◌&&◌, []}
-use Rattle.std.proofs.Math.Option.{some}
+use Rattle.std.specs.Prelude.{ℕ, Bool, true, false, cond, ◌&&◌, [], Some}
 use Rattle.layout.specs.Bytes.{Bytes}
 use Rattle.layout.specs.Answer.{Answer, gives, ◌>>=◌, require}
 use Rattle.layout.specs.Tree.{Tree, null, boolean, number, string, extension, array, object, Items, none, item, Members, empty, member, names}
@@ -71,4 +70,4 @@ strip t = do
 -- An edit of one record: nothing stands beside it.
 unfoldable pub on_one : (Tree → Answer Tree) → Bytes → ℕ → Outcome
 unfolding on_record strip
-on_one edit target room = on_record alone (λ t _. edit t >>= λ v. gives (some v)) target [] room
+on_one edit target room = on_record alone (λ t _. edit t >>= λ v. gives (Some v)) target [] room

@@ -1,6 +1,6 @@
 -- A container stripped, as the code stores it. `stripped_tree` and `stripped_at` of proofs/Stripped.antt tie it to `stripped`, and
 -- `strip_ends` of proofs/StripWrites.antt to `strip`.
-use Rattle.std.specs.Prelude.{ℕ, ◌≤◌, ◌≡◌, Bool, true, false, cond, [], eqb, length}
+use Rattle.std.specs.Prelude.{ℕ, ◌≤◌, ◌≡◌, Bool, true, false, cond, [], eqb, length, Ok, Option, Some, None}
 use Rattle.layout.specs.Bytes.{Bytes}
 use Rattle.layout.specs.Answer.{Answer, gives, refused}
 use Rattle.layout.specs.Entry.{code_of, entry_of}
@@ -9,9 +9,8 @@ use Rattle.layout.specs.Encode.{payload}
 use Rattle.layout.specs.Read.{header, nested}
 use Rattle.layout.specs.Check.{checked}
 use Rattle.layout.specs.Ended.{Outcome, refusal, into}
-use Rattle.layout.specs.declared.check.Check.TheVariants.{Readable}
 use Rattle.layout.specs.declared.util.Header.TheVariants.{Object}
-use Rattle.layout.specs.declared.refusal.Refusal.TheVariants.{Repeated as RepeatedName}
+use Rattle.layout.specs.declared.refusal.Refusal.TheVariants.{Repeated}
 use Rattle.layout.specs.Parts.{bytes_at}
 use Rattle.layout.specs.declared.parts.ItemAt.{ItemAt}
 use Rattle.layout.specs.declared.parts.MemberAt.{MemberAt}
@@ -20,8 +19,6 @@ use Rattle.edits.specs.Strip.{stripped, unrepeated}
 use Rattle.edits.specs.Members.{sizes_of, all_ahead, kept_ahead}
 use Rattle.edits.specs.declared.members.Ahead.{Ahead}
 use Rattle.edits.specs.declared.members.Sizes.{Sizes}
-use Rattle.edits.specs.declared.strip.Stripped.{Stripped}
-use Rattle.edits.specs.declared.strip.Stripped.TheVariants.{Len, Repeated}
 
 -- The bytes of a container stripped, and whether no name is repeated in it, by its bytes.
 abbrev pub stripped_in : Answer Tree → Bytes
@@ -40,14 +37,14 @@ unrepeated_of s = unrepeated_in (nested 64 s)
 
 -- A container that can be stripped.
 pub record Strippable (s : Bytes) (allowance : ℕ) : Type 0 where
-  pub readable : checked (nested allowance s) ≡ Readable
+  pub readable : checked (nested allowance s) ≡ Ok tt
   pub allowed : allowance ≤ 64
   pub short : length s ≤ 65536
 
 -- An object that can be stripped, all of whose members are ahead, and those that are kept are measured.
 pub record Prepared (s : Bytes) (ahead : Ahead) (sizes : Sizes) (allowance : ℕ) : Type 0 where
   pub strippable : Strippable s allowance
-  pub object : header s ≡ Object ahead.count
+  pub object : header s ≡ Ok (Object ahead.count)
   pub all : ahead ≡ all_ahead s ahead.count
   pub measured : sizes ≡ sizes_of s (kept_ahead s NonNull ahead)
 
@@ -68,11 +65,11 @@ strip_value s m = strip_item s m.val
 abbrev pub value_entry : Bytes → MemberAt → ℕ
 value_entry s m = strip_entry s m.val
 
--- How storing ends: where no name is repeated, with the length of what was stored, and the buffer then.
-abbrev pub Strips : Stripped → Bool → Bytes → Bytes → Bytes → Type 0
-Strips (Len n) fine b after whole = (fine ≡ true) × (n ≡ length b) × (after ≡ whole)
-Strips Repeated fine b after whole = fine ≡ false
+-- How storing ends: where no name is repeated, with the length of what was stored, and the buffer then; else with none.
+abbrev pub Strips : Option ℕ → Bool → Bytes → Bytes → Bytes → Type 0
+Strips (Some n) fine b after whole = (fine ≡ true) × (n ≡ length b) × (after ≡ whole)
+Strips None fine b after whole = fine ≡ false
 
 -- The outcome.
 unfoldable pub strip_out : Bytes → ℕ → Outcome
-strip_out s room = cond (unrepeated_of s) (into room (stripped_of s)) (refusal RepeatedName)
+strip_out s room = cond (unrepeated_of s) (into room (stripped_of s)) (refusal Repeated)

@@ -7,94 +7,49 @@ ghost use Rattle.edits.specs.Keypath.{index_text, path_of};
 ghost use Rattle.edits.specs.Steps.{number_key, int_key, code_key};
 ghost use Rattle.edits.specs.Steps.{are_steps, steps_told};
 
-use layout::check::{Check, check_record};
+use layout::check::check_record;
 use layout::constants::{NUMBER_CODE, STRING_CODE};
 use layout::decimal::put_decimal;
-use layout::jentry::{jentry_at, payload_len, type_code};
+use layout::jentry::type_code;
 use layout::number::Number;
-use layout::parts::first_part;
-use layout::util::{Header, read_header, slice};
+use layout::refusal::Refusal;
+use layout::table::Parts;
+use layout::util::{Header, read_header};
 use layout::writer::put;
-
-// The least and the greatest index, those of i32.
-const INDEX_MIN: i64 = -0x8000_0000;
-
-const INDEX_MAX: i64 = 0x7fff_ffff;
-
-const UINT_INDEX_MAX: u64 = 0x7fff_ffff;
 
 // No index has more decimal digits.
 const INDEX_DIGITS: u32 = 10;
 
 const MINUS_SIGN: u8 = 0x2d;
 
-// What an item of a path record is. The text of a name is the item's payload.
+// What a step of a path record is. The text of a name is the item's payload.
 #[derive(Clone, Copy)]
 pub enum KeyPath {
     Index(i32),
     Name,
-    Other,
 }
 
-// How many steps a path has; or that it is no path.
-#[derive(Clone, Copy)]
-pub enum Steps {
-    Count(usize),
-    Refused,
-}
-
-// A signed integer as an index.
-fn int_key(v: i64) -> KeyPath
-    ensures { result ≡ int_key v }
-{
-    if v < INDEX_MIN {
-        return KeyPath::Other;
-    }
-    if INDEX_MAX < v {
-        return KeyPath::Other;
-    }
-    KeyPath::Index(v as i32)
-}
-
-// An unsigned integer as an index.
-fn uint_key(v: u64) -> KeyPath
-    ensures { result ≡ number_key (Number.UInt64 v) }
-{
-    if UINT_INDEX_MAX < v {
-        return KeyPath::Other;
-    }
-    KeyPath::Index(v as i32)
-}
-
-// A number as an index: only integers are.
-fn number_key(number: Number) -> KeyPath
+// A number as an index: only integers are, those of i32.
+fn number_key(number: Number) -> Option<KeyPath>
     ensures { result ≡ number_key number }
 {
-    match number {
-        Number::Nan => KeyPath::Other,
-        Number::Infinity => KeyPath::Other,
-        Number::NegInfinity => KeyPath::Other,
-        Number::Int64(v) => int_key(v),
-        Number::UInt64(v) => uint_key(v),
-        Number::Float64(_) => KeyPath::Other,
-        Number::Decimal64(_, _) => KeyPath::Other,
-        Number::WideDecimal(_) => KeyPath::Other,
-        Number::Refused(_) => KeyPath::Other,
-    }
+    let index = match number {
+        Number::Int64(v) => i32::try_from(v).ok()?,
+        Number::UInt64(v) => i32::try_from(v).ok()?,
+        _ => return None,
+    };
+    Some(KeyPath::Index(index))
 }
 
-// What the item with this entry and payload is.
-pub(crate) fn key_of(jentry: u32, payload: &[u8]) -> KeyPath
+// What the item with this entry and payload is, where it is a step.
+pub(crate) fn key_of(jentry: u32, payload: &[u8]) -> Option<KeyPath>
     ensures { result ≡ code_key (code_of jentry) payload.now }
 {
-    let code = type_code(jentry);
-    if code == STRING_CODE {
-        return KeyPath::Name;
+    match type_code(jentry) {
+        STRING_CODE => Some(KeyPath::Name),
+        NUMBER_CODE => number_key(Number::decode(payload).ok()?),
+        _ => None,
     }
-    if code == NUMBER_CODE {
-        return number_key(Number::decode(payload));
-    }
-    KeyPath::Other
 }
 
 // Whether n items are steps, all of them.
@@ -102,35 +57,27 @@ fn are_steps(path: &[u8], n: usize) -> bool
     requires { n < 2 ^ 29 }
     ensures { result ≡ are_steps (parts_of path.now n) }
 {
-    let first = first_part(n);
-    let mut place = first.place;
-    let mut i = 0;
-    while i < n {
-        let jentry = jentry_at(path, i);
-        let len = payload_len(jentry) as usize;
-        if let KeyPath::Other = key_of(jentry, slice(path, place, len)) {
-            return false;
-        }
-        place += len;
-        i += 1;
-    }
-    true
+    Parts::of(path, n).all(|part| key_of(part.jentry, part.payload).is_some())
 }
 
-// Reads a path whole, before any step is taken.
-pub fn check_path(path: &[u8]) -> Steps
+// How many steps a path has, or that it is no path. It is read whole, before any step is taken.
+pub fn check_path(path: &[u8]) -> Result<usize, Refusal>
     ensures { result ≡ steps_told (path_of path.now) }
 {
-    if let Check::Refused(_) = check_record(path) {
-        return Steps::Refused;
+    if check_record(path).is_err() {
+        return Err(Refusal::Path);
     }
-    let Header::Array(n) = read_header(path) else {
-        return Steps::Refused;
+    // In two steps: the `else` of a pattern within a pattern leaves the proof no fact on what the header is not.
+    let Ok(header) = read_header(path) else {
+        return Err(Refusal::Path);
+    };
+    let Header::Array(n) = header else {
+        return Err(Refusal::Path);
     };
     if are_steps(path, n) {
-        return Steps::Count(n);
+        return Ok(n);
     }
-    Steps::Refused
+    Err(Refusal::Path)
 }
 
 // Stores the decimal text of an index, and gives its length.
@@ -138,10 +85,10 @@ pub(crate) fn put_index(i: i32, out: &mut [u8]) -> usize
     ensures is { (result ≡ length (index_text i)) × (result ≤ 11) }
     ensures kept { out.new ≡ patch out.old 0 (index_text i) }
 {
-    let v = i as i64;
-    if v < 0 {
+    let digits = u64::from(i.unsigned_abs());
+    if i < 0 {
         put(out, 0, MINUS_SIGN);
-        return put_decimal((-v) as u64, INDEX_DIGITS, out, 1);
+        return put_decimal(digits, INDEX_DIGITS, out, 1);
     }
-    put_decimal(v as u64, INDEX_DIGITS, out, 0)
+    put_decimal(digits, INDEX_DIGITS, out, 0)
 }

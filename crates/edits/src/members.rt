@@ -1,17 +1,18 @@
 // The members of an object, taken one by one in byte order of their names: as they stand where the names rise, else by the search.
-ghost use Rattle.std.specs.Prelude.{◌≡◌, false, ◌+◌, ◌^◌, ◌≤◌, ◌<◌};
-ghost use Rattle.builders.specs.Search.{bound};
+ghost use Rattle.std.specs.Prelude.{◌≡◌, false, None, option_copied, ◌+◌, ◌^◌, ◌≤◌, ◌<◌};
+ghost use Rattle.layout.specs.Parts.{name_in, members_at};
+ghost use Rattle.builders.specs.Search.{kept_of, least};
+ghost use Rattle.builders.specs.Searched.{searched};
+ghost use Rattle.builders.specs.Sorted.{sorted};
 ghost use Rattle.edits.specs.Members.{places_for};
-ghost use Rattle.edits.specs.Members.{in_turn, sizes_of, all_ahead};
+ghost use Rattle.edits.specs.Members.{sizes_in, sizes_of, all_ahead};
 ghost use Rattle.edits.specs.Members.{kept_ahead};
-ghost use Rattle.edits.specs.Members.{behind_ahead};
 ghost use Rattle.edits.specs.Members.{Near, Standing, Next};
 
-use builders::search::{Found, Kept, is_kept, next_member};
+use builders::search::{Kept, Members, is_kept};
 use layout::constants::{HEADER_SIZE, JENTRY_SIZE};
 use layout::parts::{MemberAt, Places, members_of, payload_at, places_behind, read_member};
 use layout::sound::is_rising;
-use layout::util::slice;
 
 // How many members are written anew, and how long their names and values are.
 #[derive(Clone, Copy)]
@@ -31,37 +32,28 @@ pub struct Ahead {
     pub is_rising: bool,
 }
 
-// The next member, and what is ahead behind it; or the end.
-#[derive(Clone, Copy)]
-pub enum NextMember {
-    Member(MemberAt, Ahead),
-    End,
-}
-
-// The sizes of the members in byte order, those left out aside, of equal names the first.
-pub(crate) fn measure_members(s: &[u8], from: Places, n: usize, kept: Kept) -> Sizes
-    requires { (n < 2 ^ 29)
-        × (from.key_jentry < 2 ^ 32) × (from.val_jentry < 2 ^ 32) × (from.key < 2 ^ 32) × (from.val < 2 ^ 32) }
-    ensures { result ≡ sizes_of s.now (in_turn s.now from n kept) }
+// The sizes of the members that are searched, of equal names the first.
+pub(crate) fn measure_members(members: &Members) -> Sizes
+    ensures { result ≡ sizes_in members.now.keys.now members.now.vals.now
+        (sorted (name_in members.now.keys.now) (searched members.now)) }
 {
-    let mut last = slice(s, 0, 0);
+    let mut last = None;
     let mut sizes = Sizes {
         count: 0,
         keys: 0,
         vals: 0,
     };
-    let mut i = 0;
-    while i < n {
-        let Found::At(member) = next_member(s, s, from, n, kept, i == 0, last) else {
+    for _ in 0..members.count {
+        let Some(member) = members.next_member(last) else {
             return sizes;
         };
-        last = payload_at(s, member.key);
+        let name = payload_at(members.keys, member.key);
         sizes = Sizes {
             count: sizes.count + 1,
-            keys: sizes.keys + last.len(),
-            vals: sizes.vals + payload_at(s, member.val).len(),
+            keys: sizes.keys + name.len(),
+            vals: sizes.vals + payload_at(members.vals, member.val).len(),
         };
-        i += 1;
+        last = Some(name);
     }
     sizes
 }
@@ -93,34 +85,25 @@ pub fn members_ahead(s: &[u8], n: usize) -> Ahead
     }
 }
 
-// What is ahead behind the next member as they stand.
-pub(crate) fn ahead_behind(ahead: Ahead, member: MemberAt) -> Ahead
-    requires { Near ahead × (ahead.index < ahead.count) }
-    ensures { result ≡ behind_ahead ahead member }
-{
-    Ahead {
-        at: places_behind(ahead.at, member),
-        index: ahead.index + 1,
-        count: ahead.count,
-        is_rising: ahead.is_rising,
-    }
-}
-
-// The next member as they stand, those left out aside.
-fn next_standing(s: &[u8], ahead: Ahead, kept: Kept) -> NextMember
+// The next member as they stand, those left out aside, and what is ahead behind it.
+fn next_standing(s: &[u8], ahead: Ahead, kept: Kept) -> Option<(MemberAt, Ahead)>
     requires { Near ahead }
     ensures { Standing s.now kept ahead result }
 {
-    let mut here = ahead;
-    while here.index < here.count {
-        let member = read_member(s, s, here.at);
-        let next = ahead_behind(here, member);
-        if is_kept(kept, here.index, member) {
-            return NextMember::Member(member, next);
+    let mut at = ahead.at;
+    for i in ahead.index..ahead.count {
+        let member = read_member(s, s, at);
+        at = places_behind(at, member);
+        if is_kept(kept, i, member) {
+            let next = Ahead {
+                at,
+                index: i + 1,
+                ..ahead
+            };
+            return Some((member, next));
         }
-        here = next;
     }
-    NextMember::End
+    None
 }
 
 // The sizes of the members ahead, those left out aside.
@@ -133,32 +116,59 @@ pub(crate) fn measure_ahead(s: &[u8], ahead: Ahead, kept: Kept) -> Sizes
         keys: 0,
         vals: 0,
     };
-    let mut here = ahead;
-    while here.index < here.count {
-        let member = read_member(s, s, here.at);
-        let next = ahead_behind(here, member);
-        if is_kept(kept, here.index, member) {
+    let mut at = ahead.at;
+    for i in ahead.index..ahead.count {
+        let member = read_member(s, s, at);
+        if is_kept(kept, i, member) {
             sizes = Sizes {
                 count: sizes.count + 1,
                 keys: sizes.keys + payload_at(s, member.key).len(),
                 vals: sizes.vals + payload_at(s, member.val).len(),
             };
         }
-        here = next;
+        at = places_behind(at, member);
     }
     sizes
 }
 
-// The next member in byte order behind the last one taken, those left out aside.
-pub fn next_in_order(s: &[u8], ahead: Ahead, kept: Kept, is_first: bool, last: &[u8]) -> NextMember
+// The first of all the members ahead with the least name behind the last one taken, those left out aside. What is searched is put
+// together here, in a frame that is gone when this returns: strip asks this at each level, and include/jsonb.h says how little stack
+// that takes.
+#[inline(never)]
+pub(crate) fn next_searched(
+    s: &[u8],
+    ahead: &Ahead,
+    kept: Kept,
+    last: Option<&[u8]>,
+) -> Option<MemberAt>
+    requires { (ahead.now.count < 2 ^ 29) × (ahead.now.at.key_jentry < 2 ^ 32) × (ahead.now.at.val_jentry < 2 ^ 32)
+        × (ahead.now.at.key < 2 ^ 32) × (ahead.now.at.val < 2 ^ 32) }
+    ensures { result ≡ least (name_in s.now) (option_copied last.entry) None
+        (kept_of kept 0 (members_at s.now s.now ahead.now.at ahead.now.count)) }
+{
+    let members = Members {
+        keys: s,
+        vals: s,
+        from: ahead.at,
+        count: ahead.count,
+        kept,
+    };
+    members.next_member(last)
+}
+
+// The next member in byte order behind the last one taken, those left out aside, and what is ahead behind it.
+pub fn next_in_order(
+    s: &[u8],
+    ahead: Ahead,
+    kept: Kept,
+    last: Option<&[u8]>,
+) -> Option<(MemberAt, Ahead)>
     requires { Near ahead × (ahead.is_rising ≡ false → ahead.index ≡ 0) }
-    ensures { Next s.now kept (bound is_first last.now) ahead result }
+    ensures { Next s.now kept (option_copied last.entry) ahead result }
 {
     if ahead.is_rising {
         return next_standing(s, ahead, kept);
     }
-    let Found::At(member) = next_member(s, s, ahead.at, ahead.count, kept, is_first, last) else {
-        return NextMember::End;
-    };
-    NextMember::Member(member, ahead)
+    let member = next_searched(s, &ahead, kept, last)?;
+    Some((member, ahead))
 }

@@ -1,89 +1,73 @@
 // Look-up and delete by a path, after the Rust's path.rs.
-ghost use Rattle.std.specs.Prelude.{◌≡◌, ◌+◌, ◌*◌, ◌^◌, ◌≤◌, ◌<◌, length};
+ghost use Rattle.std.specs.Prelude.{◌≡◌, ◌+◌, ◌*◌, ◌^◌, ◌≤◌, ◌<◌, length, Ok, Some};
 ghost use Rattle.layout.specs.Entry.{code_of};
 ghost use Rattle.layout.specs.Read.{nested};
 ghost use Rattle.layout.specs.Check.{checked};
 ghost use Rattle.layout.specs.Parts.{parts_of};
 ghost use Rattle.layout.specs.Ended.{Ended, into};
 ghost use Rattle.layout.specs.Room.{EndedIn};
-ghost use Rattle.layout.specs.declared.check.Check.TheVariants.{Readable};
 ghost use Rattle.edits.specs.Steps.{code_key, step, part_steps};
 ghost use Rattle.edits.specs.Path.{get_by, delete_by, on_path};
 ghost use Rattle.edits.specs.Held.{Stands, Leads, Finds, item_in, item_record};
-ghost use Rattle.layout.specs.declared.parts.PartAt.{PartAt as Part};
+ghost use Rattle.layout.specs.declared.parts.PartAt.{PartAt as At};
 ghost use Rattle.edits.specs.Find.{step_into, look_up};
-ghost use Rattle.edits.specs.declared.find.Spot.TheVariants.{At as AtSpot};
 
 use crate::delete::write_deleted;
-use crate::find::{Spot, find_step};
-use crate::keypath::{Steps, check_path};
-use layout::check::{Check, check_record};
+use crate::find::find_step;
+use crate::keypath::check_path;
+use layout::check::check_record;
 use layout::constants::{
     CONTAINER_CODE, EXTENSION_CODE, HEADER_SIZE, SCALAR_CONTAINER_TAG, SCALAR_START,
 };
 use layout::ending::Ending;
-use layout::jentry::{encoded, jentry_at, payload_len, read_jentry, type_code};
-use layout::parts::{ItemAt, first_part, payload_at};
+use layout::jentry::{encoded, jentry_at, read_jentry, type_code};
+use layout::parts::{ItemAt, PartAt, payload_at};
 use layout::refusal::Refusal;
-use layout::util::{Header, read_header, slice};
+use layout::table::{Part, Parts};
+use layout::util::{Header, read_header};
 use layout::writer::{copy, put_u32};
 
-// What a path finds in a record.
-#[derive(Clone, Copy)]
-pub enum Item {
-    Nothing,
-    At(ItemAt),
-}
-
 // The item that a part of a container is, where the container's bytes start at a place of the record.
-pub fn item_in(inner: &[u8], place: usize, spot: Spot) -> Item
-    requires { (a : Part) → spot ≡ AtSpot a → (a.index < 2 ^ 61) × (place + a.place < 2 ^ 64) }
+pub fn item_in(inner: &[u8], place: usize, spot: Option<PartAt>) -> Option<ItemAt>
+    requires { (a : At) → spot ≡ Some a → (a.index < 2 ^ 61) × (place + a.place < 2 ^ 64) }
     ensures { result ≡ item_in inner.now place spot }
 {
-    let Spot::At(part) = spot else {
-        return Item::Nothing;
-    };
-    Item::At(ItemAt {
+    let part = spot?;
+    Some(ItemAt {
         jentry: jentry_at(inner, part.index),
         place: place + part.place,
     })
 }
 
 // The item that a step finds, from an item of the record on.
-fn step_from(s: &[u8], item: ItemAt, jentry: u32, text: &[u8]) -> Item
+fn step_from(s: &[u8], item: ItemAt, part: Part) -> Option<ItemAt>
     requires { Stands s.now item }
-    ensures { Leads s.now item (step_into (step (code_key (code_of jentry) text.now) text.now)) result }
+    ensures { Leads s.now item (step_into (step (code_key (code_of part.entry.jentry) part.entry.payload.now) part.entry.payload.now)) result }
 {
     if type_code(item.jentry) != CONTAINER_CODE {
-        return Item::Nothing;
+        return None;
     }
     let inner = payload_at(s, item);
-    item_in(inner, item.place, find_step(inner, jentry, text))
+    item_in(
+        inner,
+        item.place,
+        find_step(inner, part.jentry, part.payload),
+    )
 }
 
 // What a path of n steps finds in a container.
-fn find_path(s: &[u8], path: &[u8], n: usize) -> Item
-    requires { (length s.now ≤ 65536) × (checked (nested 64 s.now) ≡ Readable) × (n < 2 ^ 29) }
+fn find_path(s: &[u8], path: &[u8], n: usize) -> Option<ItemAt>
+    requires { (length s.now ≤ 65536) × (checked (nested 64 s.now) ≡ Ok tt) × (n < 2 ^ 29) }
     ensures { Finds s.now (look_up (part_steps (parts_of path.now n))) result }
 {
     let mut item = ItemAt {
         jentry: encoded(CONTAINER_CODE, s.len() as u32),
         place: 0,
     };
-    let first = first_part(n);
-    let mut place = first.place;
-    let mut i = 0;
-    while i < n {
-        let jentry = jentry_at(path, i);
-        let len = payload_len(jentry) as usize;
-        let Item::At(next) = step_from(s, item, jentry, slice(path, place, len)) else {
-            return Item::Nothing;
-        };
-        item = next;
-        place += len;
-        i += 1;
+    for part in Parts::of(path, n) {
+        item = step_from(s, item, part)?;
     }
-    Item::At(item)
+    Some(item)
 }
 
 // Stores bytes as they are, where they go into `room` bytes.
@@ -91,10 +75,10 @@ pub fn write_copy(s: &[u8], out: &mut [u8], room: usize) -> Ending
     ensures { EndedIn result out.old out.new (into room s.now) }
 {
     if room < s.len() {
-        return Ending::Refused(Refusal::Buffer);
+        return Err(Refusal::Buffer);
     }
     copy(s, out, 0);
-    Ending::Done(s.len())
+    Ok(Some(s.len()))
 }
 
 // Stores an item as a record, where it goes into `room` bytes: a container as it is, anything else as a scalar record.
@@ -108,12 +92,12 @@ pub fn write_item(s: &[u8], item: ItemAt, out: &mut [u8], room: usize) -> Ending
     }
     let len = SCALAR_START + payload.len();
     if room < len {
-        return Ending::Refused(Refusal::Buffer);
+        return Err(Refusal::Buffer);
     }
     put_u32(out, 0, SCALAR_CONTAINER_TAG);
     put_u32(out, HEADER_SIZE, item.jentry);
     copy(payload, out, SCALAR_START);
-    Ending::Done(len)
+    Ok(Some(len))
 }
 
 // Looks up what a path finds in a record, where it goes into `room` bytes.
@@ -121,20 +105,16 @@ pub fn get_by_keypath_in(target: &[u8], path: &[u8], out: &mut [u8], room: usize
     ensures { EndedIn result out.old out.new
         (on_path get_by target.now path.now room) }
 {
-    if let Check::Refused(refusal) = check_record(target) {
-        return Ending::Refused(refusal);
-    }
-    let Steps::Count(n) = check_path(path) else {
-        return Ending::Refused(Refusal::Path);
-    };
+    check_record(target)?;
+    let n = check_path(path)?;
     if n == 0 {
         return write_copy(target, out, room);
     }
-    if let Header::Scalar(_) = read_header(target) {
-        return Ending::Absent;
+    if let Header::Scalar(_) = read_header(target)? {
+        return Ok(None);
     }
-    let Item::At(item) = find_path(target, path, n) else {
-        return Ending::Absent;
+    let Some(item) = find_path(target, path, n) else {
+        return Ok(None);
     };
     write_item(target, item, out, room)
 }
@@ -144,22 +124,18 @@ fn write_remains(target: &[u8], path: &[u8], out: &mut [u8], room: usize) -> End
     ensures { EndedIn result out.old out.new
         (on_path delete_by target.now path.now room) }
 {
-    if let Check::Refused(refusal) = check_record(target) {
-        return Ending::Refused(refusal);
-    }
-    let Steps::Count(n) = check_path(path) else {
-        return Ending::Refused(Refusal::Path);
-    };
-    if let Header::Scalar(_) = read_header(target) {
+    check_record(target)?;
+    let n = check_path(path)?;
+    if let Header::Scalar(_) = read_header(target)? {
         if type_code(read_jentry(target, 0)) == EXTENSION_CODE {
             return write_copy(target, out, room);
         }
-        return Ending::Refused(Refusal::Kind);
+        return Err(Refusal::Kind);
     }
     if n == 0 {
         return write_copy(target, out, room);
     }
-    let Item::At(_) = find_path(target, path, n) else {
+    let Some(_) = find_path(target, path, n) else {
         return write_copy(target, out, room);
     };
     write_deleted(target, path, n, out, room)

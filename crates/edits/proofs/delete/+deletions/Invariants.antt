@@ -1,8 +1,8 @@
 -- `edits::delete::put_deleted` and what it calls in a cycle meet their contracts: the allowance falls with each level.
-use Prim.Native.Nat.{◌+◌, ◌*◌, ◌-◌}
-use Rattle.layout.specs.Parts.{name_in, members_at}
-use Rattle.builders.specs.Search.{kept_of}
-use Rattle.builders.specs.declared.search.Kept.TheVariants.{All}
+use Prim.Native.Nat.{◌+◌, ◌*◌}
+use Rattle.layout.specs.Parts.{name_in}
+use Rattle.std.specs.Prelude.{option_copied}
+use Rattle.builders.specs.Searched.{searched}
 use Rattle.builders.proofs.Storing.{Stored}
 use Rattle.edits.specs.Way.{steps_from}
 use Rattle.edits.specs.Cut.{anew_value, anew_entry}
@@ -20,10 +20,7 @@ decreases-put_part_anew l = 4 * l.allowance + 1
 abbrev pub decreases-put_sorted_anew : goal.decreases-put_sorted_anew
 decreases-put_sorted_anew l = 4 * l.allowance + 1
 
-abbrev pub invariant-put_sorted_anew-loop-i : goal.invariant-put_sorted_anew-loop-i
-invariant-put_sorted_anew-loop-i l =
-    Stored (name_in l.s) (anew_value l.s l.name (steps_from l.path l.next)) (anew_entry l.s l.name (steps_from l.path l.next))
-    (kept_of All 0 (members_at l.s l.s l.from l.n)) l.initial.out l.initial.to l.out l.last l.to l.i
-
-abbrev pub decreases-put_sorted_anew-loop-i : goal.decreases-put_sorted_anew-loop-i
-decreases-put_sorted_anew-loop-i l = l.n - l.i
+abbrev pub invariant-put_sorted_anew-loop : goal.invariant-put_sorted_anew-loop
+invariant-put_sorted_anew-loop l =
+    Stored (name_in l.s) (anew_value l.s l.name (steps_from l.next.path.now l.next)) (anew_entry l.s l.name (steps_from l.next.path.now l.next))
+    (searched l.members) l.initial.out l.initial.to l.out (option_copied l.last) l.to l.counter

@@ -3,7 +3,7 @@ use Prim.Native.Nat.{◌+◌}
 use native.Mathlib.Omega.{arith}
 use mathlib.Core.Path.{refl}
 use Rattle.layout.proofs.Words.{slice_octets}
-use Rattle.layout.proofs.Pieces.{same_part, nth_is}
+use Rattle.layout.proofs.Pieces.{same_part}
 use Rattle.edits.proofs.Tables.{Parted, parted}
 use Rattle.edits.proofs.Runs.{behind_run}
 use Rattle.edits.proofs.Withouts.{Bounds, bounds, object_gone}
@@ -25,8 +25,8 @@ first_part-first-requires c = omega (arith, known (goal.at.first_part-first-requ
 pub overflow_add-n-2 : goal.overflow_add-n-2
 overflow_add-n-2 c = omega (arith, known (goal.at.overflow_add-n-2 c).After-shared_slice_known-1)
 
-pub place_after-requires : goal.place_after-requires
-place_after-requires c = omega (arith, known (goal.at.place_after-requires c).After-shared_slice_known-1, c.requires, same_part c.first_part-first.ensures)
+pub part_at-key-requires : goal.part_at-key-requires
+part_at-key-requires c = omega (arith, known (goal.at.part_at-key-requires c).After-shared_slice_known-1, c.requires)
 
 pub overflow_add-start-3 : goal.overflow_add-start-3
 overflow_add-start-3 c = omega (arith, known (goal.at.overflow_add-start-3 c).After-shared_slice_known-1)
@@ -47,12 +47,11 @@ put_run-keys-requires c =
       known (goal.at.put_run-keys-requires c).After-shared_slice_known-1,
       c.requires,
       same_part c.first_part-first.ensures,
-      same_part
-          (nth_is _ _ _ _ _ c.first_part-first.ensures c.place_after.ensures),
+      same_part c.part_at-key.ensures,
     )
 
 pub part_behind-requires : goal.part_behind-requires
-part_behind-requires c = omega (arith, known (goal.at.part_behind-requires c).After-shared_slice_known-1, c.requires, same_part (nth_is _ _ _ _ _ c.first_part-first.ensures c.place_after.ensures))
+part_behind-requires c = omega (arith, known (goal.at.part_behind-requires c).After-shared_slice_known-1, c.requires, same_part c.part_at-key.ensures)
 
 pub put_run-vals-requires : goal.put_run-vals-requires
 put_run-vals-requires c =
@@ -62,9 +61,9 @@ put_run-vals-requires c =
       known (goal.at.put_run-vals-requires c).After-shared_slice_known-1,
       c.requires,
       same_part c.first_part-first.ensures,
-      same_part (nth_is _ _ _ _ _ c.first_part-first.ensures c.place_after.ensures),
+      same_part c.part_at-key.ensures,
       behind_run _ _ _ c.put_run-keys.ensures.is asked.0 asked.2,
-      same_part c.part_behind.ensures,
+      same_part (rw c.part_at-key.ensures at c.part_behind.ensures),
     )
 
 pub part_behind-requires-2 : goal.part_behind-requires-2
@@ -80,9 +79,9 @@ put_run-end-requires c =
       c.requires,
       same_part c.first_part-first.ensures,
       same_part c.parts_end-last.ensures,
-      same_part (nth_is _ _ _ _ _ c.first_part-first.ensures c.place_after.ensures),
+      same_part c.part_at-key.ensures,
       behind_run _ _ _ c.put_run-keys.ensures.is asked₁.0 asked₁.2,
-      same_part c.part_behind.ensures,
+      same_part (rw c.part_at-key.ensures at c.part_behind.ensures),
       behind_run _ _ _ c.put_run-vals.ensures.is asked₂.0 asked₂.2,
       same_part c.part_behind-2.ensures,
     )
@@ -98,9 +97,9 @@ overflow_sub-result c =
       c.requires,
       same_part c.first_part-first.ensures,
       same_part c.parts_end-last.ensures,
-      same_part (nth_is _ _ _ _ _ c.first_part-first.ensures c.place_after.ensures),
+      same_part c.part_at-key.ensures,
       behind_run _ _ _ c.put_run-keys.ensures.is asked₁.0 asked₁.2,
-      same_part c.part_behind.ensures,
+      same_part (rw c.part_at-key.ensures at c.part_behind.ensures),
       behind_run _ _ _ c.put_run-vals.ensures.is asked₂.0 asked₂.2,
       same_part c.part_behind-2.ensures,
       behind_run _ _ _ c.put_run-end.ensures.is asked₃.0 asked₃.2,
@@ -112,7 +111,7 @@ returns c =
     c.first_part-first.ensures
     c.parts_end-last.ensures
     refl
-    c.place_after.ensures
+    c.part_at-key.ensures
     c.put_u32.ensures
     refl
     refl

@@ -1,5 +1,5 @@
 -- `edits::delete::put_without` meets its contract.
-use mathlib.Core.Path.{◌≡◌, sym, ◌∙◌}
+use mathlib.Core.Path.{◌≡◌, sym, ap, ◌∙◌}
 use mathlib.Core.Bool.{true}
 use Rattle.layout.specs.Bytes.{Octets}
 use Rattle.layout.specs.Read.{header}
@@ -9,18 +9,19 @@ use Rattle.layout.proofs.Words.{slice_octets}
 use Rattle.edits.proofs.Leds.{manner_array, manner_object, manner_search, no_manner, array_led, rising_led, stores_as}
 use Rattle.edits.proofs.delete.put_without.Goals.{After-manner_of, In-Items, In-Rising, In-Unsorted}
 use Rattle.edits.proofs.delete.put_without.Goals as goal
+use Rattle.std.specs.Prelude.{Ok, Some}
 
 octets : (c : After-manner_of) → Octets c.args.s.now
 octets c = slice_octets c.args.s.now c.type_inv.s
 
-an_array : (c : In-Items) → header c.args.s.now ≡ Array c.in-Items.n
-an_array c = manner_array c.args.s.now _ _ (sym c.in-Items.is ∙ c.manner_of.ensures)
+an_array : (c : In-Items) → header c.args.s.now ≡ Ok (Array c.in-Items.n)
+an_array c = manner_array c.args.s.now _ _ (sym (c.in-Some.is ∙ ap Some c.in-Items.is) ∙ c.manner_of.ensures)
 
-a_rising_object : (c : In-Rising) → (header c.args.s.now ≡ Object c.in-Rising.n) × (rises c.args.s.now c.in-Rising.n ≡ true)
-a_rising_object c = manner_object c.args.s.now _ _ (sym c.in-Rising.is ∙ c.manner_of.ensures)
+a_rising_object : (c : In-Rising) → (header c.args.s.now ≡ Ok (Object c.in-Rising.n)) × (rises c.args.s.now c.in-Rising.n ≡ true)
+a_rising_object c = manner_object c.args.s.now _ _ (sym (c.in-Some.is ∙ ap Some c.in-Rising.is) ∙ c.manner_of.ensures)
 
-an_object : (c : In-Unsorted) → header c.args.s.now ≡ Object c.in-Unsorted.n
-an_object c = manner_search c.args.s.now _ _ (sym c.in-Unsorted.is ∙ c.manner_of.ensures)
+an_object : (c : In-Unsorted) → header c.args.s.now ≡ Ok (Object c.in-Unsorted.n)
+an_object c = manner_search c.args.s.now _ _ (sym (c.in-Some.is ∙ ap Some c.in-Unsorted.is) ∙ c.manner_of.ensures)
 
 pub put_array_without-requires : goal.put_array_without-requires
 put_array_without-requires c =
@@ -53,7 +54,7 @@ returns-in-Rising c =
 pub returns-in-Unsorted : goal.returns-in-Unsorted
 returns-in-Unsorted c = c.put_sorted_without.ensures
 
-pub returns-in-Neither : goal.returns-in-Neither
-returns-in-Neither c =
+pub returns-in_default : goal.returns-in_default
+returns-in_default c =
     λ p q.
-    no_manner c.args.s.now _ (sym c.in-Neither.is ∙ c.manner_of.ensures) c.args.part p q
+    no_manner c.args.s.now _ (sym c.in_default.is ∙ c.manner_of.ensures) c.args.part p q

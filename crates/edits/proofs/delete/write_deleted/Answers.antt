@@ -9,7 +9,7 @@ use Rattle.edits.proofs.delete.write_deleted.Goals.{After-first_part}
 use Rattle.edits.proofs.delete.write_deleted.Goals as goal
 
 abbrev way : After-first_part → Way
-way c = record { step = c.first_part.result; count = c.args.n }
+way c = record { path = c.args.path; step = c.first_part.result; count = c.args.n }
 
 deletion : (c : After-first_part) → Deletion c.args.s.now c.args.path.now c.args.n (way c)
 deletion c =
@@ -20,7 +20,7 @@ deletion c =
       few = c.requires.2;
       more = c.requires.3;
       finds = c.requires.4;
-      whole = ap (λ (p : PartAt). record { step = p; count = c.args.n }) c.first_part.ensures;
+      whole = ap (λ (p : PartAt). record { path = c.args.path; step = p; count = c.args.n }) c.first_part.ensures;
     }
 
 pub first_part-requires : goal.first_part-requires

@@ -1,27 +1,29 @@
 -- `edits::find::find_name` meets its contract.
-use native.Mathlib.Omega.{arith}
-use Rattle.layout.proofs.Fields.{length_lt}
-use Rattle.layout.proofs.Pieces.{same_part}
-use Rattle.layout.proofs.Carries.{place_first, place_on}
-use Rattle.edits.proofs.Parts.{first_start, first_found, first_more, first_none}
+use mathlib.Core.Path.{refl, ◌∙◌}
+use Rattle.std.proofs.lemmas.Fn.{says_at}
+use Rattle.edits.proofs.Parts.{found, found_here, found_behind, found_none}
 use Rattle.edits.proofs.find.find_name.Goals as goal
 
-pub loop-i-init : goal.loop-i-init
-loop-i-init c = rw (same_part c.first_part-first.ensures).1 (omega arith, omega arith, place_first _ _, first_start _ _ _ _)
+pub loop-part-init : goal.loop-part-init
+loop-part-init g c = (
+  tt,
+  tt,
+  λ meant tells. rw (c.into_iter-part-iterator.ensures.into_iter_gives, c.names-part-items.ensures) (found meant c.args.s.now c.args.n),
+)
 
-pub returns-then-is_same_bytes : goal.returns-then-is_same_bytes
-returns-then-is_same_bytes c =
-    first_found _ _ _ _ _ c.loop-i.invariant.3 c.loop-i-test.true _ _ _ _ c.jentry_at.ensures
-    c.payload_len-len.ensures c.slice.ensures c.is_same_bytes.ensures c.if-is_same_bytes.true c.loop-i.invariant.2
+pub returns-then-is_meant : goal.returns-then-is_meant
+returns-then-is_meant g c meant tells =
+    found_here meant _ _ _ _ c.in-Some.ensures.steps (tells _ _ (says_at g.F.Fn c.is_meant.ensures refl)) c.if-is_meant.true
+    ∙ c.loop-part.invariant.2 meant tells
 
-pub loop-i-preserved : goal.loop-i-preserved
-loop-i-preserved c = (
-  omega arith,
-  omega (arith, c.payload_len-len.ensures, length_lt c.jentry_at.result),
-  place_on _ _ _ _ _ _ c.loop-i.invariant.2 c.jentry_at.ensures c.payload_len-len.ensures,
-  first_more _ _ _ _ _ c.loop-i.invariant.3 c.loop-i-test.true _ _ _ _ c.jentry_at.ensures
-      c.payload_len-len.ensures c.slice.ensures c.is_same_bytes.ensures c.if-is_same_bytes.false,
+pub loop-part-preserved : goal.loop-part-preserved
+loop-part-preserved g c = (
+  tt,
+  tt,
+  λ meant tells.
+      found_behind meant _ _ _ _ c.in-Some.ensures.steps (tells _ _ (says_at g.F.Fn c.is_meant.ensures refl)) c.if-is_meant.false
+      ∙ c.loop-part.invariant.2 meant tells,
 )
 
 pub returns : goal.returns
-returns c = first_none _ _ _ _ _ c.loop-i.invariant.3 c.loop-i-test.false
+returns g c meant tells = found_none meant _ c.in-None.ensures.steps.0 ∙ c.loop-part.invariant.2 meant tells

@@ -1,20 +1,19 @@
 -- `edits::find::find_name` meets its contract.
-use Prim.Native.Nat.{◌+◌, ◌-◌, ◌*◌, ◌^◌, ◌≤◌}
 use mathlib.Core.Path.{◌≡◌}
-use Rattle.layout.specs.Table.{table_place}
-use Rattle.layout.specs.Place.{parts_at}
-use Rattle.layout.specs.Parts.{start_of, texts}
-use Rattle.edits.specs.Spot.{first}
-use Rattle.edits.proofs.Parts.{moved}
+use mathlib.Core.Bool.{Bool}
+use Prim.Native.Nat.{◌+◌}
+use Rattle.std.specs.List.{find}
+use Rattle.std.specs.Fn.{FnReturnsAt}
+use Rattle.layout.specs.Bytes.{Bytes}
+use Rattle.layout.specs.Parts.{names_of}
+use Rattle.layout.specs.Left.{Placed, left}
+use Rattle.edits.specs.Spot.{first_meant, Tells, spot_at}
+use Rattle.edits.proofs.Parts.{spot_shown}
 use Rattle.edits.proofs.find.find_name.Given as goal
 
--- Name i stands where the table gives it, and the first of all is the first of what is left.
-abbrev pub invariant-loop-i : goal.invariant-loop-i
-invariant-loop-i l =
-    (l.i ≤ l.n)
-    × (l.place ≤ start_of (l.n + l.n) + 2 ^ 28 * l.i)
-    × (l.place ≡ table_place l.s (l.n + l.n) l.i)
-    × (first l.name (texts (parts_at l.s 0 (start_of (l.n + l.n)) l.n)) ≡ moved l.i (first l.name (texts (parts_at l.s l.i l.place (l.n - l.i)))))
-
-abbrev pub decreases-loop-i : goal.decreases-loop-i
-decreases-loop-i l = l.n - l.i
+-- The first of all names that is meant is the first of those that are left.
+abbrev pub invariant-loop-part : goal.invariant-loop-part
+invariant-loop-part g l =
+    (goal.iterator-loop-part g).can_next l.part-iterator × (goal.iterator-loop-part g).is_finite l.part-iterator
+    × ((meant : Bytes → Bool) → Tells (FnReturnsAt g.F.Fn l.is_meant) meant
+    → spot_shown (find (λ (q : Placed). meant q.bytes) (left l.part-iterator)) ≡ spot_at l.s (l.n + l.n) (first_meant meant (names_of l.s l.n)))

@@ -1,28 +1,17 @@
 -- `edits::keypath::are_steps` meets its contract.
-use native.Mathlib.Omega.{arith}
-use Rattle.layout.proofs.Fields.{length_lt}
-use Rattle.layout.proofs.Pieces.{same_part}
-use Rattle.layout.proofs.Carries.{place_first, place_on}
-use Rattle.edits.proofs.Keys.{steps_start, steps_other, steps_more, steps_end}
+use mathlib.Core.Path.{◌∙◌}
+use borrow.Author.Tests.{tests}
+use Rattle.std.proofs.Common.{rules}
+use Rattle.std.proofs.lemmas.Iterator.Consumers.{YieldsList-from_first}
+use Rattle.std.proofs.lemmas.Iterator.Search.{all_from_yields_List}
+use Rattle.layout.specs.Entry.{code_of}
+use Rattle.layout.specs.Left.{Placed, left, shown}
+use Rattle.edits.specs.Steps.{code_key, is_step}
+use Rattle.edits.proofs.Keys.{all_steps}
 use Rattle.edits.proofs.keypath.are_steps.Goals as goal
 
-pub loop-i-init : goal.loop-i-init
-loop-i-init c = rw (same_part c.first_part-first.ensures).1 (omega arith, omega arith, steps_start _ _ _, place_first _ _)
-
-pub returns-in-Other : goal.returns-in-Other
-returns-in-Other c =
-    steps_other _ _ _ _ _ c.loop-i.invariant.2 c.loop-i-test.true _ _ _ _ c.jentry_at-jentry.ensures
-    c.payload_len-len.ensures c.slice.ensures c.key_of.ensures c.in-Other.is
-
-pub loop-i-preserved : goal.loop-i-preserved
-loop-i-preserved c = (
-  omega arith,
-  omega (arith, c.payload_len-len.ensures, length_lt c.jentry_at-jentry.result),
-  steps_more _ _ _ _ _ c.loop-i.invariant.2 c.loop-i-test.true _ _ _ _ c.jentry_at-jentry.ensures
-      c.payload_len-len.ensures c.slice.ensures c.key_of.ensures
-      c.in_default.not-Other,
-  place_on _ _ _ _ _ _ c.loop-i.invariant.3 c.jentry_at-jentry.ensures c.payload_len-len.ensures,
-)
-
 pub returns : goal.returns
-returns c = steps_end _ _ _ _ _ c.loop-i.invariant.2 c.loop-i-test.false
+returns c =
+    all_from_yields_List (λ (q : Placed). is_step (code_key (code_of q.jentry) q.bytes)) c.all.new.self _ _ c.all.ensures.ran
+    (YieldsList-from_first shown left _ c.of.ensures) (λ x b q k. search (rules, tests))
+    ∙ all_steps c.args.path.now _ _

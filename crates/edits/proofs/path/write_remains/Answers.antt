@@ -1,89 +1,80 @@
 -- `edits::path::write_remains` meets its contract.
 use native.Mathlib.Omega.{arith}
-use mathlib.Core.Path.{sym, ◌∙◌}
+use mathlib.Core.Path.{sym, ◌∙◌, ap}
 use Rattle.builders.proofs.Knowns.{both_octets, BothOctets}
 use Rattle.edits.proofs.Lookups.{TargetRead, StepsCounted, ContainerMet, Searched, search_ready}
 use Rattle.edits.proofs.Deletions.{delete_left, delete_path, delete_extension, delete_kind, delete_whole}
 use Rattle.edits.proofs.Deletions.{delete_none, delete_finds, delete_found}
-use Rattle.edits.proofs.path.write_remains.Goals.{After-find_path, After-shared_slice_known-2-1, In-Count, In_default, In_default-read_header}
+use Rattle.std.specs.Prelude.{Ok}
+use Rattle.layout.proofs.HandedOn.{handed_on, one_value}
+use Rattle.layout.proofs.Checks.{readable_headed}
+use Rattle.edits.proofs.path.write_remains.Goals.{After-find_path, After-shared_slice_known-2-1, In_ok-n, In_ok-check_record, In_default}
 use Rattle.edits.proofs.path.write_remains.Goals as goal
 
 -- What is known past each test.
 octets : (c : After-shared_slice_known-2-1) → BothOctets c.args.target.now c.args.path.now
 octets c = both_octets c.args.target.now c.args.path.now c.type_inv.target c.type_inv.path
 
-target_read : (c : In_default) → TargetRead c.args.target.now c.args.path.now
+target_read : (c : In_ok-check_record) → TargetRead c.args.target.now c.args.path.now
 target_read c = record {
-  octets = both_octets c.args.target.now c.args.path.now c.type_inv.target c.type_inv.path;
-  readable = sym c.check_record.ensures ∙ c.in_default.is;
+  octets = octets (goal.at.In_ok-check_record c).After-shared_slice_known-2-1;
+  readable = sym c.check_record.ensures ∙ c.in_ok-check_record.was;
 }
 
-steps_counted : (c : In-Count) → StepsCounted c.args.target.now c.args.path.now c.in-Count.n
+steps_counted : (c : In_ok-n) → StepsCounted c.args.target.now c.args.path.now c.in_ok-n.n
 steps_counted c = record {
-  before = record {
-    octets = both_octets c.args.target.now c.args.path.now c.type_inv.target c.type_inv.path;
-    readable = sym c.check_record.ensures ∙ c.in_default.is;
-  };
-  count = sym c.in-Count.is ∙ c.check_path.ensures;
+  before = target_read (goal.at.In_ok-n c).In_ok-check_record;
+  count = sym c.in_ok-n.was ∙ c.check_path.ensures;
 }
 
-container_met : (c : In_default-read_header) → ContainerMet c.args.target.now c.args.path.now c.in-Count.n
+container_met : (c : In_default) → ContainerMet c.args.target.now c.args.path.now c.in_ok-n.n
 container_met c = record {
-  before = record {
-    before = record {
-      octets = both_octets c.args.target.now c.args.path.now c.type_inv.target c.type_inv.path;
-      readable = sym c.check_record.ensures ∙ c.in_default.is;
-    };
-    count = sym c.in-Count.is ∙ c.check_path.ensures;
-  };
-  container = λ m e. c.in_default-read_header.not-Scalar m (c.read_header.ensures ∙ e);
+  before = steps_counted (goal.at.In_default c).In_ok-n;
+  container = λ m e. c.in_default.not-Scalar m (one_value c.in_ok-read_header.was (c.read_header.ensures ∙ e));
 }
 
-searched : (c : After-find_path) → Searched c.args.target.now c.args.path.now
-    c.in-Count.n c.find_path.result
+searched : (c : After-find_path) → Searched c.args.target.now c.args.path.now c.in_ok-n.n c.find_path.result
 searched c = record {
-  before = record {
-    before = record {
-      before = record {
-        octets = both_octets c.args.target.now c.args.path.now c.type_inv.target c.type_inv.path;
-        readable = sym c.check_record.ensures ∙ c.in_default.is;
-      };
-      count = sym c.in-Count.is ∙ c.check_path.ensures;
-    };
-    container = λ m e. c.in_default-read_header.not-Scalar m (c.read_header.ensures ∙ e);
-  };
+  before = container_met (goal.at.After-find_path c).In_default;
   finds = c.find_path.ensures;
 }
 
-pub returns-in-Refused : goal.returns-in-Refused
-returns-in-Refused c = delete_left (octets (goal.at.returns-in-Refused c).After-shared_slice_known-2-1) _ c.check_record.ensures c.in-Refused.is
+pub returns-in_err-check_record : goal.returns-in_err-check_record
+returns-in_err-check_record c =
+    rw (handed_on _ c.from_residual.ensures)
+    (delete_left (octets (goal.at.returns-in_err-check_record c).After-shared_slice_known-2-1) _ c.check_record.ensures c.in_err-check_record.was)
 
-pub returns-in_default-check_path : goal.returns-in_default-check_path
-returns-in_default-check_path c = delete_path (target_read (goal.at.returns-in_default-check_path c).In_default) _ c.check_path.ensures c.in_default-check_path.is
+pub returns-in_err-n : goal.returns-in_err-n
+returns-in_err-n c =
+    rw (handed_on _ c.from_residual-in_err-n.ensures)
+    (delete_path (target_read (goal.at.returns-in_err-n c).In_ok-check_record) _ c.check_path.ensures c.in_err-n.was)
+
+pub returns-in_err-read_header : goal.returns-in_err-read_header
+returns-in_err-read_header c = readable_headed _ c.check_record.ensures c.in_ok-check_record.was c.read_header.ensures c.in_err-read_header.was
 
 pub returns-then-type_code-eq-EXTENSION_CODE : goal.returns-then-type_code-eq-EXTENSION_CODE
 returns-then-type_code-eq-EXTENSION_CODE c =
-    delete_extension (steps_counted (goal.at.returns-then-type_code-eq-EXTENSION_CODE c).In-Count) (sym c.read_header.ensures ∙ c.in-Scalar.is)
+    delete_extension (steps_counted (goal.at.returns-then-type_code-eq-EXTENSION_CODE c).In_ok-n) (sym c.read_header.ensures ∙ (c.in_ok-read_header.was ∙ ap Ok c.in-Scalar.is))
     c.read_jentry.ensures c.type_code.ensures c.if-type_code-eq-EXTENSION_CODE.true _ c.write_copy.ensures
 
 pub returns-in-Scalar : goal.returns-in-Scalar
 returns-in-Scalar c =
-    delete_kind (steps_counted (goal.at.returns-in-Scalar c).In-Count) (sym c.read_header.ensures ∙ c.in-Scalar.is)
+    delete_kind (steps_counted (goal.at.returns-in-Scalar c).In_ok-n) (sym c.read_header.ensures ∙ (c.in_ok-read_header.was ∙ ap Ok c.in-Scalar.is))
     c.read_jentry.ensures c.type_code.ensures c.if-type_code-eq-EXTENSION_CODE.false _
 
 pub returns-then-n-eq0 : goal.returns-then-n-eq0
-returns-then-n-eq0 c = delete_whole (container_met (goal.at.returns-then-n-eq0 c).In_default-read_header) c.if-n-eq0.true _ c.write_copy-then-n-eq0.ensures
+returns-then-n-eq0 c = delete_whole (container_met (goal.at.returns-then-n-eq0 c).In_default) c.if-n-eq0.true _ c.write_copy-then-n-eq0.ensures
 
 pub find_path-requires : goal.find_path-requires
-find_path-requires c = search_ready (container_met (goal.at.find_path-requires c).In_default-read_header)
+find_path-requires c = search_ready (container_met (goal.at.find_path-requires c).In_default)
 
 pub returns-in_default-find_path : goal.returns-in_default-find_path
 returns-in_default-find_path c = delete_none (searched (goal.at.returns-in_default-find_path c).After-find_path) c.in_default-find_path.is _ c.write_copy-in_default-find_path.ensures
 
 pub write_deleted-requires : goal.write_deleted-requires
 write_deleted-requires c =
-    let ready = search_ready (container_met (goal.at.write_deleted-requires c).In_default-read_header) in
-    (ready.1, ready.0, ready.2, omega (arith, c.if-n-eq0.false), delete_finds (searched (goal.at.write_deleted-requires c).After-find_path) c.in-At.is)
+    let ready = search_ready (container_met (goal.at.write_deleted-requires c).In_default) in
+    (ready.1, ready.0, ready.2, omega (arith, c.if-n-eq0.false), delete_finds (searched (goal.at.write_deleted-requires c).After-find_path) c.in-Some.is)
 
 pub returns : goal.returns
-returns c = delete_found (searched (goal.at.returns c).After-find_path) c.in-At.is c.if-n-eq0.false _ c.write_deleted.ensures
+returns c = delete_found (searched (goal.at.returns c).After-find_path) c.in-Some.is c.if-n-eq0.false _ c.write_deleted.ensures

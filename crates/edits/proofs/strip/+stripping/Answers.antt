@@ -1,21 +1,22 @@
 -- `edits::strip::put_stripped` and what it calls in a cycle meet their contracts: the allowance falls with each level.
-use Prim.Native.Nat.{ℕ, ◌-◌}
+use Prim.Native.Nat.{ℕ, ◌+◌, ◌-◌}
 use native.Mathlib.Omega.{arith}
 use mathlib.Core.Path.{◌≡◌, refl, ap, sym, ◌∙◌}
-use lib.Dec.{eqb}
 use lib.ListN.{length, take}
 use Rattle.layout.specs.Bytes.{Octets}
-use Rattle.layout.specs.Parts.{name_in}
+use Rattle.layout.specs.Entry.{length_of}
+use Rattle.layout.specs.Parts.{name_in, behind_member, first_part}
+use Rattle.layout.specs.declared.parts.PartAt.{PartAt}
+use Rattle.layout.specs.declared.parts.Places.{Places}
 use Rattle.layout.proofs.Words.{slice_octets}
 use Rattle.layout.proofs.Pieces.{same_part}
 use Rattle.layout.proofs.Carries.{part_start, part_on}
 use Rattle.layout.proofs.Patches.{length_patch}
-use Rattle.builders.specs.Search.{bound, least}
-use Rattle.builders.specs.declared.search.Found.TheVariants.{Nothing, At}
+use Rattle.builders.specs.Search.{least}
 use Rattle.builders.specs.declared.search.Kept.TheVariants.{NonNull}
 use Rattle.edits.specs.Stripping.{Prepared}
 use Rattle.edits.proofs.Aheads.{searched}
-use Rattle.edits.proofs.Standings.{fewer_on}
+use Rattle.edits.proofs.Standings.{ahead_at, behind_at}
 use Rattle.edits.proofs.Stripped.{NestedItem, item_asked, item_repeats, item_short, item_stripped, item_as_is, member_stripped}
 use Rattle.edits.proofs.Stripped.{no_scalar, no_refusal, handed_asks, handed_back}
 use Rattle.edits.proofs.StripItems.{ArrayAt, array_at, storing_starts, storing_room, ItemNext, item_asks}
@@ -25,12 +26,14 @@ use Rattle.edits.proofs.StripMembers.{sizes_measured, sizes_fit, setting_of, all
 use Rattle.edits.proofs.StripMembers.{members_starts, members_room, members_few, members_asks}
 use Rattle.edits.proofs.StripMembers.{members_repeats, past_room, members_on, members_ends}
 use Rattle.edits.proofs.StripRising.{rising_starts, RisingNext, rising_found, rising_asks, rising_on, rising_passed, rising_ends}
-use Rattle.edits.proofs.strip.+stripping.Goals.{put_item_stripped-Then-type_code-eq-CONTAINER_CODE, put_items_stripped-After-jentry_at, put_items_stripped-After-shared_slice_known-1}
+use Rattle.edits.proofs.strip.+stripping.Goals.{put_item_stripped-Then-type_code-eq-CONTAINER_CODE, put_items_stripped-After-jentry_at-jentry, put_items_stripped-After-shared_slice_known-1}
 use Rattle.edits.proofs.strip.+stripping.Goals.{put_items_stripped-After-struct_known-2-1, put_members_stripped-After-measure_ahead-sizes, put_members_stripped-After-shared_slice_known-1}
 use Rattle.edits.proofs.strip.+stripping.Goals.{put_rising_stripped-After-is_kept, put_rising_stripped-After-shared_slice_known-1, put_rising_stripped-After-struct_known-2-1}
-use Rattle.edits.proofs.strip.+stripping.Goals.{put_rising_stripped-Then-is_kept, put_sorted_stripped-After-shared_slice_known-1, put_sorted_stripped-At-loop-i, put_sorted_stripped-In-At}
+use Rattle.edits.proofs.strip.+stripping.Goals.{put_rising_stripped-Then-is_kept, put_sorted_stripped-After-shared_slice_known-1, put_sorted_stripped-At-loop, put_sorted_stripped-In-Some}
 use Rattle.edits.proofs.strip.+stripping.Goals.{put_stripped-After-read_header}
+use Rattle.edits.proofs.strip.+stripping.Goals.{put_rising_stripped-then-is_kept+in_ok-len, put_rising_stripped-else-is_kept}
 use Rattle.edits.proofs.strip.+stripping.Goals as goal
+use Rattle.std.specs.Prelude.{Ok, Some, None, option_copied}
 
 nested : (t : ℕ) (c : put_item_stripped-Then-type_code-eq-CONTAINER_CODE t) → NestedItem c.args.s.now c.args.item
     c.payload_at-payload.result.now c.args.allowance
@@ -45,17 +48,24 @@ nested t c =
 pub put_item_stripped-put_stripped-requires : goal.put_item_stripped-put_stripped-requires
 put_item_stripped-put_stripped-requires t c = (omega (arith, c.decreases), (item_asked (nested t (goal.at.put_item_stripped-put_stripped-requires t c).Then-type_code-eq-CONTAINER_CODE), c.requires.2))
 
-pub put_item_stripped-returns-in_default : goal.put_item_stripped-returns-in_default
-put_item_stripped-returns-in_default t c = item_repeats (nested t (goal.at.put_item_stripped-returns-in_default t c).Then-type_code-eq-CONTAINER_CODE) _ _ c.put_stripped.ensures c.in_default.is
+pub put_item_stripped-returns-in_err-len : goal.put_item_stripped-returns-in_err-len
+put_item_stripped-returns-in_err-len t c =
+    rw c.from_residual.ensures
+    (item_repeats (nested t (goal.at.put_item_stripped-returns-in_err-len t c).Then-type_code-eq-CONTAINER_CODE) _ _ c.put_stripped.ensures c.in_err-len.was)
 
 pub put_item_stripped-overflow_cast-len : goal.put_item_stripped-overflow_cast-len
-put_item_stripped-overflow_cast-len t c = omega (arith, item_short (nested t (goal.at.put_item_stripped-overflow_cast-len t c).Then-type_code-eq-CONTAINER_CODE) _ _ c.put_stripped.ensures c.in-Len.is)
+put_item_stripped-overflow_cast-len t c =
+    omega (
+      arith,
+      item_short (nested t (goal.at.put_item_stripped-overflow_cast-len t c).Then-type_code-eq-CONTAINER_CODE) _ _
+          c.put_stripped.ensures c.in_ok-len.was,
+    )
 
 pub put_item_stripped-returns-then-type_code-eq-CONTAINER_CODE : goal.put_item_stripped-returns-then-type_code-eq-CONTAINER_CODE
 put_item_stripped-returns-then-type_code-eq-CONTAINER_CODE t c =
     item_stripped (nested t (goal.at.put_item_stripped-returns-then-type_code-eq-CONTAINER_CODE t c).Then-type_code-eq-CONTAINER_CODE) c.args.at c.args.out.now _ _
     c.put_stripped.ensures
-    c.in-Len.is
+    c.in_ok-len.was
     c.encoded.ensures
     c.put_u32.ensures
     c.requires.1
@@ -73,13 +83,13 @@ put_item_stripped-returns t c =
 array_known : (t : ℕ) (c : put_items_stripped-After-shared_slice_known-1 t) → ArrayAt c.args.s.now c.args.n c.args.allowance
 array_known t c = array_at (slice_octets c.args.s.now c.type_inv.s) c.requires.0 c.requires.1
 
-item_next : (t : ℕ) (c : put_items_stripped-After-jentry_at t) → ItemNext c.args.s.now c.args.n c.loop-part.part
-    (record { jentry = c.jentry_at.result; place = c.loop-part.part.place })
-item_next t c = record { more = c.loop-part-test.true; entry = c.jentry_at.ensures; place = refl }
+item_next : (t : ℕ) (c : put_items_stripped-After-jentry_at-jentry t) → ItemNext c.args.s.now c.args.n
+    (record { index = c.loop-i.i; place = c.loop-i.place }) (record { jentry = c.jentry_at-jentry.result; place = c.loop-i.place })
+item_next t c = record { more = c.loop-i-test.true; entry = c.jentry_at-jentry.ensures; place = refl }
 
-pub put_items_stripped-first_part-part-requires : goal.put_items_stripped-first_part-part-requires
-put_items_stripped-first_part-part-requires t c =
-    let known = array_known t (goal.at.put_items_stripped-first_part-part-requires t c).After-shared_slice_known-1 in omega (arith, known.table, known.short)
+pub put_items_stripped-first_part-first-requires : goal.put_items_stripped-first_part-first-requires
+put_items_stripped-first_part-first-requires t c =
+    let known = array_known t (goal.at.put_items_stripped-first_part-first-requires t c).After-shared_slice_known-1 in omega (arith, known.table, known.short)
 
 pub put_items_stripped-overflow_add-here : goal.put_items_stripped-overflow_add-here
 put_items_stripped-overflow_add-here t c = omega (arith, c.requires.2)
@@ -87,68 +97,71 @@ put_items_stripped-overflow_add-here t c = omega (arith, c.requires.2)
 pub put_items_stripped-overflow_add-here-2 : goal.put_items_stripped-overflow_add-here-2
 put_items_stripped-overflow_add-here-2 t c =
     let known = array_known t (goal.at.put_items_stripped-overflow_add-here-2 t c).After-shared_slice_known-1 in
-    omega (arith, c.requires.2, known.table, known.short, same_part c.first_part-part.ensures)
+    omega (arith, c.requires.2, known.table, known.short, same_part c.first_part-first.ensures)
 
 pub put_items_stripped-overflow_cast-n : goal.put_items_stripped-overflow_cast-n
 put_items_stripped-overflow_cast-n t c =
     let known = array_known t (goal.at.put_items_stripped-overflow_cast-n t c).After-shared_slice_known-1 in
     omega (arith, known.table, known.short)
 
-pub put_items_stripped-loop-part-init : goal.put_items_stripped-loop-part-init
-put_items_stripped-loop-part-init t c =
-    (array_known t (goal.at.put_items_stripped-loop-part-init t c).After-shared_slice_known-1, storing_starts _ _ _ c.first_part-part.ensures, part_start _ _ _ c.first_part-part.ensures)
+pub put_items_stripped-loop-i-init : goal.put_items_stripped-loop-i-init
+put_items_stripped-loop-i-init t c =
+    let start : record { index = 0; place = c.first_part-first.result.place } ≡ first_part c.args.n =
+    ap (λ (p : PartAt). record { index = 0; place = p.place }) c.first_part-first.ensures in
+    (array_known t (goal.at.put_items_stripped-loop-i-init t c).After-shared_slice_known-1, storing_starts _ _ _ start, part_start _ _ _ start)
 
-pub put_items_stripped-jentry_at-requires : goal.put_items_stripped-jentry_at-requires
-put_items_stripped-jentry_at-requires t c = omega (arith, storing_room c.loop-part.invariant.1, c.loop-part-test.true)
+pub put_items_stripped-jentry_at-jentry-requires : goal.put_items_stripped-jentry_at-jentry-requires
+put_items_stripped-jentry_at-jentry-requires t c = omega (arith, storing_room c.loop-i.invariant.1, c.loop-i-test.true)
 
 pub put_items_stripped-overflow_sub-allowance : goal.put_items_stripped-overflow_sub-allowance
-put_items_stripped-overflow_sub-allowance t c = omega (arith, c.loop-part.invariant.0.deep)
+put_items_stripped-overflow_sub-allowance t c = omega (arith, c.loop-i.invariant.0.deep)
 
 pub put_items_stripped-put_item_stripped-requires : goal.put_items_stripped-put_item_stripped-requires
 put_items_stripped-put_item_stripped-requires t c =
-    let room = storing_room c.loop-part.invariant.1 in (
-      omega (arith, c.decreases, c.loop-part.invariant.0.deep),
+    let room = storing_room c.loop-i.invariant.1 in (
+      omega (arith, c.decreases, c.loop-i.invariant.0.deep),
       (
-        item_asks c.loop-part.invariant.1 (item_next t (goal.at.put_items_stripped-put_item_stripped-requires t c).After-jentry_at),
-        omega (arith, room, c.loop-part-test.true),
-        omega (arith, room, c.requires.2, c.loop-part.invariant.0.deep, c.loop-part.invariant.0.allowed),
+        item_asks c.loop-i.invariant.1 (item_next t (goal.at.put_items_stripped-put_item_stripped-requires t c).After-jentry_at-jentry),
+        omega (arith, room, c.loop-i-test.true),
+        omega (arith, room, c.requires.2, c.loop-i.invariant.0.deep, c.loop-i.invariant.0.allowed),
       ),
     )
 
-pub put_items_stripped-returns-in_default : goal.put_items_stripped-returns-in_default
-put_items_stripped-returns-in_default t c =
-    storing_repeats c.loop-part.invariant.1 (item_next t (goal.at.put_items_stripped-returns-in_default t c).After-jentry_at) _ _ c.put_item_stripped.ensures c.in_default.is
+pub put_items_stripped-returns-in_err-len : goal.put_items_stripped-returns-in_err-len
+put_items_stripped-returns-in_err-len t c =
+    rw c.from_residual.ensures
+    (storing_repeats c.loop-i.invariant.1 (item_next t (goal.at.put_items_stripped-returns-in_err-len t c).After-jentry_at-jentry) _ _ c.put_item_stripped.ensures c.in_err-len.was)
 
-pub put_items_stripped-overflow_add-here-in-loop-part : goal.put_items_stripped-overflow_add-here-in-loop-part
-put_items_stripped-overflow_add-here-in-loop-part t c = omega (arith, storing_room c.loop-part.invariant.1, c.requires.2, c.loop-part-test.true)
+pub put_items_stripped-overflow_add-here-in-loop-i : goal.put_items_stripped-overflow_add-here-in-loop-i
+put_items_stripped-overflow_add-here-in-loop-i t c = omega (arith, storing_room c.loop-i.invariant.1, c.requires.2, c.loop-i-test.true)
 
-pub put_items_stripped-overflow_add-here-in-loop-part-2 : goal.put_items_stripped-overflow_add-here-in-loop-part-2
-put_items_stripped-overflow_add-here-in-loop-part-2 t c =
+pub put_items_stripped-overflow_add-here-in-loop-i-2 : goal.put_items_stripped-overflow_add-here-in-loop-i-2
+put_items_stripped-overflow_add-here-in-loop-i-2 t c =
     omega (
       arith,
-      storing_room c.loop-part.invariant.1,
+      storing_room c.loop-i.invariant.1,
       c.requires.2,
-      storing_len c.loop-part.invariant.1 (item_next t (goal.at.put_items_stripped-overflow_add-here-in-loop-part-2 t c).After-jentry_at) _ _ c.put_item_stripped.ensures c.in-Len.is,
+      storing_len c.loop-i.invariant.1 (item_next t (goal.at.put_items_stripped-overflow_add-here-in-loop-i-2 t c).After-jentry_at-jentry) _ _ c.put_item_stripped.ensures c.in_ok-len.was,
     )
 
-pub put_items_stripped-part_behind-part-requires : goal.put_items_stripped-part_behind-part-requires
-put_items_stripped-part_behind-part-requires t c = omega (arith, storing_room c.loop-part.invariant.1)
+pub put_items_stripped-overflow_add-place : goal.put_items_stripped-overflow_add-place
+put_items_stripped-overflow_add-place t c = omega (arith, storing_room c.loop-i.invariant.1)
 
-pub put_items_stripped-loop-part-smaller : goal.put_items_stripped-loop-part-smaller
-put_items_stripped-loop-part-smaller t c = omega (arith, c.loop-part-test.true, same_part c.part_behind-part.ensures)
-
-pub put_items_stripped-loop-part-preserved : goal.put_items_stripped-loop-part-preserved
-put_items_stripped-loop-part-preserved t c = (
-  c.loop-part.invariant.0,
-  storing_on c.loop-part.invariant.1 (item_next t (goal.at.put_items_stripped-loop-part-preserved t c).After-jentry_at) _ _ c.put_item_stripped.ensures c.in-Len.is c.part_behind-part.ensures,
-  part_on _ _ _ _ c.loop-part.invariant.2 c.part_behind-part.ensures,
-)
+pub put_items_stripped-loop-i-preserved : goal.put_items_stripped-loop-i-preserved
+put_items_stripped-loop-i-preserved t c =
+    let len = c.payload_len.ensures ∙ ap length_of c.jentry_at-jentry.ensures in
+    let behind = ap (λ (k : ℕ). record { index = c.loop-i.i + 1; place = c.loop-i.place + k }) len in (
+      c.loop-i.invariant.0,
+      storing_on c.loop-i.invariant.1 (item_next t (goal.at.put_items_stripped-loop-i-preserved t c).After-jentry_at-jentry) _ _
+          c.put_item_stripped.ensures c.in_ok-len.was behind,
+      part_on _ _ _ _ c.loop-i.invariant.2 behind,
+    )
 
 pub put_items_stripped-overflow_sub-result : goal.put_items_stripped-overflow_sub-result
-put_items_stripped-overflow_sub-result t c = omega (arith, storing_room c.loop-part.invariant.1)
+put_items_stripped-overflow_sub-result t c = omega (arith, storing_room c.loop-i.invariant.1)
 
 pub put_items_stripped-returns : goal.put_items_stripped-returns
-put_items_stripped-returns t c = storing_ends c.loop-part.invariant.1 _ c.loop-part-test.false refl c.put_u32.ensures
+put_items_stripped-returns t c = storing_ends c.loop-i.invariant.1 _ c.loop-i-test.false refl c.put_u32.ensures
 
 pub put_items_stripped-shape_of-out : goal.put_items_stripped-shape_of-out
 put_items_stripped-shape_of-out t c = ap length (put_items_stripped-returns t (goal.at.put_items_stripped-shape_of-out t c).After-struct_known-2-1).2 ∙ length_patch _ _ _
@@ -206,26 +219,27 @@ put_members_stripped-returns t c =
 rising_octets : (t : ℕ) (c : put_rising_stripped-After-shared_slice_known-1 t) → Octets c.args.s.now
 rising_octets t c = slice_octets c.args.s.now c.type_inv.s
 
-rising_next : (t : ℕ) (c : put_rising_stripped-After-is_kept t) → RisingNext c.args.s.now c.loop-here.here c.read_member-member.result
-    c.ahead_behind-next.result c.is_kept.result
-rising_next t c =
+rising_next : (t : ℕ) (c : put_rising_stripped-After-is_kept t) (at : Places) → at ≡ behind_member c.loop-i.from c.read_member-member.result
+    → RisingNext c.args.s.now (ahead_at c.args.ahead c.loop-i.from c.loop-i.i) c.read_member-member.result
+    (ahead_at c.args.ahead at (c.loop-i.i + 1)) c.is_kept.result
+rising_next t c at e =
     record {
-      more = c.loop-here-test.true;
+      more = c.loop-i-test.true;
       member_is = c.read_member-member.ensures;
-      behind = c.ahead_behind-next.ensures;
+      behind = behind_at c.args.ahead c.loop-i.from at c.loop-i.i c.read_member-member.result e;
       kept_is = c.is_kept.ensures;
     }
 
-rising_least : (t : ℕ) (c : put_rising_stripped-Then-is_kept t) → At c.read_member-member.result
+rising_least : (t : ℕ) (c : put_rising_stripped-Then-is_kept t) → Some c.read_member-member.result
     ≡ least (name_in c.args.s.now)
-    (bound (eqb c.loop-here.invariant.count 0) c.loop-here.invariant.last) Nothing
+    c.loop-i.invariant.last None
     (searched c.args.s.now c.args.ahead.count NonNull)
 rising_least t c =
-    rising_found c.loop-here.invariant (
+    rising_found c.loop-i.invariant (
     record {
-      more = c.loop-here-test.true;
+      more = c.loop-i-test.true;
       member_is = c.read_member-member.ensures;
-      behind = c.ahead_behind-next.ensures;
+      behind = behind_at c.args.ahead c.loop-i.from _ c.loop-i.i c.read_member-member.result refl;
       kept_is = c.is_kept.ensures;
     }
     ) c.if-is_kept.true
@@ -237,59 +251,50 @@ put_rising_stripped-places_for-to-requires t c =
 pub put_rising_stripped-overflow_cast-sizes : goal.put_rising_stripped-overflow_cast-sizes
 put_rising_stripped-overflow_cast-sizes t c = omega (arith, sizes_fit (rising_octets t (goal.at.put_rising_stripped-overflow_cast-sizes t c).After-shared_slice_known-1) c.requires.0)
 
-pub put_rising_stripped-loop-here-init : goal.put_rising_stripped-loop-here-init
-put_rising_stripped-loop-here-init t c =
-    rising_starts (setting_of (rising_octets t (goal.at.put_rising_stripped-loop-here-init t c).After-shared_slice_known-1) c.requires.0 c.requires.1 c.places_for-to.ensures)
+pub put_rising_stripped-loop-i-init : goal.put_rising_stripped-loop-i-init
+put_rising_stripped-loop-i-init t c =
+    rising_starts (setting_of (rising_octets t (goal.at.put_rising_stripped-loop-i-init t c).After-shared_slice_known-1) c.requires.0 c.requires.1 c.places_for-to.ensures)
     c.requires.0.all c.requires.2
 
-pub put_rising_stripped-ahead_behind-next-requires : goal.put_rising_stripped-ahead_behind-next-requires
-put_rising_stripped-ahead_behind-next-requires t c = (c.loop-here.invariant.rest.near, c.loop-here-test.true)
-
 pub put_rising_stripped-overflow_sub-allowance : goal.put_rising_stripped-overflow_sub-allowance
-put_rising_stripped-overflow_sub-allowance t c = omega (arith, c.loop-here.invariant.storing.setting.object_is.levels)
+put_rising_stripped-overflow_sub-allowance t c = omega (arith, c.loop-i.invariant.storing.setting.object_is.levels)
 
 pub put_rising_stripped-put_member_stripped-requires : goal.put_rising_stripped-put_member_stripped-requires
 put_rising_stripped-put_member_stripped-requires t c = (
-  omega (arith, c.decreases, c.loop-here.invariant.storing.setting.object_is.levels),
-  rising_asks c.loop-here.invariant (rising_next t (goal.at.put_rising_stripped-put_member_stripped-requires t c).After-is_kept) c.if-is_kept.true,
+  omega (arith, c.decreases, c.loop-i.invariant.storing.setting.object_is.levels),
+  rising_asks c.loop-i.invariant (rising_next t (goal.at.put_rising_stripped-put_member_stripped-requires t c).After-is_kept _ refl) c.if-is_kept.true,
 )
 
-pub put_rising_stripped-returns-in_default : goal.put_rising_stripped-returns-in_default
-put_rising_stripped-returns-in_default t c =
-    members_repeats c.loop-here.invariant.storing (rising_least t (goal.at.put_rising_stripped-returns-in_default t c).Then-is_kept) _ _
+pub put_rising_stripped-returns-in_err-len : goal.put_rising_stripped-returns-in_err-len
+put_rising_stripped-returns-in_err-len t c =
+    rw c.from_residual.ensures
+    (members_repeats c.loop-i.invariant.storing (rising_least t (goal.at.put_rising_stripped-returns-in_err-len t c).Then-is_kept) _ _
     c.put_member_stripped.ensures
-    c.in_default.is
+    c.in_err-len.was)
 
 pub put_rising_stripped-places_past-to-requires : goal.put_rising_stripped-places_past-to-requires
 put_rising_stripped-places_past-to-requires t c =
-    past_room c.loop-here.invariant.storing (rising_least t (goal.at.put_rising_stripped-places_past-to-requires t c).Then-is_kept) _ _
+    past_room c.loop-i.invariant.storing (rising_least t (goal.at.put_rising_stripped-places_past-to-requires t c).Then-is_kept) _ _
     c.put_member_stripped.ensures
-    c.in-Len.is
+    c.in_ok-len.was
     c.payload_at.ensures
 
-pub put_rising_stripped-loop-here-smaller-in-Len : goal.put_rising_stripped-loop-here-smaller-in-Len
-put_rising_stripped-loop-here-smaller-in-Len t c = fewer_on _ c.read_member-member.result _ c.loop-here-test.true c.ahead_behind-next.ensures
-
-pub put_rising_stripped-loop-here-preserved-in-Len : goal.put_rising_stripped-loop-here-preserved-in-Len
-put_rising_stripped-loop-here-preserved-in-Len t c =
-    rising_on c.loop-here.invariant (rising_next t (goal.at.put_rising_stripped-loop-here-preserved-in-Len t c).After-is_kept) c.if-is_kept.true _ _
-    c.put_member_stripped.ensures
-    c.in-Len.is
-    c.payload_at.ensures
-    c.places_past-to.ensures
-
-pub put_rising_stripped-loop-here-smaller : goal.put_rising_stripped-loop-here-smaller
-put_rising_stripped-loop-here-smaller t c = fewer_on _ c.read_member-member.result _ c.loop-here-test.true c.ahead_behind-next.ensures
-
-pub put_rising_stripped-loop-here-preserved : goal.put_rising_stripped-loop-here-preserved
-put_rising_stripped-loop-here-preserved t c = rising_passed c.loop-here.invariant (rising_next t (goal.at.put_rising_stripped-loop-here-preserved t c).After-is_kept) c.if-is_kept.false
+pub put_rising_stripped-loop-i-preserved : goal.put_rising_stripped-loop-i-preserved
+put_rising_stripped-loop-i-preserved t c =
+    let read = rising_next t (goal.at.put_rising_stripped-loop-i-preserved t c).After-is_kept _ c.places_behind-from.ensures in
+    elim c.if-is_kept.branch [
+      | put_rising_stripped-then-is_kept+in_ok-len w ↦ rw (w.out-is, w.to-is)
+          (rising_on c.loop-i.invariant read w.if-is_kept.true _ _ w.put_member_stripped.ensures w.in_ok-len.was w.payload_at.ensures
+          w.places_past-to.ensures)
+      | put_rising_stripped-else-is_kept w ↦ rw (w.out-is, w.to-is) (rising_passed c.loop-i.invariant read w.if-is_kept.false)
+    ]
 
 pub put_rising_stripped-overflow_sub-result : goal.put_rising_stripped-overflow_sub-result
-put_rising_stripped-overflow_sub-result t c = omega (arith, members_room c.loop-here.invariant.storing)
+put_rising_stripped-overflow_sub-result t c = omega (arith, members_room c.loop-i.invariant.storing)
 
 pub put_rising_stripped-returns : goal.put_rising_stripped-returns
 put_rising_stripped-returns t c =
-    rising_ends c.loop-here.invariant _ c.loop-here-test.false (sizes_measured (rising_octets t (goal.at.put_rising_stripped-returns t c).After-shared_slice_known-1) c.requires.0)
+    rising_ends c.loop-i.invariant _ c.loop-i-test.false (sizes_measured (rising_octets t (goal.at.put_rising_stripped-returns t c).After-shared_slice_known-1) c.requires.0)
     refl c.put_u32.ensures
 
 pub put_rising_stripped-shape_of-out : goal.put_rising_stripped-shape_of-out
@@ -299,14 +304,14 @@ put_rising_stripped-shape_of-out t c = ap length (put_rising_stripped-returns t 
 sorted_octets : (t : ℕ) (c : put_sorted_stripped-After-shared_slice_known-1 t) → Octets c.args.s.now
 sorted_octets t c = slice_octets c.args.s.now c.type_inv.s
 
-sorted_long : (t : ℕ) (c : put_sorted_stripped-At-loop-i t) → length c.loop-i.out ≡ length c.args.out.now
-sorted_long t c = c.loop-i.invariant.stored.as_long ∙ ap length c.put_u32.ensures ∙ length_patch _ _ _
+sorted_long : (t : ℕ) (c : put_sorted_stripped-At-loop t) → length c.loop.out ≡ length c.args.out.now
+sorted_long t c = c.loop.invariant.stored.as_long ∙ ap length c.put_u32.ensures ∙ length_patch _ _ _
 
-sorted_least : (t : ℕ) (c : put_sorted_stripped-In-At t) → At c.in-At.member
+sorted_least : (t : ℕ) (c : put_sorted_stripped-In-Some t) → Some c.in-Some.member
     ≡ least (name_in c.args.s.now)
-    (bound (eqb c.loop-i.i 0) c.loop-i.last.now) Nothing
+    (option_copied c.loop.last) None
     (searched c.args.s.now c.args.ahead.count NonNull)
-sorted_least t c = sym c.in-At.is ∙ found_among (slice_octets c.args.s.now c.type_inv.s) c.requires.0 _ c.next_member.ensures
+sorted_least t c = sym c.in-Some.is ∙ found_among (slice_octets c.args.s.now c.type_inv.s) c.requires.0 _ c.next_searched.ensures
 
 pub put_sorted_stripped-places_for-to-requires : goal.put_sorted_stripped-places_for-to-requires
 put_sorted_stripped-places_for-to-requires t c =
@@ -315,91 +320,79 @@ put_sorted_stripped-places_for-to-requires t c =
 pub put_sorted_stripped-overflow_cast-sizes : goal.put_sorted_stripped-overflow_cast-sizes
 put_sorted_stripped-overflow_cast-sizes t c = omega (arith, sizes_fit (sorted_octets t (goal.at.put_sorted_stripped-overflow_cast-sizes t c).After-shared_slice_known-1) c.requires.0)
 
-pub put_sorted_stripped-loop-i-init : goal.put_sorted_stripped-loop-i-init
-put_sorted_stripped-loop-i-init t c =
-    members_starts (setting_of (sorted_octets t (goal.at.put_sorted_stripped-loop-i-init t c).After-shared_slice_known-1) c.requires.0 c.requires.1 c.places_for-to.ensures) _ _
+pub put_sorted_stripped-loop-init : goal.put_sorted_stripped-loop-init
+put_sorted_stripped-loop-init t c =
+    members_starts (setting_of (sorted_octets t (goal.at.put_sorted_stripped-loop-init t c).After-shared_slice_known-1) c.requires.0 c.requires.1 c.places_for-to.ensures) _
 
-pub put_sorted_stripped-next_member-requires : goal.put_sorted_stripped-next_member-requires
-put_sorted_stripped-next_member-requires t c = all_places (sorted_octets t (goal.at.put_sorted_stripped-next_member-requires t c).After-shared_slice_known-1) c.requires.0
+pub put_sorted_stripped-next_searched-requires : goal.put_sorted_stripped-next_searched-requires
+put_sorted_stripped-next_searched-requires t c = all_places (sorted_octets t (goal.at.put_sorted_stripped-next_searched-requires t c).After-shared_slice_known-1) c.requires.0
 
 pub put_sorted_stripped-shape_of-out-in_default : goal.put_sorted_stripped-shape_of-out-in_default
-put_sorted_stripped-shape_of-out-in_default t c = sorted_long t (goal.at.put_sorted_stripped-shape_of-out-in_default t c).At-loop-i
+put_sorted_stripped-shape_of-out-in_default t c = sorted_long t (goal.at.put_sorted_stripped-shape_of-out-in_default t c).At-loop
 
 pub put_sorted_stripped-returns-in_default : goal.put_sorted_stripped-returns-in_default
 put_sorted_stripped-returns-in_default t c =
-    members_few c.loop-i.invariant c.loop-i-test.true
-    (found_among (sorted_octets t (goal.at.put_sorted_stripped-returns-in_default t c).After-shared_slice_known-1) c.requires.0 _ c.next_member.ensures)
+    members_few c.loop.invariant c.loop-test.true
+    (found_among (sorted_octets t (goal.at.put_sorted_stripped-returns-in_default t c).After-shared_slice_known-1) c.requires.0 _ c.next_searched.ensures)
     c.in_default.is
 
 pub put_sorted_stripped-overflow_sub-allowance : goal.put_sorted_stripped-overflow_sub-allowance
-put_sorted_stripped-overflow_sub-allowance t c = omega (arith, c.loop-i.invariant.setting.object_is.levels)
+put_sorted_stripped-overflow_sub-allowance t c = omega (arith, c.loop.invariant.setting.object_is.levels)
 
 pub put_sorted_stripped-put_member_stripped-requires : goal.put_sorted_stripped-put_member_stripped-requires
 put_sorted_stripped-put_member_stripped-requires t c = (
-  omega (arith, c.decreases, c.loop-i.invariant.setting.object_is.levels),
-  members_asks c.loop-i.invariant (sorted_least t (goal.at.put_sorted_stripped-put_member_stripped-requires t c).In-At) c.loop-i-test.true,
+  omega (arith, c.decreases, c.loop.invariant.setting.object_is.levels),
+  members_asks c.loop.invariant (sorted_least t (goal.at.put_sorted_stripped-put_member_stripped-requires t c).In-Some) c.loop-test.true,
 )
 
-pub put_sorted_stripped-returns-in_default-put_member_stripped : goal.put_sorted_stripped-returns-in_default-put_member_stripped
-put_sorted_stripped-returns-in_default-put_member_stripped t c =
-    members_repeats c.loop-i.invariant (sorted_least t (goal.at.put_sorted_stripped-returns-in_default-put_member_stripped t c).In-At) _ _
-    c.put_member_stripped.ensures c.in_default-put_member_stripped.is
+pub put_sorted_stripped-returns-in_err-len : goal.put_sorted_stripped-returns-in_err-len
+put_sorted_stripped-returns-in_err-len t c =
+    rw c.from_residual.ensures
+    (members_repeats c.loop.invariant (sorted_least t (goal.at.put_sorted_stripped-returns-in_err-len t c).In-Some) _ _
+    c.put_member_stripped.ensures c.in_err-len.was)
 
 pub put_sorted_stripped-places_past-to-requires : goal.put_sorted_stripped-places_past-to-requires
 put_sorted_stripped-places_past-to-requires t c =
-    past_room c.loop-i.invariant (sorted_least t (goal.at.put_sorted_stripped-places_past-to-requires t c).In-At) _ _
+    past_room c.loop.invariant (sorted_least t (goal.at.put_sorted_stripped-places_past-to-requires t c).In-Some) _ _
     c.put_member_stripped.ensures
-    c.in-Len.is
-    c.payload_at-last.ensures
+    c.in_ok-len.was
+    c.payload_at-name.ensures
 
-pub put_sorted_stripped-overflow_add-i : goal.put_sorted_stripped-overflow_add-i
-put_sorted_stripped-overflow_add-i t c = omega (arith, members_room c.loop-i.invariant)
-
-pub put_sorted_stripped-loop-i-smaller : goal.put_sorted_stripped-loop-i-smaller
-put_sorted_stripped-loop-i-smaller t c = omega (arith, c.loop-i-test.true)
-
-pub put_sorted_stripped-loop-i-preserved : goal.put_sorted_stripped-loop-i-preserved
-put_sorted_stripped-loop-i-preserved t c =
-    members_on c.loop-i.invariant (sorted_least t (goal.at.put_sorted_stripped-loop-i-preserved t c).In-At) _ _
+pub put_sorted_stripped-loop-preserved : goal.put_sorted_stripped-loop-preserved
+put_sorted_stripped-loop-preserved t c =
+    members_on c.loop.invariant (sorted_least t (goal.at.put_sorted_stripped-loop-preserved t c).In-Some) _ _
     c.put_member_stripped.ensures
-    c.in-Len.is
-    c.payload_at-last.ensures
+    c.in_ok-len.was
+    c.payload_at-name.ensures
     c.places_past-to.ensures
 
 pub put_sorted_stripped-overflow_sub-result : goal.put_sorted_stripped-overflow_sub-result
-put_sorted_stripped-overflow_sub-result t c = omega (arith, members_room c.loop-i.invariant)
+put_sorted_stripped-overflow_sub-result t c = omega (arith, members_room c.loop.invariant)
 
 pub put_sorted_stripped-shape_of-out : goal.put_sorted_stripped-shape_of-out
-put_sorted_stripped-shape_of-out t c = sorted_long t (goal.at.put_sorted_stripped-shape_of-out t c).At-loop-i
+put_sorted_stripped-shape_of-out t c = sorted_long t (goal.at.put_sorted_stripped-shape_of-out t c).At-loop
 
 pub put_sorted_stripped-returns : goal.put_sorted_stripped-returns
-put_sorted_stripped-returns t c = members_ends c.loop-i.invariant _ c.loop-i-test.false refl c.put_u32.ensures
+put_sorted_stripped-returns t c = members_ends c.loop.invariant _ c.loop-test.false refl c.put_u32.ensures
 
 container_octets : (t : ℕ) (c : put_stripped-After-read_header t) → Octets c.args.s.now
 container_octets t c = slice_octets c.args.s.now c.type_inv.s
 
 pub put_stripped-put_items_stripped-requires : goal.put_stripped-put_items_stripped-requires
 put_stripped-put_items_stripped-requires t c =
-    let asked = handed_asks c.requires.0 (sym c.read_header.ensures ∙ c.in-Array.is) in
+    let asked = handed_asks c.requires.0 (sym c.read_header.ensures ∙ c.in-Ok.is ∙ ap Ok c.in-Array.is) in
     (omega (arith, c.decreases), (asked.0, asked.1, c.requires.1))
 
 pub put_stripped-put_members_stripped-requires : goal.put_stripped-put_members_stripped-requires
 put_stripped-put_members_stripped-requires t c =
-    let asked = handed_asks c.requires.0 (sym c.read_header.ensures ∙ c.in-Object.is) in
+    let asked = handed_asks c.requires.0 (sym c.read_header.ensures ∙ c.in-Ok.is ∙ ap Ok c.in-Object.is) in
     (omega (arith, c.decreases), (asked.0, asked.1, c.requires.1))
 
-pub put_stripped-returns-in-Array : goal.put_stripped-returns-in-Array
-put_stripped-returns-in-Array t c =
-    handed_back c.put_items_stripped.result c.args.s.now c.args.out.now
-    c.put_items_stripped.new.out c.args.at c.put_items_stripped.ensures
-
-pub put_stripped-returns-in-Object : goal.put_stripped-returns-in-Object
-put_stripped-returns-in-Object t c =
-    handed_back c.put_members_stripped.result c.args.s.now c.args.out.now
-    c.put_members_stripped.new.out c.args.at c.put_members_stripped.ensures
-
 pub put_stripped-returns-in-Scalar : goal.put_stripped-returns-in-Scalar
-put_stripped-returns-in-Scalar t c = no_scalar (container_octets t (goal.at.put_stripped-returns-in-Scalar t c).After-read_header) c.requires.0 (sym c.read_header.ensures ∙ c.in-Scalar.is)
+put_stripped-returns-in-Scalar t c =
+    no_scalar (container_octets t (goal.at.put_stripped-returns-in-Scalar t c).After-read_header) c.requires.0
+    (sym c.read_header.ensures ∙ c.in-Ok.is ∙ ap Ok c.in-Scalar.is)
 
-pub put_stripped-returns-in-Refused : goal.put_stripped-returns-in-Refused
-put_stripped-returns-in-Refused t c = no_refusal (container_octets t (goal.at.put_stripped-returns-in-Refused t c).After-read_header) c.requires.0 (sym c.read_header.ensures ∙ c.in-Refused.is)
+pub put_stripped-returns-in_default : goal.put_stripped-returns-in_default
+put_stripped-returns-in_default t c =
+    no_refusal (container_octets t (goal.at.put_stripped-returns-in_default t c).After-read_header) c.requires.0 (sym c.read_header.ensures ∙ c.in_default.is)

@@ -1,9 +1,11 @@
 -- `edits::strip::put_stripped` and what it calls in a cycle meet their contracts: the allowance falls with each level.
-use Prim.Native.Nat.{◌+◌, ◌*◌, ◌-◌}
+use Prim.Native.Nat.{◌+◌, ◌*◌}
 use mathlib.Core.Path.{◌≡◌}
+use Rattle.std.specs.Prelude.{option_copied}
 use Rattle.layout.specs.Parts.{nth_part}
 use Rattle.edits.proofs.StripItems.{ArrayAt, Storing}
 use Rattle.edits.proofs.StripMembers.{StoringMembers}
+use Rattle.edits.proofs.Standings.{ahead_at}
 use Rattle.edits.proofs.StripRising.{StoringRising}
 use Rattle.edits.proofs.strip.+stripping.Given as goal
 
@@ -28,20 +30,15 @@ decreases-put_sorted_stripped l = 5 * l.allowance + 1
 abbrev pub decreases-put_stripped : goal.decreases-put_stripped
 decreases-put_stripped l = 5 * l.allowance + 3
 
-abbrev pub invariant-put_items_stripped-loop-part : goal.invariant-put_items_stripped-loop-part
-invariant-put_items_stripped-loop-part l = (w : ArrayAt l.s l.n l.allowance) × Storing l.s l.n l.allowance l.at w l.initial.out l.out l.here l.part × (l.part ≡ nth_part l.s l.n l.part.index)
+abbrev pub invariant-put_items_stripped-loop-i : goal.invariant-put_items_stripped-loop-i
+invariant-put_items_stripped-loop-i l =
+    (w : ArrayAt l.s l.n l.allowance)
+    × Storing l.s l.n l.allowance l.at w l.initial.out l.out l.here (record { index = l.i; place = l.place })
+    × (record { index = l.i; place = l.place } ≡ nth_part l.s l.n l.i)
 
-abbrev pub decreases-put_items_stripped-loop-part : goal.decreases-put_items_stripped-loop-part
-decreases-put_items_stripped-loop-part l = l.n - l.part.index
+abbrev pub invariant-put_rising_stripped-loop-i : goal.invariant-put_rising_stripped-loop-i
+invariant-put_rising_stripped-loop-i l =
+    StoringRising l.s l.fn.ahead.count l.allowance l.at l.initial.to l.initial.out l.out l.to (ahead_at l.fn.ahead l.from l.i)
 
-abbrev pub invariant-put_rising_stripped-loop-here : goal.invariant-put_rising_stripped-loop-here
-invariant-put_rising_stripped-loop-here l = StoringRising l.s l.initial.here.count l.allowance l.at l.initial.to l.initial.out l.out l.to l.here
-
-abbrev pub decreases-put_rising_stripped-loop-here : goal.decreases-put_rising_stripped-loop-here
-decreases-put_rising_stripped-loop-here l = l.here.count - l.here.index
-
-abbrev pub invariant-put_sorted_stripped-loop-i : goal.invariant-put_sorted_stripped-loop-i
-invariant-put_sorted_stripped-loop-i l = StoringMembers l.s l.ahead.count l.allowance l.at l.sizes l.initial.to l.initial.out l.out l.last l.to l.i
-
-abbrev pub decreases-put_sorted_stripped-loop-i : goal.decreases-put_sorted_stripped-loop-i
-decreases-put_sorted_stripped-loop-i l = l.sizes.count - l.i
+abbrev pub invariant-put_sorted_stripped-loop : goal.invariant-put_sorted_stripped-loop
+invariant-put_sorted_stripped-loop l = StoringMembers l.s l.fn.ahead.count l.allowance l.at l.fn.sizes l.initial.to l.initial.out l.out (option_copied l.last) l.to l.counter

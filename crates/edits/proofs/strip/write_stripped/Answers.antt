@@ -16,11 +16,11 @@ pub returns-in_default : goal.returns-in_default
 returns-in_default c = strip_repeated c.args.s.now c.args.out.now c.args.room _ _ c.put_stripped.ensures c.in_default.is (search rules)
 
 pub returns-then-room-len : goal.returns-then-room-len
-returns-then-room-len c = strip_no_room c.args.s.now c.args.out.now c.args.room _ _ c.put_stripped.ensures _ c.in-Len.is c.if-room-len.true
+returns-then-room-len c = strip_no_room c.args.s.now c.args.out.now c.args.room _ _ c.put_stripped.ensures _ c.in-Some.is c.if-room-len.true
 
 pub returns-then-out-eq0 : goal.returns-then-out-eq0
 returns-then-out-eq0 c =
-    strip_measured c.args.s.now c.args.out.now c.args.room _ _ c.put_stripped.ensures _ c.in-Len.is
+    strip_measured c.args.s.now c.args.out.now c.args.room _ _ c.put_stripped.ensures _ c.in-Some.is
     c.if-room-len.false c.if-out-eq0.true
 
 pub put_stripped-requires-2 : goal.put_stripped-requires-2
@@ -28,5 +28,5 @@ put_stripped-requires-2 c = (strips (goal.at.put_stripped-requires-2 c).After-pu
 
 pub returns : goal.returns
 returns c =
-    strip_has_room c.args.s.now c.args.out.now c.args.room _ _ c.put_stripped.ensures _ c.in-Len.is
+    strip_has_room c.args.s.now c.args.out.now c.args.room _ _ c.put_stripped.ensures _ c.in-Some.is
     c.put_stripped-2.result _ c.if-room-len.false c.put_stripped-2.ensures
