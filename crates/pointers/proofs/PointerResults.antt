@@ -2,7 +2,6 @@
 use Prim.Native.Nat.{ℕ}
 use mathlib.Core.Path.{◌≡◌, ◌∙◌}
 use mathlib.Core.List.{List}
-use mathlib.Core.Option.{some}
 use Rattle.layout.specs.Bytes.{Bytes, Octets}
 use Rattle.layout.specs.Answer.{gives}
 use Rattle.layout.specs.Tree.{Tree}
@@ -13,9 +12,10 @@ use Rattle.edits.proofs.Limited.{Limited}
 use Rattle.edits.proofs.PathResults.{KeptMade, kept_made}
 use Rattle.pointers.specs.Pointer.{point, pointer_of, on_pointer}
 use Rattle.pointers.proofs.Steps.{as_path, pointer_is_path}
+use Rattle.std.specs.Prelude.{Some}
 
 -- What is found is valid, sound, and no deeper or longer.
-pub point_kept : (ks : List Bytes) (t u : Tree) → point ks t ≡ some u → NoMore u t
+pub point_kept : (ks : List Bytes) (t u : Tree) → point ks t ≡ Some u → NoMore u t
 point_kept ks t u e = look_up_kept (as_path ks t) t u (pointer_is_path ks t ∙ e)
 
 abbrev pub PointerMade : Bytes → Bytes → Bytes → Type 0

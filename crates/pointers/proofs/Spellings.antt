@@ -5,15 +5,12 @@ use native.Mathlib.Decide.{dec_lt}
 use mathlib.Core.Path.{◌≡◌, refl, ap, sym, ◌∙◌}
 use mathlib.Core.Bool.{Bool, true, false, cond}
 use mathlib.Core.List.{List, [], ◌∷◌, ◌++◌}
-use mathlib.Core.Option.{some}
 use lib.Dec.{eqb, leb}
 use lib.ListN.{length, get_or, length-append}
 use borrow.Author.Tests.{leb-true, le-leb, eqb-true, eqb-false, ne_eqb}
 use Rattle.layout.specs.Bytes.{Bytes}
 use Rattle.layout.specs.Decimal.{decimal}
 use Rattle.layout.specs.Text.{between, lead, utf8}
-use Rattle.layout.specs.declared.utf8.Lead.{Lead}
-use Rattle.layout.specs.declared.utf8.Lead.TheVariants.{Tails, Bad}
 use Rattle.layout.proofs.Decimals.{decimal_one, decimal_more}
 use Rattle.layout.proofs.Places.{and_both}
 use Rattle.layout.proofs.Texts.{text_rest, rest_first, rest_tail}
@@ -24,6 +21,7 @@ use Rattle.pointers.specs.Token.{unescape}
 use Rattle.pointers.proofs.Tokens.{undo_once, front_plain}
 use Rattle.pointers.proofs.Indexes.{between_one}
 use Rattle.pointers.proofs.TokenTexts.{AllText, High, ready, lead_high, tail_high, one_byte}
+use Rattle.std.specs.Prelude.{Some, None, Option}
 
 -- A ~ is written ~0, a slash ~1, and a slash stands before each name.
 abbrev pub escape : Bytes → Bytes
@@ -106,26 +104,26 @@ spelled_slash [] = refl
 spelled_slash (k ∷ ks) = refl
 
 -- Where no tail byte is due, a text goes on as it starts.
-due_none : (b : Bytes) (low high : ℕ) → text_rest b ready ≡ text_rest b (Tails 0 low high)
+due_none : (b : Bytes) (low high : ℕ) → text_rest b ready ≡ text_rest b (Some (0, low, high))
 unfolding lead
 due_none [] low high = refl
 due_none (x ∷ b) low high = refl
 
-escape_text : (k : Bytes) (l : Lead) → High l → text_rest k l ≡ true → (rest : Bytes) → text_rest rest ready ≡ true
+escape_text : (k : Bytes) (l : Option (ℕ × ℕ × ℕ)) → High l → text_rest k l ≡ true → (rest : Bytes) → text_rest rest ready ≡ true
     → text_rest (escape k ++ rest) l ≡ true
 unfolding lead
-escape_text [] Bad h e rest r = false_true e
-escape_text [] (Tails zero low high) h e rest r = sym (due_none rest low high) ∙ r
-escape_text [] (Tails (suc n) low high) h e rest r = false_true e
-escape_text (x ∷ b) Bad h e rest r = false_true e
-escape_text (x ∷ b) (Tails zero low high) h e rest r =
+escape_text [] None h e rest r = false_true e
+escape_text [] (Some (zero, low, high)) h e rest r = sym (due_none rest low high) ∙ r
+escape_text [] (Some ((suc n), low, high)) h e rest r = false_true e
+escape_text (x ∷ b) None h e rest r = false_true e
+escape_text (x ∷ b) (Some (zero, low, high)) h e rest r =
     go (sym (rest_first x low high b) ∙ e) (λ q. escape_text b ready tt q rest r) (λ q. escape_text b (lead x) (lead_high x) q rest r)
     (eqb x 0x7E) refl (eqb x 0x2F) refl
   where
     go : text_rest b (lead x) ≡ true → (text_rest b ready ≡ true → text_rest (escape b ++ rest) ready ≡ true)
         → (text_rest b (lead x) ≡ true → text_rest (escape b ++ rest) (lead x) ≡ true)
         → (t : Bool) → eqb x 0x7E ≡ t → (s : Bool) → eqb x 0x2F ≡ s
-        → text_rest (cond t (0x7E ∷ 0x30 ∷ escape b) (cond s (0x7E ∷ 0x31 ∷ escape b) (x ∷ escape b)) ++ rest) (Tails zero low high) ≡ true
+        → text_rest (cond t (0x7E ∷ 0x30 ∷ escape b) (cond s (0x7E ∷ 0x31 ∷ escape b) (x ∷ escape b)) ++ rest) (Some (zero, low, high)) ≡ true
     go k f g true i s j =
         let z : x ≡ 0x7E = eqb-true x 0x7E i in
         one_byte 0x7E low high (0x30 ∷ escape b ++ rest) refl ∙ (one_byte 0x30 0x80 0xBF (escape b ++ rest) refl ∙ f (rw z at k))
@@ -133,11 +131,11 @@ escape_text (x ∷ b) (Tails zero low high) h e rest r =
         let z : x ≡ 0x2F = eqb-true x 0x2F j in
         one_byte 0x7E low high (0x31 ∷ escape b ++ rest) refl ∙ (one_byte 0x31 0x80 0xBF (escape b ++ rest) refl ∙ f (rw z at k))
     go k f g false i false j = rest_first x low high (escape b ++ rest) ∙ g k
-escape_text (x ∷ b) (Tails (suc n) low high) h e rest r =
-    let w = and_both (between low high x) (text_rest b (Tails n 0x80 0xBF)) (sym (rest_tail x n low high b) ∙ e) in
+escape_text (x ∷ b) (Some ((suc n), low, high)) h e rest r =
+    let w = and_both (between low high x) (text_rest b (Some (n, 0x80, 0xBF))) (sym (rest_tail x n low high b) ∙ e) in
     let m = leb-true low x (and_both (leb low x) (leb x high) w.0).0 in
     rw (ne_eqb x 0x7E (λ q. omega (arith, h, m, q)), ne_eqb x 0x2F (λ q. omega (arith, h, m, q)), w.0)
-    (escape_text b (Tails n 0x80 0xBF) (tail_high n) w.1 rest r)
+    (escape_text b (Some (n, 0x80, 0xBF)) (tail_high n) w.1 rest r)
 
 spelled_text : (ks : List Bytes) → AllText ks → text_rest (spelled ks) ready ≡ true
 unfolding utf8 lead
@@ -206,19 +204,19 @@ decimal_writes (suc most) v z l = go (decimal_writes most (v / 10)) (dec_lt v 10
           alone = λ e. absurd (many (omega (arith, e)));
         })
 
-index_writes : (v : ℕ) (b : Bytes) → Writes v b → index_of b ≡ some v
+index_writes : (v : ℕ) (b : Bytes) → Writes v b → index_of b ≡ Some v
 unfolding index_of
 index_writes v [] w = absurd (w.some_digit refl)
-index_writes v (x ∷ []) w = rw (and_both (between 0x30 0x39 x) true w.all).0 (ap some (omega (arith, w.value)))
+index_writes v (x ∷ []) w = rw (and_both (between 0x30 0x39 x) true w.all).0 (ap Some (omega (arith, w.value)))
 index_writes v (x ∷ y ∷ b) w =
     let d = and_both (between 0x30 0x39 x) (digits (y ∷ b)) w.all in
     let first : x ≡ 0x30 → ⊥ = λ e. go e (dec_lt 0 v) in
-    rw (between_one x first, d.0, d.1) (ap some w.value)
+    rw (between_one x first, d.0, d.1) (ap Some w.value)
   where
     go : x ≡ 0x30 → Dec (0 < v) → ⊥
     go e (yes more) = w.leads more e
     go e (no none) = omega (arith, w.alone (omega (arith, none)))
 
 -- Every place of an array has its token: its decimal text, as `put_decimal` of layout writes it.
-pub index_spelled : (most i : ℕ) → (most ≡ 0 → ⊥) → i < 10 ^ most → index_of (decimal most i) ≡ some i
+pub index_spelled : (most i : ℕ) → (most ≡ 0 → ⊥) → i < 10 ^ most → index_of (decimal most i) ≡ Some i
 index_spelled most i z l = index_writes i (decimal most i) (decimal_writes most i z l)

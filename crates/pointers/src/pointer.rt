@@ -1,76 +1,70 @@
 // Look-up by a pointer.
-ghost use Rattle.std.specs.Prelude.{◌≡◌, ◌≤◌, length};
+ghost use Rattle.std.specs.Prelude.{◌≡◌, ◌≤◌, length, Ok};
 ghost use Rattle.layout.specs.Read.{nested};
 ghost use Rattle.layout.specs.Check.{checked};
 ghost use Rattle.layout.specs.Ended.{Ended};
 ghost use Rattle.layout.specs.Room.{EndedIn};
-ghost use Rattle.layout.specs.declared.check.Check.TheVariants.{Readable};
 ghost use Rattle.edits.specs.Held.{Stands, Leads, Finds};
 ghost use Rattle.pointers.specs.Pointer.{undo, tokens, token_into, point, on_pointer};
 
-use crate::token::{find_token, is_pointer, token_end};
-use edits::path::{Item, item_in, write_copy, write_item};
-use layout::check::{Check, check_record};
+use crate::token::{SLASH, find_token, is_pointer};
+use edits::path::{item_in, write_copy, write_item};
+use layout::check::check_record;
 use layout::constants::CONTAINER_CODE;
 use layout::ending::Ending;
 use layout::jentry::{encoded, type_code};
 use layout::parts::{ItemAt, payload_at};
 use layout::refusal::Refusal;
-use layout::util::{Header, read_header, slice};
+use layout::util::{Header, read_header};
 
 // The item that a token finds, from an item of the record on.
-fn step_from(s: &[u8], item: ItemAt, token: &[u8]) -> Item
+fn step_from(s: &[u8], item: ItemAt, token: &[u8]) -> Option<ItemAt>
     requires { Stands s.now item }
     ensures { Leads s.now item (token_into (undo token.now)) result }
 {
     if type_code(item.jentry) != CONTAINER_CODE {
-        return Item::Nothing;
+        return None;
     }
     let inner = payload_at(s, item);
     item_in(inner, item.place, find_token(inner, token))
 }
 
-// What a pointer finds in a container: each turn starts at the slash before a token.
-fn find_pointer(s: &[u8], pointer: &[u8]) -> Item
-    requires { (length s.now ≤ 65536) × (checked (nested 64 s.now) ≡ Readable) }
+// What a pointer finds in a container: its tokens stand between slashes, behind the one at its front.
+fn find_pointer(s: &[u8], pointer: &[u8]) -> Option<ItemAt>
+    requires { (length s.now ≤ 65536) × (checked (nested 64 s.now) ≡ Ok tt) }
     ensures { Finds s.now (point (tokens pointer.now)) result }
 {
     let mut item = ItemAt {
         jentry: encoded(CONTAINER_CODE, s.len() as u32),
         place: 0,
     };
-    let mut slash = 0;
-    while slash < pointer.len() {
-        let start = slash + 1;
-        let end = token_end(pointer, start);
-        let Item::At(next) = step_from(s, item, slice(pointer, start, end - start)) else {
-            return Item::Nothing;
-        };
-        item = next;
-        slash = end;
+    let [_, tokens @ ..] = pointer else {
+        return Some(item);
+    };
+    for token in tokens.split(|byte| *byte == SLASH) {
+        item = step_from(s, item, token)?;
     }
-    Item::At(item)
+    Some(item)
 }
 
-// Looks up what a pointer finds in a record, where it goes into `room` bytes.
+// Looks up what a pointer finds in a record, where it goes into `room` bytes. It is get_by_keypath_in of edits but for what is read of
+// the pointer, what is empty and what is searched: a function for both would take three closures to share four tests.
 pub fn get_by_pointer_in(target: &[u8], pointer: &[u8], out: &mut [u8], room: usize) -> Ending
     ensures { EndedIn result out.old out.new
         (on_pointer target.now pointer.now room) }
 {
-    if let Check::Refused(refusal) = check_record(target) {
-        return Ending::Refused(refusal);
-    }
+    check_record(target)?;
     if !is_pointer(pointer) {
-        return Ending::Refused(Refusal::Pointer);
+        return Err(Refusal::Pointer);
     }
     if pointer.len() == 0 {
         return write_copy(target, out, room);
     }
-    if let Header::Scalar(_) = read_header(target) {
-        return Ending::Absent;
+    if let Header::Scalar(_) = read_header(target)? {
+        return Ok(None);
     }
-    let Item::At(item) = find_pointer(target, pointer) else {
-        return Ending::Absent;
+    let Some(item) = find_pointer(target, pointer) else {
+        return Ok(None);
     };
     write_item(target, item, out, room)
 }

@@ -1,224 +1,159 @@
 // Pointers as text: which texts are pointers, their tokens, and what a token finds in a container.
-ghost use Rattle.std.specs.Prelude.{◌≡◌, ◌+◌, ◌^◌, ◌≤◌, ◌<◌, length, drop};
+ghost use Rattle.std.specs.Prelude.{◌≡◌, ◌+◌, ◌^◌, ◌≤◌, ◌<◌, length, drop, Ok, [], ◌∷◌, MatchOption};
 ghost use Rattle.layout.specs.Order.{same_bytes};
 ghost use Rattle.layout.specs.Parts.{names_of};
 ghost use Rattle.layout.specs.Read.{header};
 ghost use Rattle.layout.specs.declared.util.Header.TheVariants.{Object};
-ghost use Rattle.edits.specs.Spot.{place_told, first, spot_at, spot_member, spot};
-ghost use Rattle.pointers.specs.Pointer.{has_slash, escape_good, escaped, is_pointer};
+ghost use Rattle.edits.specs.Spot.{first, spot_at, spot_member, spot};
+ghost use Rattle.pointers.specs.Pointer.{has_slash, escape_good, escaped, is_pointer, marked};
 ghost use Rattle.pointers.specs.Pointer.{undo, index_of};
-ghost use Rattle.pointers.specs.Token.{token_length, plain, Undoes, padded};
+ghost use Rattle.pointers.specs.Token.{unescape, undone_bytes, plain, padded};
 ghost use Rattle.pointers.specs.Token.{index_in, token_at};
 
-use edits::find::{Place, Spot, find_step, item_at, value_of};
+use edits::find::{find_name, find_step, item_at, value_of};
 use layout::constants::STRING_CODE;
-use layout::jentry::{encoded, jentry_at, payload_len};
-use layout::parts::{PartAt, first_part};
+use layout::jentry::encoded;
+use layout::parts::PartAt;
 use layout::utf8::is_utf8;
 use layout::util::{Header, byte, read_header, slice};
 
 // What stands before each token, and what an escape starts with.
-const SLASH: u8 = b'/';
+pub(crate) const SLASH: u8 = b'/';
 
 const TILDE: u8 = b'~';
 
-// A byte of a token, undone, and the place behind what it is written in.
+// The bytes of a token with ~1 and ~0 undone, from what is left of it on.
 #[derive(Clone, Copy)]
-pub(crate) struct Undone {
-    byte: u8,
-    next: usize,
+pub(crate) struct Undone<'a> {
+    left: &'a [u8],
+}
+
+impl<'a> Iterator for Undone<'a> {
+    ghost use Rattle.std.specs.Iterator.{YieldsFirst, item_count};
+
+    type Item = u8;
+
+    ghost next_gives = { YieldsFirst undone_bytes };
+
+    ghost remaining = { item_count undone_bytes };
+
+    fn next(&mut self) -> Option<u8> {
+        let (byte, left) = first_undone(self.left)?;
+        self.left = left;
+        Some(byte)
+    }
+}
+
+// The first byte of a token, with ~1 and ~0 undone, and what is left behind it.
+#[tactic(auto, using(crate::proofs::Tokens::undoing))]
+fn first_undone(token: &[u8]) -> Option<(u8, &[u8])>
+    ensures { MatchOption result (unescape token.now ≡ []) (λ p. unescape token.now ≡ p.0 ∷ unescape p.1.now) }
+{
+    match token {
+        [TILDE, b'1', left @ ..] => Some((SLASH, left)),
+        [TILDE, b'0', left @ ..] => Some((TILDE, left)),
+        [byte, left @ ..] => Some((*byte, left)),
+        [] => None,
+    }
 }
 
 // Whether the text is empty or starts with a slash.
+#[tactic(auto, using(crate::proofs::Texts::slashes))]
 fn has_slash(text: &[u8]) -> bool
     ensures { result ≡ has_slash text.now }
 {
-    (text.len() == 0) | (byte(text, 0) == SLASH)
+    text.is_empty() || text[0] == SLASH
 }
 
-// Whether 0 or 1 stands behind the byte at a place, where that is a ~.
-fn is_escape(text: &[u8], i: usize) -> bool
-    requires { i < length text.now }
-    ensures { result ≡ escape_good (drop i text.now) }
+// Whether a text starts with 0 or 1, one of which is to stand behind a ~.
+#[tactic(auto, using(crate::proofs::Texts::marks))]
+fn is_marked(text: &[u8]) -> bool
+    ensures { result ≡ marked text.now }
 {
-    let mark = byte(text, i + 1);
-    (text[i] != TILDE) | ((b'0' <= mark) & (mark <= b'1'))
+    matches!(text, [b'0' | b'1', ..])
 }
 
 // Whether behind each ~ stands 0 or 1.
 fn is_escaped(text: &[u8]) -> bool
     ensures { result ≡ escaped text.now }
 {
-    let mut i = 0;
-    while i < text.len() {
-        if !is_escape(text, i) {
-            return false;
-        }
-        i += 1;
-    }
-    true
+    text.split(|byte| *byte == TILDE)
+        .skip(1)
+        .all(|behind| is_marked(behind))
 }
 
 // Whether a text is a pointer.
+#[tactic(auto, unfolding(crate::specs::Pointer::is_pointer))]
 pub fn is_pointer(text: &[u8]) -> bool
     ensures { result ≡ is_pointer text.now }
 {
-    if !is_utf8(text) {
-        return false;
-    }
-    if !has_slash(text) {
-        return false;
-    }
-    is_escaped(text)
-}
-
-// Where the token that starts at a place ends: at the next slash, or at the end.
-pub(crate) fn token_end(text: &[u8], start: usize) -> usize
-    requires { start ≤ length text.now }
-    ensures { (result ≡ start + token_length (drop start text.now)) × (result ≤ length text.now) }
-{
-    let mut end = start;
-    while end < text.len() {
-        if text[end] == SLASH {
-            return end;
-        }
-        end += 1;
-    }
-    end
-}
-
-// The byte of a token at a place, with ~1 and ~0 undone.
-fn unescaped(token: &[u8], i: usize) -> Undone
-    requires { i < length token.now }
-    ensures { Undoes token.now i result }
-{
-    let first = token[i];
-    let next = i + 1;
-    if first != TILDE {
-        return Undone { byte: first, next };
-    }
-    match byte(token, next) {
-        b'1' => Undone {
-            byte: SLASH,
-            next: next + 1,
-        },
-        b'0' => Undone {
-            byte: TILDE,
-            next: next + 1,
-        },
-        _ => Undone { byte: first, next },
-    }
+    is_utf8(text) && has_slash(text) && is_escaped(text)
 }
 
 // Whether a token has no ~, so that it is the name that it stands for.
 fn is_plain(token: &[u8]) -> bool
     ensures { result ≡ plain token.now }
 {
-    let mut i = 0;
-    while i < token.len() {
-        if token[i] == TILDE {
-            return false;
-        }
-        i += 1;
-    }
-    true
+    !token.contains(&TILDE)
 }
 
 // Whether a token, undone, is this name.
 fn is_named(token: &[u8], name: &[u8]) -> bool
     ensures { result ≡ same_bytes (undo token.now) name.now }
 {
-    let mut i = 0;
-    let mut j = 0;
-    while i < token.len() {
-        let undone = unescaped(token, i);
-        let byte = undone.byte;
-        if name.len() <= j {
-            return false;
-        }
-        if byte != name[j] {
-            return false;
-        }
-        i = undone.next;
-        j += 1;
-    }
-    name.len() <= j
+    Undone { left: token }.eq(name.iter().copied())
 }
 
 // Whether a token starts with a zero that more stands behind.
+#[tactic(auto, using(crate::proofs::Indexes::padding))]
 fn is_padded(token: &[u8]) -> bool
     ensures { result ≡ padded token.now }
 {
-    (1 < token.len()) & (byte(token, 0) == b'0')
+    matches!(token, [b'0', _, ..])
 }
 
 // Which of n items a token means: 0, or digits without a leading zero. A token with a ~ is no index, undone or not, so that its
 // bytes are read as they stand. The number only grows, so that it is enough to have reached n: no sum wraps.
-fn token_place(token: &[u8], n: usize) -> Place
+fn token_place(token: &[u8], n: usize) -> Option<usize>
     requires { n < 2 ^ 29 }
-    ensures { result ≡ place_told (index_in (index_of (undo token.now)) n) }
+    ensures { result ≡ index_in (index_of (undo token.now)) n }
 {
-    if token.len() == 0 {
-        return Place::Nothing;
-    }
-    if is_padded(token) {
-        return Place::Nothing;
+    if token.is_empty() || is_padded(token) {
+        return None;
     }
     let mut k = 0;
-    let mut i = 0;
-    while i < token.len() {
-        let digit = token[i];
-        if (n <= k) | ((digit < b'0') | (b'9' < digit)) {
-            return Place::Nothing;
+    for digit in token {
+        if n <= k || !digit.is_ascii_digit() {
+            return None;
         }
-        k = k * 10 + (digit - b'0') as usize;
-        i += 1;
+        k = k * 10 + (*digit - b'0') as usize;
     }
     if k < n {
-        return Place::At(k);
+        return Some(k);
     }
-    Place::Nothing
-}
-
-// The first of n names that a token is.
-fn find_named(s: &[u8], n: usize, token: &[u8]) -> Spot
-    requires { n < 2 ^ 29 }
-    ensures { result ≡ spot_at s.now (n + n) (first (undo token.now) (names_of s.now n)) }
-{
-    let first = first_part(n + n);
-    let mut place = first.place;
-    let mut i = 0;
-    while i < n {
-        let len = payload_len(jentry_at(s, i)) as usize;
-        if is_named(token, slice(s, place, len)) {
-            return Spot::At(PartAt { index: i, place });
-        }
-        place += len;
-        i += 1;
-    }
-    Spot::Nothing
+    None
 }
 
 // The value of the first of n members that a token names. Most tokens have nothing to be undone: such a one is the name of a path's
 // step, of whose entry the code alone counts.
-fn find_value(s: &[u8], n: usize, token: &[u8]) -> Spot
-    requires { (n < 2 ^ 29) × (header s.now ≡ Object n) }
+fn find_value(s: &[u8], n: usize, token: &[u8]) -> Option<PartAt>
+    requires { (n < 2 ^ 29) × (header s.now ≡ Ok (Object n)) }
     ensures { result ≡ spot_member s.now n (first (undo token.now) (names_of s.now n)) }
 {
     if is_plain(token) {
         return find_step(s, encoded(STRING_CODE, 0), token);
     }
-    value_of(s, n, find_named(s, n, token))
+    value_of(s, n, find_name(s, n, |name| is_named(token, name)))
 }
 
 // The part that a token finds in a record; a token on a scalar finds nothing.
-pub(crate) fn find_token(s: &[u8], token: &[u8]) -> Spot
+pub(crate) fn find_token(s: &[u8], token: &[u8]) -> Option<PartAt>
     ensures { result ≡ spot (header s.now) s.now (token_at (header s.now) token.now) }
 {
     match read_header(s) {
-        Header::Array(n) => item_at(s, n, token_place(token, n)),
-        Header::Object(n) => find_value(s, n, token),
-        Header::Scalar(_) => Spot::Nothing,
-        Header::Refused(_) => Spot::Nothing,
+        Ok(Header::Array(n)) => item_at(s, n, token_place(token, n)),
+        Ok(Header::Object(n)) => find_value(s, n, token),
+        Ok(Header::Scalar(_)) => None,
+        Err(_) => None,
     }
 }

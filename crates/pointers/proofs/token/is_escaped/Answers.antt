@@ -1,22 +1,22 @@
 -- `pointers::token::is_escaped` meets its contract.
-use borrow.Author.Tests.{not-true, not-false}
-use mathlib.Core.Path.{refl}
-use Rattle.pointers.proofs.Texts.{escaped_bad, escaped_more, escaped_end}
-use Rattle.std.proofs.Common.{ap, not}
+use mathlib.Core.Path.{◌∙◌}
+use lib.Dec.{eqb}
+use borrow.Author.Tests.{tests}
+use Rattle.std.proofs.Common.{rules}
+use Rattle.std.proofs.lemmas.Iterator.Consumers.{YieldsList-at}
+use Rattle.std.proofs.lemmas.Iterator.Adapters.{YieldsList-from_skip}
+use Rattle.std.proofs.lemmas.Iterator.Search.{all_from_yields_List}
+use Rattle.std.proofs.lemmas.Iterator.Splits.{YieldsList-from_slice_split}
+use Rattle.pointers.specs.Pointer.{marked}
+use Rattle.pointers.proofs.Texts.{escaped_parts}
 use Rattle.pointers.proofs.token.is_escaped.Goals as goal
 
-pub loop-i-init : goal.loop-i-init
-loop-i-init c = refl
-
-pub returns-then-not-is_escape : goal.returns-then-not-is_escape
-returns-then-not-is_escape c =
-    escaped_bad _ _ c.loop-i.invariant c.loop-i-test.true _ c.is_escape.ensures
-    (not-true _ (ap not c.if-not-is_escape.true))
-
-pub loop-i-preserved : goal.loop-i-preserved
-loop-i-preserved c =
-    escaped_more _ _ c.loop-i.invariant c.loop-i-test.true _ c.is_escape.ensures
-    (not-false _ (ap not c.if-not-is_escape.false))
-
 pub returns : goal.returns
-returns c = escaped_end _ c.loop-i.i c.loop-i.invariant c.loop-i-test.false
+returns c =
+    all_from_yields_List marked _ _ _ c.all.ensures.ran
+    (YieldsList-from_skip 1
+    (YieldsList-at c.skip.ensures.source
+    (YieldsList-from_slice_split _ (λ x. eqb x 0x7E) c.args.text.now c.split.ensures.rest c.split.ensures.done c.split.ensures.closure (λ x b q k. search (rules, tests))))
+    c.skip.ensures.count)
+    (λ x b q k. search (rules, tests))
+    ∙ escaped_parts c.args.text.now
