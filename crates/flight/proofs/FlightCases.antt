@@ -10,8 +10,6 @@ use Rattle.layout.specs.Encode.{encode}
 use Rattle.layout.specs.Order.{order, before, same_bytes}
 use Rattle.layout.specs.Check.{checked}
 use Rattle.layout.specs.Ended.{Outcome, result, refusal}
-use Rattle.layout.specs.declared.check.Check.{Check}
-use Rattle.layout.specs.declared.check.Check.TheVariants.{Readable, Refused}
 use Rattle.layout.specs.declared.refusal.Refusal.TheVariants.{Short, Layout, Path, Kind, Buffer, Profile}
 use Rattle.layout.proofs.Lists.{Each}
 use Rattle.layout.proofs.Cases.{◌▸◌, ◌also◌}
@@ -19,11 +17,13 @@ use Rattle.builders.specs.Order.{has, distinct}
 use Rattle.edits.specs.Path.{on_path}
 use Rattle.edits.specs.Strip.{on_one}
 use Rattle.flight.specs.Flight.{flight, flight_delete_by, flight_strip, on_flights}
+use Rattle.std.specs.Prelude.{Ok, Err, Result}
+use Rattle.layout.specs.declared.refusal.Refusal.{Refusal}
 
 -- ---- what a line says
 
 data Line : Type 0 where
-  says : Bytes → Check → Line
+  says : Bytes → Result (Unit {0}) Refusal → Line
   ends : Outcome → Outcome → Line
 
 abbrev Holds : Line → Type 0
@@ -89,37 +89,37 @@ objects (suc n) = object (member (0x61 ∷ []) (objects n) empty)
 abbrev table : List Line
 table =
     -- "Sound": A is, and D is not.
-    says A Readable
-    ∷ says no_members Readable
-    ∷ says root_null Readable
-    ∷ says D (Refused Profile)
+    says A (Ok tt)
+    ∷ says no_members (Ok tt)
+    ∷ says root_null (Ok tt)
+    ∷ says D (Err Profile)
     -- "At most 8 deep".
-    ∷ says (encode (arrays 7)) Readable
-    ∷ says (encode (arrays 8)) (Refused Profile)
-    ∷ says (encode (objects 7)) Readable
-    ∷ says (encode (objects 8)) (Refused Profile)
+    ∷ says (encode (arrays 7)) (Ok tt)
+    ∷ says (encode (arrays 8)) (Err Profile)
+    ∷ says (encode (objects 7)) (Ok tt)
+    ∷ says (encode (objects 8)) (Err Profile)
     -- "Names of 1 to 32 characters": é is one character in two bytes; a string may be empty.
-    ∷ says (named []) (Refused Profile)
-    ∷ says (named (replicate 32 0x61)) Readable
-    ∷ says (named (replicate 33 0x61)) (Refused Profile)
-    ∷ says (named (times 32 (0xC3 ∷ 0xA9 ∷ []))) Readable
-    ∷ says (named (times 33 (0xC3 ∷ 0xA9 ∷ []))) (Refused Profile)
-    ∷ says (0x20000000 ▸ 0x10000000 ▸ []) Readable
+    ∷ says (named []) (Err Profile)
+    ∷ says (named (replicate 32 0x61)) (Ok tt)
+    ∷ says (named (replicate 33 0x61)) (Err Profile)
+    ∷ says (named (times 32 (0xC3 ∷ 0xA9 ∷ []))) (Ok tt)
+    ∷ says (named (times 33 (0xC3 ∷ 0xA9 ∷ []))) (Err Profile)
+    ∷ says (0x20000000 ▸ 0x10000000 ▸ []) (Ok tt)
     -- "No extension, float, decimal, NaN or infinity", at the root and inside; integers of every kind.
-    ∷ says (0x20000000 ▸ 0x60000001 ▸ 0x07 ∷ []) (Refused Profile)
-    ∷ says (0x80000001 ▸ 0x60000001 ▸ 0x07 ∷ []) (Refused Profile)
-    ∷ says (root_number (0x60 ∷ replicate 8 0)) (Refused Profile)
-    ∷ says (root_number (0x70 ∷ replicate 9 0)) (Refused Profile)
-    ∷ says (root_number (0x10 ∷ [])) (Refused Profile)
-    ∷ says (root_number (0x20 ∷ [])) (Refused Profile)
-    ∷ says (root_number (0x30 ∷ [])) (Refused Profile)
-    ∷ says (number_in (0x10 ∷ [])) (Refused Profile)
-    ∷ says (root_number (0x00 ∷ [])) Readable
-    ∷ says (root_number (0x40 ∷ 0xFF ∷ [])) Readable
-    ∷ says (number_in (0x50 ∷ 0x01 ∷ 0x00 ∷ [])) Readable
+    ∷ says (0x20000000 ▸ 0x60000001 ▸ 0x07 ∷ []) (Err Profile)
+    ∷ says (0x80000001 ▸ 0x60000001 ▸ 0x07 ∷ []) (Err Profile)
+    ∷ says (root_number (0x60 ∷ replicate 8 0)) (Err Profile)
+    ∷ says (root_number (0x70 ∷ replicate 9 0)) (Err Profile)
+    ∷ says (root_number (0x10 ∷ [])) (Err Profile)
+    ∷ says (root_number (0x20 ∷ [])) (Err Profile)
+    ∷ says (root_number (0x30 ∷ [])) (Err Profile)
+    ∷ says (number_in (0x10 ∷ [])) (Err Profile)
+    ∷ says (root_number (0x00 ∷ [])) (Ok tt)
+    ∷ says (root_number (0x40 ∷ 0xFF ∷ [])) (Ok tt)
+    ∷ says (number_in (0x50 ∷ 0x01 ∷ 0x00 ∷ [])) (Ok tt)
     -- 1 to 5, and then 12.
-    ∷ says cut_short (Refused Short)
-    ∷ says (0x80000001 ▸ 0x70000000 ▸ []) (Refused Layout)
+    ∷ says cut_short (Err Short)
+    ∷ says (0x80000001 ▸ 0x70000000 ▸ []) (Err Layout)
     -- "Each result has the bytes that the plain edit gives".
     ∷ ends (on_flights A true_b 24) (result (0x40000002 ▸ 0x10000001 ▸ 0x10000001 ▸ 0x20000002 ▸ 0x40000000 ▸ 0x61 ∷ 0x62 ∷ 0x50 ∷ 0x01 ∷ []))
     ∷ ends (on_path flight_delete_by A name_a 4) (result no_members)

@@ -3,7 +3,6 @@ use Prim.Native.Nat.{ℕ}
 use mathlib.Core.Path.{◌≡◌, refl, ap, sym, subst, ◌∙◌}
 use mathlib.Core.Logic.{◌↔◌}
 use mathlib.Core.List.{List}
-use mathlib.Core.Option.{some}
 use Rattle.layout.specs.Bytes.{Bytes, Octets}
 use Rattle.layout.specs.Answer.{Answer, gives, refused, ◌>>=◌}
 use Rattle.layout.specs.Tree.{Tree, null, boolean, number, string, extension, array, object}
@@ -26,6 +25,7 @@ use Rattle.edits.proofs.OperatorResults.{concat_made, strip_made}
 use Rattle.flight.specs.Flight.{Flight, profiled, flight_delete_by, flight_strip, flight_concat, on_flights}
 use Rattle.flight.specs.Claims.{FlightRecord, Flights}
 use Rattle.flight.proofs.Inside.{profiled_gives, profiled_flight, delete_flight, strip_flight, concat_leaves}
+use Rattle.std.specs.Prelude.{Some}
 
 -- The tree of a flight record is that which it reads as.
 flight_of : (b : Bytes) (t : Tree) → FlightRecord b → read b ≡ gives t → Flight t
@@ -34,7 +34,7 @@ flight_of b t f e = subst Flight (gives_inj (sym f.reads ∙ e)) f.flight
 -- ---- delete
 
 pub delete_lines : (p : List Step) (t : Tree)
-    → flight_delete_by p t ≡ (profiled t >>= λ _. deletable t >>= λ u. profiled (delete p u) >>= λ v. gives (some v))
+    → flight_delete_by p t ≡ (profiled t >>= λ _. deletable t >>= λ u. profiled (delete p u) >>= λ v. gives (Some v))
 delete_lines p t = unfold flight_delete_by in refl
 
 -- Of a flight record the two edits say the same.
@@ -43,7 +43,7 @@ unfolding delete_by ◌>>=◌
 delete_same p t f = delete_lines p t ∙ rw (profiled_gives t f) (by_kind t f)
   where
     by_kind : (t : Tree) → Flight t
-        → (deletable t >>= λ u. profiled (delete p u) >>= λ v. gives (some v)) ≡ (deletable t >>= λ u. gives (some (delete p u)))
+        → (deletable t >>= λ u. profiled (delete p u) >>= λ v. gives (Some v)) ≡ (deletable t >>= λ u. gives (Some (delete p u)))
     by_kind null f = refl
     by_kind (boolean x) f = refl
     by_kind (number b) f = refl
@@ -124,7 +124,7 @@ unfolding on_flights on_record ◌>>=◌
 on_flights_is l r room = by_reads (read l) (read r)
   where
     by_reads : (a b : Answer Tree)
-        → found room (a >>= λ t. b >>= λ u. flight_concat t u >>= λ v. gives (some v)) ≡ written room (a >>= λ t. b >>= λ u. flight_concat t u)
+        → found room (a >>= λ t. b >>= λ u. flight_concat t u >>= λ v. gives (Some v)) ≡ written room (a >>= λ t. b >>= λ u. flight_concat t u)
     by_reads (refused x) b = refl
     by_reads (gives t) (refused x) = refl
     by_reads (gives t) (gives u) = found_written room (flight_concat t u)

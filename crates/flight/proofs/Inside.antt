@@ -5,15 +5,13 @@ use mathlib.Core.Path.{◌≡◌, refl, sym, ◌∙◌}
 use mathlib.Core.Logic.{◌↔◌, ◌⊎◌, inl, inr, ⊎_elim}
 use mathlib.Core.Bool.{Bool, true, false, ◌&&◌}
 use mathlib.Core.List.{List}
-use mathlib.Core.Option.{none as nothing, some}
 use lib.Dec.{T, leb, leb→le, le→leb}
 use Rattle.layout.specs.Answer.{gives, refused, ◌>>=◌, require}
 use Rattle.layout.specs.Tree.{Tree, null, boolean, number, string, extension, array, object}
 use Rattle.layout.specs.Limits.{depth, depth_items}
 use Rattle.layout.specs.Every.{every, is_sound, sound_ask, names_ask, kinds_ask}
-use Rattle.layout.specs.EveryAt.{both_ask, ask_of}
+use Rattle.layout.specs.EveryAt.{both_ask, profile_ask}
 use Rattle.layout.specs.declared.refusal.Refusal.TheVariants.{Profile}
-use Rattle.layout.specs.declared.every.Question.TheVariants.{Profile as InProfile}
 use Rattle.layout.proofs.Answers.{from_require, to_require, gives_inj}
 use Rattle.layout.proofs.Sounds.{both, sound_test}
 use Rattle.layout.proofs.Questions.{every_both, names_apiece, kinds_apiece}
@@ -28,6 +26,7 @@ use Rattle.edits.proofs.Strips.{strip_shrinks}
 use Rattle.edits.proofs.Concats.{TwoObjects, objects_or, concat_gives, concat_items, concat_sound, concat_asked, concat_depth}
 use Rattle.flight.specs.Flight.{Flight, is_flight, profiled}
 use Rattle.flight.specs.Claims.{stands}
+use Rattle.std.specs.Prelude.{Some, None}
 
 -- ---- the test
 
@@ -42,7 +41,7 @@ flight_test t =
     )
 
 -- The order in which the code asks: first the depth, and then the rest at once.
-pub flight_asked : (t : Tree) → is_flight t ≡ (leb (depth t) 8 && every (ask_of (InProfile 32)) t)
+pub flight_asked : (t : Tree) → is_flight t ≡ (leb (depth t) 8 && every (profile_ask 32) t)
 unfolding is_flight
 flight_asked t =
     rw (every_both sound_ask (both_ask (names_ask 1 32) kinds_ask) t, every_both (names_ask 1 32) kinds_ask t)
@@ -90,7 +89,7 @@ pub strip_flight : (t : Tree) → Flight t → Flight (stripped t)
 strip_flight t f = no_more_flight (stripped t) t (strip_shrinks t) f
 
 -- How deep a side of an overlay that is no object stands in it, by its items.
-side : (t u : Tree) → (members_in t ≡ nothing) ⊎ (members_in u ≡ nothing) → (depth_items (as_items t) ≤ 7) ↔ (stands t u ≤ 8)
+side : (t u : Tree) → (members_in t ≡ None) ⊎ (members_in u ≡ None) → (depth_items (as_items t) ≤ 7) ↔ (stands t u ≤ 8)
 side null u h = (λ d. omega arith, λ d. omega arith)
 side (boolean x) u h = (λ d. omega arith, λ d. omega arith)
 side (number b) u h = (λ d. omega arith, λ d. omega arith)
@@ -99,7 +98,7 @@ side (extension b) u h = (λ d. omega arith, λ d. omega arith)
 side (array ts) u h = (λ d. omega arith, λ d. omega arith)
 side (object ms) u h = rw (alone h) (λ d. omega arith, λ d. omega arith)
   where
-    alone : (some ms ≡ nothing) ⊎ (members_in u ≡ nothing) → members_in u ≡ nothing
+    alone : (Some ms ≡ None) ⊎ (members_in u ≡ None) → members_in u ≡ None
     alone (inl e) = cc
     alone (inr e) = e
 
@@ -125,7 +124,7 @@ module _ (t u v : Tree) (ft : Flight t) (fu : Flight u) (e : concat t u ≡ give
           rw (is, o.left_is, o.right_is)
           (λ d. (left, right), λ d. concat_depth o.left o.right 8 left right)
 
-      none : (members_in t ≡ nothing) ⊎ (members_in u ≡ nothing) → (depth v ≤ 8) ↔ ((stands t u ≤ 8) × (stands u t ≤ 8))
+      none : (members_in t ≡ None) ⊎ (members_in u ≡ None) → (depth v ≤ 8) ↔ ((stands t u ≤ 8) × (stands u t ≤ 8))
       none h =
           let l = side t u h in
           let r = side u t (⊎_elim inr inl h) in

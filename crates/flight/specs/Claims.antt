@@ -1,6 +1,5 @@
 -- What document 02 §5 says of the flight edits beside the plain ones.
-use Rattle.std.specs.Prelude.{ℕ, suc, ◌≤◌, ◌≡◌, ◌↔◌}
-use Rattle.std.proofs.Math.Option.{Option, none as nothing, some}
+use Rattle.std.specs.Prelude.{ℕ, suc, ◌≤◌, ◌≡◌, ◌↔◌, Some, None, Option}
 use Rattle.layout.specs.Bytes.{Bytes, Octets}
 use Rattle.layout.specs.Answer.{gives}
 use Rattle.layout.specs.Tree.{Tree, Members}
@@ -22,9 +21,9 @@ pub record FlightRecord (b : Bytes) : Type 0 where
 -- How deep a side of an overlay stands in it: "a non-array side being one item", so that an object beside a record that is none is one
 -- level deeper. The members of the side, and of the other.
 abbrev pub levels : ℕ → Option Members → Option Members → ℕ
-levels d nothing other = d
-levels d (some ms) nothing = suc d
-levels d (some ms) (some ns) = d
+levels d None other = d
+levels d (Some ms) None = suc d
+levels d (Some ms) (Some ns) = d
 
 abbrev pub stands : Tree → Tree → ℕ
 stands t other = levels (depth t) (members_in t) (members_in other)

@@ -1,6 +1,5 @@
 -- The flight profile: document 02 §5.
-use Rattle.std.specs.Prelude.{ℕ, ◌≤◌, Bool, ◌&&◌, List, T, leb}
-use Rattle.std.proofs.Math.Option.{Option, some}
+use Rattle.std.specs.Prelude.{ℕ, ◌≤◌, Bool, ◌&&◌, List, T, leb, Some, Option}
 use Rattle.layout.specs.Bytes.{Bytes}
 use Rattle.layout.specs.Answer.{Answer, gives, ◌>>=◌, require}
 use Rattle.layout.specs.Tree.{Tree}
@@ -50,7 +49,7 @@ flight_delete_by p t = do
   _ ← profiled t
   u ← deletable t
   v ← profiled (delete p u)
-  gives (some v)
+  gives (Some v)
 
 unfoldable pub flight_strip : Tree → Answer Tree
 unfolding profiled strip ◌>>=◌
@@ -72,4 +71,4 @@ flight_concat t u = do
 unfoldable pub on_flights : Bytes → Bytes → ℕ → Outcome
 unfolding on_record flight_concat
 on_flights left right room =
-    on_record read (λ t u. flight_concat t u >>= λ v. gives (some v)) left right room
+    on_record read (λ t u. flight_concat t u >>= λ v. gives (Some v)) left right room

@@ -3,43 +3,57 @@
 ghost use Rattle.std.specs.Prelude.{◌≡◌, ◌≤◌};
 ghost use Rattle.layout.specs.Read.{read};
 ghost use Rattle.layout.specs.Check.{checked};
+ghost use Rattle.layout.specs.EveryAt.{profile_ask};
 ghost use Rattle.flight.specs.Flight.{flight};
 ghost use Rattle.flight.specs.Profile.{profile_in, both_in};
 
-use layout::check::{Check, Nesting, check_levels};
+use layout::check::check_levels;
 use layout::constants::DEPTH_LIMIT;
-use layout::every::{Question, passes};
+use layout::every::{Question, are_named, passes};
+use layout::number::is_integer;
 use layout::refusal::Refusal;
+use layout::sound::is_rising;
 
 // How deep a flight record nests at the most, and how many characters its names have.
 pub(crate) const FLIGHT_DEPTH: u32 = 8;
 
 const LONGEST_NAME: usize = 32;
 
-// How a record stands to the profile.
+// The profile as a question: names rise and have 1 to so many characters, and there is no extension, float, decimal, NaN or infinity.
 #[derive(Clone, Copy)]
-pub enum Profile {
-    Inside,
-    Outside,
-    Refused(Refusal),
+struct Profile {
+    longest: usize,
+}
+
+impl Question for Profile {
+    ghost asked = { λ q. profile_ask q.longest };
+
+    fn number(&self, payload: &[u8]) -> bool {
+        is_integer(payload)
+    }
+
+    fn extension(&self, payload: &[u8]) -> bool {
+        false
+    }
+
+    fn names(&self, s: &[u8], n: usize, start: usize) -> bool {
+        is_rising(s, n, start) & are_named(s, n, start, self.longest)
+    }
 }
 
 // How a record stands to it that may have so many levels. The check tells the depth at once; the rest of the profile is one question,
 // asked of a record that has passed.
-pub(crate) fn profile_of(s: &[u8], levels: u32) -> Profile
+pub(crate) fn profile_of(s: &[u8], levels: u32) -> Result<bool, Refusal>
     requires { levels ≤ 64 }
     ensures { result ≡ profile_in levels (read s.now) }
 {
-    match check_levels(s, levels) {
-        Nesting::Refused(refusal) => Profile::Refused(refusal),
-        Nesting::Deep => Profile::Outside,
-        Nesting::Fits => {
-            if passes(Question::Profile(LONGEST_NAME), s, DEPTH_LIMIT) {
-                return Profile::Inside;
-            }
-            Profile::Outside
-        }
+    if check_levels(s, levels)? {
+        let profile = Profile {
+            longest: LONGEST_NAME,
+        };
+        return Ok(passes(&profile, s, DEPTH_LIMIT));
     }
+    Ok(false)
 }
 
 // How two records stand to it together: a number comes before 12, the left one's first.
@@ -48,29 +62,22 @@ pub(crate) fn profile_of_both(
     left_levels: u32,
     right: &[u8],
     right_levels: u32,
-) -> Profile
+) -> Result<bool, Refusal>
     requires { (left_levels ≤ 64) × (right_levels ≤ 64) }
     ensures { result
         ≡ both_in (profile_in left_levels (read left.now)) (profile_in right_levels (read right.now)) }
 {
-    match profile_of(left, left_levels) {
-        Profile::Refused(refusal) => Profile::Refused(refusal),
-        Profile::Inside => profile_of(right, right_levels),
-        Profile::Outside => match profile_of(right, right_levels) {
-            Profile::Refused(refusal) => Profile::Refused(refusal),
-            Profile::Inside => Profile::Outside,
-            Profile::Outside => Profile::Outside,
-        },
-    }
+    let left_inside = profile_of(left, left_levels)?;
+    let right_inside = profile_of(right, right_levels)?;
+    Ok(left_inside & right_inside)
 }
 
 // Whether the loader takes a record, or why it does not.
-pub fn check_flight(s: &[u8]) -> Check
+pub fn check_flight(s: &[u8]) -> Result<(), Refusal>
     ensures { result ≡ checked (flight s.now) }
 {
-    match profile_of(s, FLIGHT_DEPTH) {
-        Profile::Inside => Check::Readable,
-        Profile::Outside => Check::Refused(Refusal::Profile),
-        Profile::Refused(refusal) => Check::Refused(refusal),
+    if profile_of(s, FLIGHT_DEPTH)? {
+        return Ok(());
     }
+    Err(Refusal::Profile)
 }

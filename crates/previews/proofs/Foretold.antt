@@ -3,7 +3,6 @@ use Prim.Native.Nat.{ℕ, ◌<◌, ◌≤◌}
 use native.Mathlib.Omega.{arith}
 use mathlib.Core.Path.{◌≡◌, refl, ◌∙◌}
 use mathlib.Core.List.{List, [], ◌∷◌, ◌++◌}
-use mathlib.Core.Option.{some}
 use borrow.Author.Tests.{lt-ltb, le-ltb}
 use lib.ListN.{length}
 use Rattle.layout.specs.Bytes.{Bytes, Octets}
@@ -29,6 +28,7 @@ use Rattle.edits.proofs.StripWrites.{on_one_is}
 use Rattle.edits.proofs.Limited.{Limited, delete_limited, concat_limited, strip_limited, append_limited, build_limited}
 use Rattle.edits.proofs.Refusals.{path_by, deletable_by, concat_by, strip_by}
 use Rattle.previews.specs.Preview.{Foretold, Previews}
+use Rattle.std.specs.Prelude.{Some}
 
 -- ---- an edit that has one answer, whatever the room
 
@@ -64,7 +64,7 @@ delete_is : (target path : Bytes) (room : ℕ) → on_path delete_by target path
 delete_is target path room = on_path_is delete_by target path room ∙ by_reads (read target) (path_of path)
   where
     by_kind : (p : List Step) (m : Answer Tree)
-        → found room (m >>= λ u. gives (some (delete p u))) ≡ written room (m >>= λ u. gives (delete p u))
+        → found room (m >>= λ u. gives (Some (delete p u))) ≡ written room (m >>= λ u. gives (delete p u))
     by_kind p (gives u) = unfold ◌>>=◌ in refl
     by_kind p (refused x) = unfold ◌>>=◌ in refl
 

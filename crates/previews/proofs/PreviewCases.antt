@@ -10,8 +10,6 @@ use Rattle.layout.specs.Encode.{encode}
 use Rattle.layout.specs.Ended.{Outcome}
 use Rattle.layout.specs.Order.{order, same_bytes}
 use Rattle.layout.specs.declared.refusal.Refusal.TheVariants.{Short, Layout, Path, Kind, Repeated, Result}
-use Rattle.layout.specs.declared.ending.Ending.{Ending}
-use Rattle.layout.specs.declared.ending.Ending.TheVariants.{Done, Refused}
 use Rattle.layout.proofs.Lists.{Each}
 use Rattle.layout.proofs.Cases.{◌▸◌, letters, ◌also◌}
 use Rattle.builders.specs.Order.{has, distinct}
@@ -20,6 +18,8 @@ use Rattle.edits.specs.Path.{delete_by, on_path}
 use Rattle.edits.specs.Concat.{concat}
 use Rattle.edits.specs.Strip.{strip, on_one}
 use Rattle.previews.specs.Preview.{previewed}
+use Rattle.std.specs.Prelude.{Ok, Err, Some}
+use Rattle.layout.specs.Ended.{Ending}
 
 -- ---- what a line says
 
@@ -86,34 +86,34 @@ deep (suc n) = object (member [] (deep n) empty)
 abbrev table : List Line
 table =
     -- "Give the length": of what is left, of the record itself where the path finds nothing, of what two records become.
-    tells (on_path delete_by A name_a) (Done 4)
-    ∷ tells (on_path delete_by A name_b) (Done 15)
-    ∷ tells (on_path delete_by root_extension no_items) (Done 9)
-    ∷ tells (on_two concat A true_b) (Done 24)
-    ∷ tells (on_two concat true_b A) (Done 24)
-    ∷ tells (on_two concat A A) (Done 15)
-    ∷ tells (on_two concat D no_members) (Done 13)
-    ∷ tells (on_two concat root_null root_null) (Done 12)
-    ∷ tells (on_one strip D) (Done 13)
-    ∷ tells (on_one strip root_null) (Done 8)
-    ∷ tells (on_two append no_items A) (Done 23)
-    ∷ tells (on_two append no_items root_null) (Done 8)
-    ∷ tells (on_two build name_a nulls) (Done 13)
-    ∷ tells (on_two build no_items no_items) (Done 4)
+    tells (on_path delete_by A name_a) (Ok (Some 4))
+    ∷ tells (on_path delete_by A name_b) (Ok (Some 15))
+    ∷ tells (on_path delete_by root_extension no_items) (Ok (Some 9))
+    ∷ tells (on_two concat A true_b) (Ok (Some 24))
+    ∷ tells (on_two concat true_b A) (Ok (Some 24))
+    ∷ tells (on_two concat A A) (Ok (Some 15))
+    ∷ tells (on_two concat D no_members) (Ok (Some 13))
+    ∷ tells (on_two concat root_null root_null) (Ok (Some 12))
+    ∷ tells (on_one strip D) (Ok (Some 13))
+    ∷ tells (on_one strip root_null) (Ok (Some 8))
+    ∷ tells (on_two append no_items A) (Ok (Some 23))
+    ∷ tells (on_two append no_items root_null) (Ok (Some 8))
+    ∷ tells (on_two build name_a nulls) (Ok (Some 13))
+    ∷ tells (on_two build no_items no_items) (Ok (Some 4))
     -- "Or the number": the sender's, a path's, and the author's.
-    ∷ tells (on_one strip cut_short) (Refused Short)
-    ∷ tells (on_two append no_items (0x80000000 ▸ 0x00 ∷ [])) (Refused Layout)
-    ∷ tells (on_path delete_by A A) (Refused Path)
-    ∷ tells (on_path delete_by root_null no_items) (Refused Kind)
-    ∷ tells (on_two append A A) (Refused Kind)
-    ∷ tells (on_two build name_a two_nulls) (Refused Kind)
-    ∷ tells (on_two concat no_members D) (Refused Repeated)
-    ∷ tells (on_two build twice_a two_nulls) (Refused Repeated)
+    ∷ tells (on_one strip cut_short) (Err Short)
+    ∷ tells (on_two append no_items (0x80000000 ▸ 0x00 ∷ [])) (Err Layout)
+    ∷ tells (on_path delete_by A A) (Err Path)
+    ∷ tells (on_path delete_by root_null no_items) (Err Kind)
+    ∷ tells (on_two append A A) (Err Kind)
+    ∷ tells (on_two build name_a two_nulls) (Err Kind)
+    ∷ tells (on_two concat no_members D) (Err Repeated)
+    ∷ tells (on_two build twice_a two_nulls) (Err Repeated)
     -- The order of the numbers is the edit's: left record, right record, path, 7.
-    ∷ tells (on_two append A cut_short) (Refused Short)
-    ∷ tells (on_path delete_by root_null A) (Refused Path)
+    ∷ tells (on_two append A cut_short) (Err Short)
+    ∷ tells (on_path delete_by root_null A) (Err Path)
     -- A result that would be too deep is 9.
-    ∷ tells (on_two concat (encode (deep 63)) root_null) (Refused Result)
+    ∷ tells (on_two concat (encode (deep 63)) root_null) (Err Result)
     ∷ []
 
 worked : Each Holds table
@@ -147,10 +147,10 @@ worked =
     also tt
 
 -- "With a result buffer of 65,536 bytes": the length of a result of 65,536 bytes is told, and of one byte more it is 9, not 10.
-longest : previewed (on_two append nulls (extended 65524)) ≡ Done 65536
+longest : previewed (on_two append nulls (extended 65524)) ≡ Ok (Some 65536)
 unfolding on_two be32
 longest = refl
 
-too_long : previewed (on_two append nulls (extended 65525)) ≡ Refused Result
+too_long : previewed (on_two append nulls (extended 65525)) ≡ Err Result
 unfolding on_two be32
 too_long = refl

@@ -1,15 +1,14 @@
 -- Previews: document 02 §3, "Say what an edit would do".
-use Rattle.std.specs.Prelude.{ℕ, ◌<◌, ◌≤◌, ◌≡◌, List, [], ◌∷◌, ◌++◌, T, length}
+use Rattle.std.specs.Prelude.{ℕ, ◌<◌, ◌≤◌, ◌≡◌, List, [], ◌∷◌, ◌++◌, T, length, Ok, Err, Some, None}
 use Rattle.layout.specs.Bytes.{Bytes, Octets}
 use Rattle.layout.specs.Refusal.{is_one_of, sender}
 use Rattle.layout.specs.Ended.{Outcome, result, refusal, ending}
 use Rattle.layout.specs.declared.refusal.Refusal.TheVariants.{Buffer}
-use Rattle.layout.specs.declared.ending.Ending.{Ending}
-use Rattle.layout.specs.declared.ending.Ending.TheVariants.{Done, Absent, Refused}
 use Rattle.builders.specs.Build.{append, build, on_two}
 use Rattle.edits.specs.Path.{delete_by, on_path}
 use Rattle.edits.specs.Concat.{concat}
 use Rattle.edits.specs.Strip.{strip, on_one}
+use Rattle.layout.specs.Ended.{Ending}
 
 -- "Give the length or the number that the same edit would give on a copy of the inputs with a result buffer of 65,536 bytes." An edit
 -- of given inputs is its outcome by the length of the buffer.
@@ -26,9 +25,9 @@ pub record Budget (edit : ℕ → Outcome) (n : ℕ) : Type 0 where
 
 -- A number: it is one of these, and every buffer gets it. There is never an absence.
 abbrev pub Tells : List ℕ → (ℕ → Outcome) → Ending → Type 0
-Tells numbers edit (Done n) = Budget edit n
-Tells numbers edit Absent = ⊥
-Tells numbers edit (Refused x) = T (is_one_of numbers x) × ((room : ℕ) → edit room ≡ refusal x)
+Tells numbers edit (Ok (Some n)) = Budget edit n
+Tells numbers edit (Ok None) = ⊥
+Tells numbers edit (Err x) = T (is_one_of numbers x) × ((room : ℕ) → edit room ≡ refusal x)
 
 abbrev pub Foretold : List ℕ → (ℕ → Outcome) → Type 0
 Foretold numbers edit = Tells numbers edit (previewed edit)

@@ -1,11 +1,13 @@
 -- `flight::edit::flight_concat` meets its contract.
 use native.Mathlib.Omega.{arith}
-use mathlib.Core.Path.{◌≡◌, ap₂, sym, ◌∙◌}
+use mathlib.Core.Path.{◌≡◌, ap₂, sym, ◌∙◌, ap}
 use Rattle.layout.specs.Bytes.{Octets}
 use Rattle.layout.specs.Read.{header, read}
 use Rattle.layout.proofs.Words.{slice_octets}
 use Rattle.flight.specs.Profile.{profile_in, both_in, beside}
 use Rattle.flight.proofs.Ends.{ended_refused, ended_same, few_levels, beside_unread, beside_inside}
+use Rattle.layout.proofs.HandedOn.{handed_on}
+use Rattle.std.specs.Prelude.{Ok}
 use Rattle.flight.proofs.edit.flight_concat.Goals.{After-profile_of_both, After-slice_known-1}
 use Rattle.flight.proofs.edit.flight_concat.Goals as goal
 
@@ -29,17 +31,19 @@ profile_of_both-requires c =
     omega (arith, few_levels h k, few_levels k h, c.levels_beside-left_levels.ensures, c.levels_beside-right_levels.ensures)
 
 pub refuse_overlay-requires : goal.refuse_overlay-requires
-refuse_overlay-requires c = sym (beside_told (goal.at.refuse_overlay-requires c).After-profile_of_both) ∙ c.in-Outside.is
+refuse_overlay-requires c = sym (beside_told (goal.at.refuse_overlay-requires c).After-profile_of_both) ∙ c.in_ok-profile_of_both.was ∙ ap Ok c.if-branch.false
 
-pub returns-in-Refused : goal.returns-in-Refused
-returns-in-Refused c = ended_refused _ _ _ (beside_unread _ _ _ _ _ (sym c.profile_of_both.ensures ∙ c.in-Refused.is) _)
+pub returns-in_err-profile_of_both : goal.returns-in_err-profile_of_both
+returns-in_err-profile_of_both c =
+    rw (handed_on _ c.from_residual.ensures)
+    (ended_refused _ _ _ (beside_unread _ _ _ _ _ (sym c.profile_of_both.ensures ∙ c.in_err-profile_of_both.was) _))
 
-pub returns-in-Outside : goal.returns-in-Outside
-returns-in-Outside c = c.refuse_overlay.ensures
+pub returns : goal.returns
+returns c = c.refuse_overlay.ensures
 
-pub returns-in-Inside : goal.returns-in-Inside
-returns-in-Inside c =
+pub returns-then-branch : goal.returns-then-branch
+returns-then-branch c =
     ended_same _ _
-    (beside_inside _ _ (left_octets (goal.at.returns-in-Inside c).After-slice_known-1) (right_octets (goal.at.returns-in-Inside c).After-slice_known-1)
-    (sym (beside_told (goal.at.returns-in-Inside c).After-profile_of_both) ∙ c.in-Inside.is) _)
+    (beside_inside _ _ (left_octets (goal.at.returns-then-branch c).After-slice_known-1) (right_octets (goal.at.returns-then-branch c).After-slice_known-1)
+    (sym (beside_told (goal.at.returns-then-branch c).After-profile_of_both) ∙ c.in_ok-profile_of_both.was ∙ ap Ok c.if-branch.true) _)
     c.concat.ensures

@@ -1,33 +1,20 @@
 -- `flight::profile::profile_of_both` meets its contract.
 use mathlib.Core.Path.{◌∙◌}
 use Rattle.layout.specs.Read.{read}
+use Rattle.layout.proofs.HandedOn.{handed_on}
 use Rattle.flight.specs.Profile.{profile_in, both_in}
-use Rattle.flight.specs.declared.profile.Profile.{Profile as Standing}
 use Rattle.flight.proofs.Ends.{as_told, as_both_told}
-use Rattle.flight.proofs.profile.profile_of_both.Goals.{After-profile_of}
 use Rattle.flight.proofs.profile.profile_of_both.Goals as goal
 
--- How the right record stands.
-abbrev right : After-profile_of → Standing
-right c = profile_in c.args.right_levels (read c.args.right.now)
+pub returns-in_err-left_inside : goal.returns-in_err-left_inside
+returns-in_err-left_inside c =
+    handed_on _ c.from_residual.ensures
+    ∙ as_told (λ p. both_in p (profile_in c.args.right_levels (read c.args.right.now))) c.profile_of.ensures c.in_err-left_inside.was
 
-pub returns-in-Refused : goal.returns-in-Refused
-returns-in-Refused c = as_told (λ p. both_in p (right (goal.at.returns-in-Refused c).After-profile_of)) c.profile_of.ensures c.in-Refused.is
+pub returns-in_err-right_inside : goal.returns-in_err-right_inside
+returns-in_err-right_inside c =
+    handed_on _ c.from_residual-in_err-right_inside.ensures
+    ∙ as_both_told both_in c.profile_of.ensures c.in_ok-left_inside.was c.profile_of-2.ensures c.in_err-right_inside.was
 
-pub returns-in-Inside : goal.returns-in-Inside
-returns-in-Inside c = c.profile_of-in-Inside.ensures ∙ as_told (λ p. both_in p (right (goal.at.returns-in-Inside c).After-profile_of)) c.profile_of.ensures c.in-Inside.is
-
-pub returns-in-Refused-profile_of : goal.returns-in-Refused-profile_of
-returns-in-Refused-profile_of c =
-    as_both_told both_in c.profile_of.ensures c.in-Outside.is c.profile_of-in-Outside.ensures
-    c.in-Refused-profile_of.is
-
-pub returns-in-Inside-profile_of : goal.returns-in-Inside-profile_of
-returns-in-Inside-profile_of c =
-    as_both_told both_in c.profile_of.ensures c.in-Outside.is c.profile_of-in-Outside.ensures
-    c.in-Inside-profile_of.is
-
-pub returns-in-Outside-profile_of : goal.returns-in-Outside-profile_of
-returns-in-Outside-profile_of c =
-    as_both_told both_in c.profile_of.ensures c.in-Outside.is c.profile_of-in-Outside.ensures
-    c.in-Outside-profile_of.is
+pub returns : goal.returns
+returns c = as_both_told both_in c.profile_of.ensures c.in_ok-left_inside.was c.profile_of-2.ensures c.in_ok-right_inside.was
