@@ -2,7 +2,6 @@
 use mathlib.Core.Path.{◌≡◌, refl, sym, subst, ◌∙◌}
 use mathlib.Core.Logic.{inl, inr, ⊎_elim}
 use mathlib.Core.Bool.{Bool, true, false, cond}
-use mathlib.Core.Option.{Option, none as nothing, some}
 use Rattle.layout.specs.Bytes.{Bytes}
 use Rattle.layout.specs.Answer.{gives}
 use Rattle.layout.specs.Tree.{Tree, null, boolean, number, string, extension, array, object, Items, none, item, Members, empty, member, names}
@@ -20,6 +19,7 @@ use Rattle.runs.specs.Plain.{is_null, plain_strip, strip_items, strip_members}
 use Rattle.runs.proofs.Named.{by_test}
 use Rattle.runs.proofs.Alikes.{SameFound, same_some, finds_same, same_finds}
 use Rattle.runs.proofs.SameNames.{find_same}
+use Rattle.std.specs.Prelude.{Some, None, Option}
 
 -- ---- what a name finds
 
@@ -31,8 +31,8 @@ strip_fewer (member n t ms) =
 
 -- What strip leaves of a member that a name found.
 abbrev left_of : Option Tree → Option Tree
-left_of nothing = nothing
-left_of (some t) = cond (is_null t) nothing (some (plain_strip t))
+left_of None = None
+left_of (Some t) = cond (is_null t) None (Some (plain_strip t))
 
 -- A name finds what it found, without its null members, unless that is null.
 find_cleaned : (x : Bytes) (ms : Members) → distinct (names ms) ≡ true → find x (strip_members ms) ≡ left_of (find x ms)
@@ -46,8 +46,8 @@ find_cleaned x (member n t ms) d =
     (λ h. rw (find_later x n t ms h) (there (is_null t) h ∙ find_cleaned x ms c.1))
     (equal_or_not x n)
   where
-    here : (b : Bool) → find n (strip_members ms) ≡ nothing
-        → find n (cond b (strip_members ms) (member n (plain_strip t) (strip_members ms))) ≡ cond b nothing (some (plain_strip t))
+    here : (b : Bool) → find n (strip_members ms) ≡ None
+        → find n (cond b (strip_members ms) (member n (plain_strip t) (strip_members ms))) ≡ cond b None (Some (plain_strip t))
     here true g = g
     here false g = find_first n (plain_strip t) (strip_members ms)
 
@@ -67,7 +67,7 @@ null_same (array ts) u h = rw h.1 refl
 null_same (object ms) u h = rw h.1 refl
 
 -- Of a member found on both sides: both go, or both are stripped.
-one_kept : (b : Bool) (v w : Tree) → Same v w → SameFound (cond b nothing (some v)) (cond b nothing (some w))
+one_kept : (b : Bool) (v w : Tree) → Same v w → SameFound (cond b None (Some v)) (cond b None (Some w))
 one_kept true v w h = tt
 one_kept false v w h = h
 
@@ -99,13 +99,13 @@ mutual
 
   -- The same of each member that a name finds.
   stripped_found : (x : Bytes) (ms : Members) (o : Option Tree) → SameFound (find x ms) o → ProperMembers ms
-      → SameFound (left_of (find x ms)) (o then λ t. cond (null_tree t) nothing (some (stripped t)))
-  stripped_found x empty nothing h p = tt
-  stripped_found x empty (some w) h p = absurd h
+      → SameFound (left_of (find x ms)) (o then λ t. cond (null_tree t) None (Some (stripped t)))
+  stripped_found x empty None h p = tt
+  stripped_found x empty (Some w) h p = absurd h
   stripped_found x (member n t ms) o h p =
       ⊎_elim
       (λ (e : x ≡ n).
-      let found : find x (member n t ms) ≡ some t = find_same x n t ms e in
+      let found : find x (member n t ms) ≡ Some t = find_same x n t ms e in
       let w = same_some t o (rw found at h) in
       rw (found, w.1, null_same t w.0 w.2)
       (one_kept (is_null t) (plain_strip t) (stripped w.0) (stripped_same t w.0 w.2 p.1)))

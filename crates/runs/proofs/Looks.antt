@@ -4,7 +4,6 @@ use native.Mathlib.Omega.{arith}
 use mathlib.Core.Path.{◌≡◌, refl, ap, sym, ◌∙◌, subst₂}
 use mathlib.Core.Bool.{Bool, true, false, not, cond}
 use mathlib.Core.List.{List, [], ◌∷◌}
-use mathlib.Core.Option.{Option, none as nothing, some}
 use lib.Dec.{T, ltb, ltb→lt, nltb→le}
 use lib.IntN.{pos, negsuc}
 use Rattle.layout.specs.Bytes.{Bytes}
@@ -18,6 +17,7 @@ use Rattle.edits.proofs.Deletes.{nothing_some, item_past}
 use Rattle.runs.specs.Plain.{member_name, named, from_zero, item_number, how_many, numbered, taken, inward, plain_look_up}
 use Rattle.runs.proofs.Named.{by_name, named_find}
 use Rattle.runs.proofs.Alikes.{SameFound, finds_same}
+use Rattle.std.specs.Prelude.{Some, None, Option}
 
 -- ---- steps: what a step takes is what it steps into
 
@@ -25,14 +25,14 @@ same_count : (ts : Items) → count ts ≡ how_many ts
 same_count none = refl
 same_count (item t ts) = ap suc (same_count ts)
 
-same_item : (ts : Items) (i : ℕ) → item_at ts i ≡ numbered (some i) ts
+same_item : (ts : Items) (i : ℕ) → item_at ts i ≡ numbered (Some i) ts
 same_item none i = refl
 same_item (item t ts) zero = refl
 same_item (item t ts) (suc i) = same_item ts i
 
 item_found : (o : Option ℕ) (ts : Items) → (o then item_at ts) ≡ numbered o ts
-item_found nothing ts = refl
-item_found (some i) ts = same_item ts i
+item_found None ts = refl
+item_found (Some i) ts = same_item ts i
 
 -- An index counted back from the end.
 back_number : (k n : ℕ) → item_number (index (negsuc k)) n ≡ place (negsuc k) n
@@ -40,19 +40,19 @@ unfolding place
 back_number k n = go (ltb n (suc k)) (ltb k n) (ltb→lt n (suc k)) (nltb→le n (suc k)) (ltb→lt k n) (nltb→le k n)
   where
     go : (a b : Bool) → (T a → n < suc k) → (T (not a) → suc k ≤ n) → (T b → k < n) → (T (not b) → n ≤ k)
-        → from_zero (cond a (negsuc (suc k - suc n)) (pos (n - suc k))) ≡ cond b (some (n - suc k)) nothing
+        → from_zero (cond a (negsuc (suc k - suc n)) (pos (n - suc k))) ≡ cond b (Some (n - suc k)) None
     go true true f g h j = let w : ⊥ = omega (arith, f tt, h tt) in absurd w
     go true false f g h j = refl
     go false true f g h j = refl
     go false false f g h j = let w : ⊥ = omega (arith, g tt, j tt) in absurd w
 
 -- The place that a step means is the account's number.
-pub place_number : (s : Step) (n i : ℕ) → step_place s n ≡ some i → item_number s n ≡ some i
+pub place_number : (s : Step) (n i : ℕ) → step_place s n ≡ Some i → item_number s n ≡ Some i
 unfolding place
 place_number (name b) n i e = e
 place_number (index (pos k)) n i e = go (ltb k n) e
   where
-    go : (a : Bool) → cond a (some k) nothing ≡ some i → some k ≡ some i
+    go : (a : Bool) → cond a (Some k) None ≡ Some i → Some k ≡ Some i
     go true e = e
     go false e = nothing_some e
 place_number (index (negsuc k)) n i e = back_number k n ∙ e
@@ -62,7 +62,7 @@ unfolding place
 array_plain (name b) ts = refl
 array_plain (index (pos k)) ts = go (ltb k (count ts)) (nltb→le k (count ts))
   where
-    go : (a : Bool) → (T (not a) → count ts ≤ k) → (cond a (some k) nothing then item_at ts) ≡ numbered (some k) ts
+    go : (a : Bool) → (T (not a) → count ts ≤ k) → (cond a (Some k) None then item_at ts) ≡ numbered (Some k) ts
     go true f = same_item ts k
     go false f = sym (item_past ts k (f tt)) ∙ same_item ts k
 array_plain (index (negsuc k)) ts =
@@ -86,18 +86,18 @@ step_plain s (object ms) = sym (named_find (step_name s) ms) ∙ ap (λ (n : Byt
 -- ---- what is found is proper
 
 abbrev pub ProperFound : Option Tree → Type 0
-ProperFound nothing = Unit {0}
-ProperFound (some t) = Proper t
+ProperFound None = Unit {0}
+ProperFound (Some t) = Proper t
 
 named_proper : (n : Bytes) (ms : Members) → ProperMembers ms → ProperFound (named n ms)
 named_proper n empty p = tt
 named_proper n (member m t ms) p = by_name n m ProperFound _ _ (λ _. p.1) (λ _. named_proper n ms p.2)
 
 numbered_proper : (o : Option ℕ) (ts : Items) → ProperItems ts → ProperFound (numbered o ts)
-numbered_proper nothing ts p = tt
-numbered_proper (some i) none p = tt
-numbered_proper (some zero) (item t ts) p = p.0
-numbered_proper (some (suc i)) (item t ts) p = numbered_proper (some i) ts p.1
+numbered_proper None ts p = tt
+numbered_proper (Some i) none p = tt
+numbered_proper (Some zero) (item t ts) p = p.0
+numbered_proper (Some (suc i)) (item t ts) p = numbered_proper (Some i) ts p.1
 
 pub taken_proper : (s : Step) (t : Tree) → Proper t → ProperFound (taken s t)
 taken_proper s null p = tt
@@ -113,8 +113,8 @@ look_up_proper [] t h = h
 look_up_proper (s ∷ p) t h = go (taken s t) (taken_proper s t h) (look_up_proper p)
   where
     go : (o : Option Tree) → ProperFound o → ((c : Tree) → Proper c → ProperFound (plain_look_up p c)) → ProperFound (inward o (plain_look_up p))
-    go nothing k h = tt
-    go (some c) k h = h c k
+    go None k h = tt
+    go (Some c) k h = h c k
 
 -- ---- equal values
 
@@ -126,10 +126,10 @@ pub count_same : (ts us : Items) → SameItems ts us → count us ≡ how_many t
 count_same ts us h = same_count us ∙ how_many_same ts us h
 
 numbered_same : (o : Option ℕ) (ts us : Items) → SameItems ts us → SameFound (numbered o ts) (numbered o us)
-numbered_same nothing ts us h = tt
-numbered_same (some i) none us h = rw h tt
-numbered_same (some zero) (item t ts) us h = rw h.2 h.3
-numbered_same (some (suc i)) (item t ts) us h = rw h.2 (numbered_same (some i) ts h.1 h.4)
+numbered_same None ts us h = tt
+numbered_same (Some i) none us h = rw h tt
+numbered_same (Some zero) (item t ts) us h = rw h.2 h.3
+numbered_same (Some (suc i)) (item t ts) us h = rw h.2 (numbered_same (Some i) ts h.1 h.4)
 
 taken_same : (s : Step) (t u : Tree) → Same t u → Proper t → SameFound (taken s t) (taken s u)
 taken_same s null u h p = rw h tt
@@ -151,7 +151,7 @@ look_up_same (s ∷ p) t u h k = go (taken s t) (step_into s u) (step_same s t u
   where
     go : (o o' : Option Tree) → SameFound o o' → ProperFound o → ((c c' : Tree) → Same c c' → Proper c → SameFound (plain_look_up p c) (look_up p c'))
         → SameFound (inward o (plain_look_up p)) (o' then look_up p)
-    go nothing nothing e q f = tt
-    go nothing (some c') e q f = absurd e
-    go (some c) nothing e q f = absurd e
-    go (some c) (some c') e q f = f c c' e q
+    go None None e q f = tt
+    go None (Some c') e q f = absurd e
+    go (Some c) None e q f = absurd e
+    go (Some c) (Some c') e q f = f c c' e q

@@ -3,7 +3,6 @@ use mathlib.Core.Path.{◌≡◌, refl, ap₂, sym, ◌∙◌}
 use mathlib.Core.Logic.{⊎_elim}
 use mathlib.Core.Bool.{Bool, true, false, not, cond, ◌&&◌, ◌||◌}
 use mathlib.Core.List.{[], ◌∷◌}
-use mathlib.Core.Option.{Option, none as nothing}
 use lib.Dec.{T, eqb, eqb→eq}
 use borrow.Author.Tests.{eq-eqb}
 use Rattle.layout.specs.Bytes.{Bytes}
@@ -14,6 +13,7 @@ use Rattle.builders.specs.Order.{find, has, distinct}
 use Rattle.edits.proofs.Deletes.{nothing_some, equal_or_not, find_later}
 use Rattle.runs.specs.Plain.{equal, has_name, repeats, named}
 use Rattle.runs.proofs.SameNames.{find_same}
+use Rattle.std.specs.Prelude.{None, Option}
 
 equal_refl : (a : Bytes) → equal a a ≡ true
 equal_refl [] = refl
@@ -60,7 +60,7 @@ unfolding has
 has_named n empty = refl
 has_named n (member m t ms) = ap₂ ◌||◌ (equal_bytes n m) (has_named n ms)
 
-pub missing_name : (n : Bytes) (ms : Members) → find n ms ≡ nothing → has_name n ms ≡ false
+pub missing_name : (n : Bytes) (ms : Members) → find n ms ≡ None → has_name n ms ≡ false
 missing_name n empty e = refl
 missing_name n (member m t ms) e =
     ⊎_elim

@@ -2,7 +2,6 @@
 use mathlib.Core.Path.{◌≡◌, refl, ap, sym, ◌∙◌}
 use mathlib.Core.Logic.{◌⊎◌, inl, inr, ⊎_elim}
 use mathlib.Core.Bool.{true}
-use mathlib.Core.Option.{Option, none as nothing, some}
 use Rattle.layout.specs.Bytes.{Bytes}
 use Rattle.layout.specs.Answer.{gives, ◌>>=◌}
 use Rattle.layout.specs.Tree.{Tree, null, boolean, number, string, extension, array, object, Items, none, item, Members, empty, member, names}
@@ -21,6 +20,7 @@ use Rattle.runs.specs.Plain.{has_name, together, lacked, items_then, giving, mem
 use Rattle.runs.proofs.Named.{by_test, has_named, missing_name}
 use Rattle.runs.proofs.Alikes.{SameFound, SameAnswer, finds_same, anew_same}
 use Rattle.runs.proofs.SameNames.{find_same}
+use Rattle.std.specs.Prelude.{Some, None, Option}
 
 -- ---- two objects
 
@@ -30,7 +30,7 @@ together_follow empty ms = refl
 together_follow (member n t rs) ms = ap (member n t) (together_follow rs ms)
 
 -- A name that the right lacks finds what it found on the left.
-find_lacked : (x : Bytes) (rs ls : Members) → find x rs ≡ nothing → find x (lacked rs ls) ≡ find x ls
+find_lacked : (x : Bytes) (rs ls : Members) → find x rs ≡ None → find x (lacked rs ls) ≡ find x ls
 find_lacked x rs empty h = refl
 find_lacked x rs (member n t ls) h =
     by_test (has_name n rs) (λ (a : Members). find x a ≡ find x (member n t ls)) _ _
@@ -44,9 +44,9 @@ find_lacked x rs (member n t ls) h =
 overlay_finds : (x : Bytes) (ls rs : Members) → find x (together rs (lacked rs ls)) ≡ or_else (find x rs) (find x ls)
 overlay_finds x ls rs = ap (find x) (together_follow rs (lacked rs ls)) ∙ find_follow x rs (lacked rs ls) ∙ go (find x rs) (find_lacked x rs ls)
   where
-    go : (o : Option Tree) → (o ≡ nothing → find x (lacked rs ls) ≡ find x ls) → or_else o (find x (lacked rs ls)) ≡ or_else o (find x ls)
-    go nothing f = f refl
-    go (some t) f = refl
+    go : (o : Option Tree) → (o ≡ None → find x (lacked rs ls) ≡ find x ls) → or_else o (find x (lacked rs ls)) ≡ or_else o (find x ls)
+    go None f = f refl
+    go (Some t) f = refl
 
 -- They are proper, as both objects are.
 lacked_fewer : (rs ls : Members) → Fewer (names (lacked rs ls)) (names ls)
@@ -98,10 +98,10 @@ overlay_proper ls rs p q = (
 
 -- Equal values on either side.
 or_same : (a b a' b' : Option Tree) → SameFound a a' → SameFound b b' → SameFound (or_else a b) (or_else a' b')
-or_same nothing b nothing b' h k = k
-or_same nothing b (some w) b' h k = absurd h
-or_same (some v) b nothing b' h k = absurd h
-or_same (some v) b (some w) b' h k = h
+or_same None b None b' h k = k
+or_same None b (Some w) b' h k = absurd h
+or_same (Some v) b None b' h k = absurd h
+or_same (Some v) b (Some w) b' h k = h
 
 objects_same : (ls rs ls' rs' : Members) → SameMembers ls ls' → SameMembers rs rs' → Proper (object ls) → Proper (object rs)
     → SameAnswer (gives (object (together rs (lacked rs ls)))) (concat (object ls') (object rs'))
@@ -130,7 +130,7 @@ giving_same (extension b) u h = rw h (extension b, none, refl, refl, refl)
 giving_same (array ts) u h = rw h.1 h.2
 giving_same (object ms) u h = rw h.1 (object h.0, none, refl, (h.0, refl, h.2), refl)
 
-no_members : (t u : Tree) → Same t u → members_of t ≡ nothing → members_in u ≡ nothing
+no_members : (t u : Tree) → Same t u → members_of t ≡ None → members_in u ≡ None
 no_members null u h e = rw h refl
 no_members (boolean x) u h e = rw h refl
 no_members (number b) u h e = rw h refl
@@ -139,7 +139,7 @@ no_members (extension b) u h e = rw h refl
 no_members (array ts) u h e = rw h.1 refl
 no_members (object ms) u h e = nothing_some (sym e)
 
-an_object : (t : Tree) (ms : Members) → members_of t ≡ some ms → t ≡ object ms
+an_object : (t : Tree) (ms : Members) → members_of t ≡ Some ms → t ≡ object ms
 an_object null ms e = nothing_some e
 an_object (boolean x) ms e = nothing_some e
 an_object (number b) ms e = nothing_some e
@@ -158,7 +158,7 @@ module _ (t u t' u' : Tree) (h : Same t t') (k : Same u u') where
           let r : Same (object rs) u' = rw f at k in
           rw (l.1, r.1) (objects_same ls rs l.0 r.0 l.2 r.2 (rw e at p) (rw f at q))
 
-      items : (members_of t ≡ nothing) ⊎ (members_of u ≡ nothing)
+      items : (members_of t ≡ None) ⊎ (members_of u ≡ None)
           → SameAnswer (gives (array (items_then (giving t) (giving u)))) (concat t' u')
       items w =
           rw (concat_items t' u' (⊎_elim (λ a. inl (no_members t t' h a)) (λ b. inr (no_members u u' k b)) w))
@@ -166,9 +166,9 @@ module _ (t u t' u' : Tree) (h : Same t t') (k : Same u u') where
 
       go : (a b : Option Members) → members_of t ≡ a → members_of u ≡ b
           → SameAnswer (gives (objects_or (array (items_then (giving t) (giving u))) a b)) (concat t' u')
-      go nothing b e f = items (inl e)
-      go (some ls) nothing e f = items (inr f)
-      go (some ls) (some rs) e f = both ls rs (an_object t ls e) (an_object u rs f)
+      go None b e f = items (inl e)
+      go (Some ls) None e f = items (inr f)
+      go (Some ls) (Some rs) e f = both ls rs (an_object t ls e) (an_object u rs f)
 
 -- ---- append
 
@@ -205,9 +205,9 @@ concat_proper t u p q = go (members_of t) (members_of u) refl refl
     items = then_proper (giving t) (giving u) (giving_proper t p) (giving_proper u q)
 
     go : (a b : Option Members) → members_of t ≡ a → members_of u ≡ b → Proper (objects_or (array (items_then (giving t) (giving u))) a b)
-    go nothing b e f = items
-    go (some ls) nothing e f = items
-    go (some ls) (some rs) e f = overlay_proper ls rs (rw (an_object t ls e) at p) (rw (an_object u rs f) at q)
+    go None b e f = items
+    go (Some ls) None e f = items
+    go (Some ls) (Some rs) e f = overlay_proper ls rs (rw (an_object t ls e) at p) (rw (an_object u rs f) at q)
 
 pub append_proper : (t u v : Tree) → Proper t → Proper u → plain_append t u ≡ gives v → Proper v
 unfolding plain_append ◌>>=◌

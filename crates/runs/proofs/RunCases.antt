@@ -13,7 +13,6 @@ use Rattle.layout.specs.Read.{read}
 use Rattle.layout.specs.Sound.{Sound}
 use Rattle.layout.specs.Value.{Same}
 use Rattle.layout.specs.declared.refusal.Refusal.TheVariants.{Path, Kind, Repeated, Result, Buffer}
-use Rattle.layout.specs.declared.ending.Ending.TheVariants.{Done, Absent, Refused}
 use Rattle.builders.specs.Order.{has}
 use Rattle.runs.specs.declared.call.Edit.{Edit}
 use Rattle.runs.specs.declared.call.Edit.TheVariants.{Get, Delete, Concat, Strip, Append, Build}
@@ -26,6 +25,7 @@ use Rattle.runs.proofs.Histories.{demand_3_seen}
 use Rattle.runs.proofs.Samples.{one, one_value, one_sound, true_a, true_a_value, true_a_sound, true_b, true_b_value, true_b_sound}
 use Rattle.runs.proofs.Samples.{both, a_and_b, b_and_a, both_sound, name_list, name_list_value, name_list_sound, name_a, name_c}
 use Rattle.runs.proofs.Samples.{twice_a, twice_a_value, twice_a_sound, value_list, value_list_value, value_list_sound, sound_with}
+use Rattle.std.specs.Prelude.{Ok, Err, Some, None}
 
 -- A call with a buffer of 24 bytes of 255, which is what {"a":1,"b":true} takes, and one with a byte less.
 abbrev call : Edit → ℕ → ℕ → Bytes → Call
@@ -49,7 +49,7 @@ overlaid =
       takes = ((omega arith, λ _. omega arith), ((omega arith, λ k. absurd k), ((omega arith, λ k. absurd k), tt)));
     }
 
-overlaid_endings : (after_run overlaid).ended ≡ Done 24 ∷ Absent ∷ Done 24 ∷ []
+overlaid_endings : (after_run overlaid).ended ≡ (Ok (Some 24)) ∷ (Ok None) ∷ (Ok (Some 24)) ∷ []
 unfolding overlaid
 overlaid_endings = refl
 
@@ -75,7 +75,7 @@ built =
       takes = ((omega arith, λ _. omega arith), ((omega arith, λ _. omega arith), ((omega arith, λ _. omega arith), tt)));
     }
 
-built_endings : (after_run built).ended ≡ Refused Buffer ∷ Done 24 ∷ Refused Kind ∷ []
+built_endings : (after_run built).ended ≡ Err Buffer ∷ (Ok (Some 24)) ∷ Err Kind ∷ []
 unfolding built
 built_endings = refl
 
@@ -155,7 +155,7 @@ edges =
       );
     }
 
-edges_endings : (after_run edges).ended ≡ Done 13 ∷ Refused Path ∷ Done 24 ∷ Refused Repeated ∷ []
+edges_endings : (after_run edges).ended ≡ (Ok (Some 13)) ∷ Err Path ∷ (Ok (Some 24)) ∷ Err Repeated ∷ []
 unfolding edges
 edges_endings = refl
 
@@ -196,7 +196,7 @@ deepest =
       takes = ((omega arith, λ _. omega arith), tt);
     }
 
-deepest_endings : (after_run deepest).ended ≡ Refused Result ∷ []
+deepest_endings : (after_run deepest).ended ≡ Err Result ∷ []
 unfolding deepest
 deepest_endings = refl
 
@@ -246,8 +246,8 @@ unfolding outcome be32 order same_bytes has
 seen_overlaid =
     record {
       seen =
-          record { call = seen_call Concat 0 1 []; answer = Done 24; behind = both ++ 255 ∷ 255 ∷ [] }
-          ∷ record { call = seen_call Get 2 0 name_c; answer = Absent; behind = lent }
+          record { call = seen_call Concat 0 1 []; answer = Ok (Some 24); behind = both ++ 255 ∷ 255 ∷ [] }
+          ∷ record { call = seen_call Get 2 0 name_c; answer = Ok None; behind = lent }
           ∷ [];
       shelf = one ∷ true_b ∷ [];
       values = one_value ∷ true_b_value ∷ [];

@@ -6,7 +6,6 @@ use Rattle.layout.specs.Bytes.{Bytes, be32}
 use Rattle.layout.specs.Tree.{null}
 use Rattle.layout.specs.Order.{order, same_bytes}
 use Rattle.layout.specs.Ended.{result}
-use Rattle.layout.specs.declared.ending.Ending.TheVariants.{Done}
 use Rattle.builders.specs.Order.{has}
 use Rattle.runs.specs.declared.call.Edit.TheVariants.{Delete, Strip}
 use Rattle.runs.specs.Call.{outcome}
@@ -14,6 +13,7 @@ use Rattle.runs.specs.Account.{value, edited, entered}
 use Rattle.runs.specs.Demand2.{Yields, SeenAs}
 use Rattle.runs.proofs.Yields.{demand_2, demand_2_seen}
 use Rattle.runs.proofs.Samples.{true_b, true_b_value, unsorted, sorted, unsorted_once, name_a, name_c}
+use Rattle.std.specs.Prelude.{Ok, Some}
 
 -- {"b":true,"a":null} without a name that is not there: the record's own bytes, unsorted as they are.
 none_gone : outcome Delete unsorted [] name_c 22 ≡ result unsorted
@@ -42,8 +42,8 @@ a_yields =
 abbrev lent : Bytes
 lent = replicate 22 255
 
-a_seen : SeenAs (Done 13) lent (true_b ++ replicate 9 255) (value true_b_value)
+a_seen : SeenAs (Ok (Some 13)) lent (true_b ++ replicate 9 255) (value true_b_value)
 unfolding outcome be32 order same_bytes has edited
 a_seen =
-    demand_2_seen Delete unsorted [] name_a sorted null unsorted_once (λ k. absurd k) (Done 13) lent (true_b ++ replicate 9 255)
+    demand_2_seen Delete unsorted [] name_a sorted null unsorted_once (λ k. absurd k) (Ok (Some 13)) lent (true_b ++ replicate 9 255)
     (record { answer = refl; bytes = refl })

@@ -5,7 +5,6 @@ use native.Mathlib.Omega.{arith}
 use mathlib.Core.Path.{◌≡◌, refl, ap, sym, ◌∙◌}
 use mathlib.Core.Bool.{Bool, true, false, not, cond, ◌&&◌, ◌||◌}
 use mathlib.Core.List.{List}
-use mathlib.Core.Option.{Option, none as nothing, some}
 use lib.Dec.{T, ltb, leb, ltb→lt, nltb→le}
 use lib.ListN.{length, drop}
 use lib.Seq.{take-append_seam, drop-append_seam}
@@ -20,8 +19,6 @@ use Rattle.layout.specs.Value.{Same}
 use Rattle.layout.specs.Ended.{Outcome, result, refusal, into, ending, filled, Ended}
 use Rattle.layout.specs.declared.refusal.Refusal.{Refusal}
 use Rattle.layout.specs.declared.refusal.Refusal.TheVariants.{Kind, Result, Buffer}
-use Rattle.layout.specs.declared.ending.Ending.{Ending}
-use Rattle.layout.specs.declared.ending.Ending.TheVariants.{Done}
 use Rattle.layout.specs.Pipeline.{within, found, written}
 use Rattle.layout.proofs.Answers.{gives_inj}
 use Rattle.layout.proofs.Decoding.{read_sound}
@@ -57,6 +54,8 @@ use Rattle.runs.proofs.Removes.{delete_proper, delete_same}
 use Rattle.runs.proofs.Overlaid.{concat_proper, concat_same, append_proper, append_same}
 use Rattle.runs.proofs.Cleaned.{strip_proper, stripped_same, strip_proper_given}
 use Rattle.runs.proofs.Built.{build_proper, build_same}
+use Rattle.std.specs.Prelude.{Ok, Some, None, Option}
+use Rattle.layout.specs.Ended.{Ending}
 
 -- ---- values and their records
 
@@ -169,10 +168,10 @@ module _ (t t' : Tree) (h : Has t t') (room : ℕ) where
     where
       finds : (p : List Step) (o o' : Option Tree) → look_up p t' ≡ o' → SameFound o o' → ProperFound o
           → Yields (found room (gives o')) (entered room (gives o))
-      finds p nothing nothing f e q = refl
-      finds p nothing (some w) f e q = absurd e
-      finds p (some v) nothing f e q = absurd e
-      finds p (some v) (some w) f e q = yields_no_more v w q e (look_up_kept p t' w f)
+      finds p None None f e q = refl
+      finds p None (Some w) f e q = absurd e
+      finds p (Some v) None f e q = absurd e
+      finds p (Some v) (Some w) f e q = yields_no_more v w q e (look_up_kept p t' w f)
 
       go : (m : Answer (List Step)) → Yields (found room (m >>= λ p. get_by p t')) (entered room (m >>= λ p. gives (plain_look_up p t)))
       go (refused r) = refl
@@ -186,8 +185,8 @@ module _ (t t' : Tree) (h : Has t t') (room : ℕ) where
   yields_delete u path = rw (← no_delete_same t t' h.same) (go (path_of path))
     where
       by_kind : (t' : Tree) (p : List Step) → Yields (into room (encode (delete p t'))) (fitting room (plain_delete p t))
-          → Yields (found room (deletable t' >>= λ u. gives (some (delete p u))))
-          (entered room (require (not (no_delete t')) Kind >>= λ _. gives (some (plain_delete p t))))
+          → Yields (found room (deletable t' >>= λ u. gives (Some (delete p u))))
+          (entered room (require (not (no_delete t')) Kind >>= λ _. gives (Some (plain_delete p t))))
       by_kind null p y = refl
       by_kind (boolean x) p y = refl
       by_kind (number b) p y = refl
@@ -197,7 +196,7 @@ module _ (t t' : Tree) (h : Has t t') (room : ℕ) where
       by_kind (object ms) p y = y
 
       go : (m : Answer (List Step)) → Yields (found room (m >>= λ p. delete_by p t'))
-          (entered room (m >>= λ p. require (not (no_delete t')) Kind >>= λ _. gives (some (plain_delete p t))))
+          (entered room (m >>= λ p. require (not (no_delete t')) Kind >>= λ _. gives (Some (plain_delete p t))))
       go (refused r) = refl
       go (gives p) =
           by_kind t' p
@@ -213,7 +212,7 @@ module _ (t t' : Tree) (h : Has t t') (room : ℕ) where
 
 -- The plain edit's answer `m` on values, and the edit's answer `a` on the trees that are read.
 answer_yields : (room : ℕ) (m a : Answer Tree) → ((v : Tree) → m ≡ gives v → Proper v) → SameAnswer m a
-    → Yields (written room (a >>= λ w. within w)) (entered room (m >>= λ v. gives (some v)))
+    → Yields (written room (a >>= λ w. within w)) (entered room (m >>= λ v. gives (Some v)))
 unfolding ◌>>=◌
 answer_yields room (gives v) (gives w) p s = yields_within v w (p v refl) s room
 answer_yields room (gives v) (refused r) p s = absurd s
@@ -300,7 +299,7 @@ once_length b v h =
 
 -- A call ends as the plain edit says.
 pub ends_alike : (o : Outcome) (e : Entry) → Yields o e → ending o ≡ entry_ending e
-ends_alike o (value v) y = ap ending y.1 ∙ ap Done (once_length y.0 v y.2)
+ends_alike o (value v) y = ap ending y.1 ∙ ap (λ x. Ok (Some x)) (once_length y.0 v y.2)
 ends_alike o absent y = ap ending y
 ends_alike o (refuse r) y = ap ending y
 

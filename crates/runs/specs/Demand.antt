@@ -5,11 +5,11 @@ use Rattle.layout.specs.Bytes.{Bytes}
 use Rattle.layout.specs.Tree.{Tree, null}
 use Rattle.layout.specs.Sound.{Sound}
 use Rattle.layout.specs.Value.{Same}
-use Rattle.layout.specs.declared.ending.Ending.{Ending}
 use Rattle.runs.specs.Call.{Call}
 use Rattle.runs.specs.Account.{requests, account, account_endings}
 use Rattle.runs.specs.Demand2.{ReadsAs}
 use Rattle.runs.specs.Run.{Shelf, run, endings, Takes}
+use Rattle.layout.specs.Ended.{Ending}
 
 -- `b` is a sound record with the value `v`: it reads as a tree of this value, whose names rise in every object.
 pub record SoundWith (b : Bytes) (v : Tree) : Type 0 where

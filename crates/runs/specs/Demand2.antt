@@ -2,7 +2,7 @@
 -- with the absence and the numbers of Account.antt. It is said of every readable record in which no object has a name twice, in
 -- whatever order its names stand; it is proved as `demand_2` of proofs/Yields.antt. Of a repeated name document 01 says "the Rust's
 -- bytes hold": what these mean is said by the laws Firsts, Concats and Strips of edits.
-use Rattle.std.specs.Prelude.{ℕ, T, length, take, drop, ◌≡◌, false}
+use Rattle.std.specs.Prelude.{ℕ, T, length, take, drop, ◌≡◌, false, Ok, Err, Some, None}
 use Rattle.layout.specs.Bytes.{Bytes, Octets}
 use Rattle.layout.specs.Answer.{gives, refused}
 use Rattle.layout.specs.Tree.{Tree, null, boolean, number, string, extension, array, object, Items, none, item, Members, empty, member}
@@ -11,12 +11,11 @@ use Rattle.layout.specs.Value.{Same}
 use Rattle.layout.specs.Limits.{record_length}
 use Rattle.layout.specs.Ended.{Outcome, result, absence as absent, refusal as refuses, Ended}
 use Rattle.layout.specs.declared.refusal.Refusal.{Refusal}
-use Rattle.layout.specs.declared.ending.Ending.{Ending}
-use Rattle.layout.specs.declared.ending.Ending.TheVariants.{Done, Absent, Refused}
 use Rattle.runs.specs.declared.call.Edit.{Edit}
 use Rattle.runs.specs.Call.{outcome, takes_two}
 use Rattle.runs.specs.Plain.{repeats}
 use Rattle.runs.specs.Account.{Entry, value, absence, refusal, entered, edited}
+use Rattle.layout.specs.Ended.{Ending}
 
 -- ---- records and their values
 
@@ -81,11 +80,11 @@ pub record Demand2 : Type 0 where
 -- and fills that many first bytes; those after them are unchanged"; "a number or an absence changes no byte lent".
 abbrev pub SeenAs : Ending → Bytes → Bytes → Entry → Type 0
 SeenAs r before after (value v) =
-    (r ≡ Done (record_length v))
+    (r ≡ Ok (Some (record_length v)))
     × OnceWith (take (record_length v) after) v
     × (drop (record_length v) after ≡ drop (record_length v) before)
-SeenAs r before after absence = (r ≡ Absent) × (after ≡ before)
-SeenAs r before after (refusal q) = (r ≡ Refused q) × (after ≡ before)
+SeenAs r before after absence = (r ≡ Ok None) × (after ≡ before)
+SeenAs r before after (refusal q) = (r ≡ Err q) × (after ≡ before)
 
 -- Of the program it asks only that the answer and the buffer meet the function's promise, `Ended`.
 abbrev pub Demand2Seen : Type 0

@@ -1,8 +1,7 @@
 -- The six edits on values: document 01, "Runs and their plain account", sentence by sentence. A value is written as a tree in which
 -- the members of an object stand in some order that means nothing: values are equal by layout's `Same`. Nothing here sorts, and no
 -- contract cites it. Paths are read, and indexes spelled, by `path_of` and `index_text` of edits' `Keypath`.
-use Rattle.std.specs.Prelude.{ℕ, zero, suc, Bool, true, false, not, cond, ◌&&◌, ◌||◌, List, [], ◌∷◌, eqb, ℤ, pos, negsuc, ◌+ℤ◌}
-use Rattle.std.proofs.Math.Option.{Option, none as nothing, some}
+use Rattle.std.specs.Prelude.{ℕ, zero, suc, Bool, true, false, not, cond, ◌&&◌, ◌||◌, List, [], ◌∷◌, eqb, ℤ, pos, negsuc, ◌+ℤ◌, Some, None, Option}
 use Rattle.layout.specs.Bytes.{Bytes}
 use Rattle.layout.specs.Answer.{Answer, gives, refused, ◌>>=◌, require}
 use Rattle.layout.specs.Tree.{Tree, null, boolean, number, string, extension, array, object, Items, none, item, Members, empty, member}
@@ -35,17 +34,17 @@ member_name (name b) = b
 member_name (index z) = index_text z
 
 abbrev pub named : Bytes → Members → Option Tree
-named n empty = nothing
-named n (member m t ms) = cond (equal n m) (some t) (named n ms)
+named n empty = None
+named n (member m t ms) = cond (equal n m) (Some t) (named n ms)
 
 -- "Index i takes item i of an array, or item count + i where i is negative".
 abbrev pub from_zero : ℤ → Option ℕ
-from_zero (pos k) = some k
-from_zero (negsuc k) = nothing
+from_zero (pos k) = Some k
+from_zero (negsuc k) = None
 
 abbrev pub item_number : Step → ℕ → Option ℕ
-item_number (name b) count = nothing
-item_number (index (pos k)) count = some k
+item_number (name b) count = None
+item_number (index (pos k)) count = Some k
 item_number (index (negsuc k)) count = from_zero (pos count +ℤ negsuc k)
 
 abbrev pub how_many : Items → ℕ
@@ -53,40 +52,40 @@ how_many none = 0
 how_many (item t ts) = suc (how_many ts)
 
 abbrev pub numbered : Option ℕ → Items → Option Tree
-numbered nothing ts = nothing
-numbered (some i) none = nothing
-numbered (some zero) (item t ts) = some t
-numbered (some (suc i)) (item t ts) = numbered (some i) ts
+numbered None ts = None
+numbered (Some i) none = None
+numbered (Some zero) (item t ts) = Some t
+numbered (Some (suc i)) (item t ts) = numbered (Some i) ts
 
 -- What a step takes: "any other step finds nothing".
 abbrev pub taken : Step → Tree → Option Tree
-taken s null = nothing
-taken s (boolean x) = nothing
-taken s (number b) = nothing
-taken s (string b) = nothing
-taken s (extension b) = nothing
+taken s null = None
+taken s (boolean x) = None
+taken s (number b) = None
+taken s (string b) = None
+taken s (extension b) = None
 taken s (array ts) = numbered (item_number s (how_many ts)) ts
 taken s (object ms) = named (member_name s) ms
 
 abbrev pub inward : Option Tree → (Tree → Option Tree) → Option Tree
-inward nothing f = nothing
-inward (some t) f = f t
+inward None f = None
+inward (Some t) f = f t
 
 -- "An empty path finds the value."
 abbrev pub plain_look_up : List Step → Tree → Option Tree
-plain_look_up [] t = some t
+plain_look_up [] t = Some t
 plain_look_up (s ∷ p) t = inward (taken s t) (plain_look_up p)
 
 -- ---- Delete: "the value without the member or item found; itself where the path is empty or finds nothing"
 
 -- What is left of a member or an item: itself, perhaps changed, or nothing.
 abbrev pub left_member : Bytes → Option Tree → Members → Members
-left_member n nothing ms = ms
-left_member n (some t) ms = member n t ms
+left_member n None ms = ms
+left_member n (Some t) ms = member n t ms
 
 abbrev pub left_item : Option Tree → Items → Items
-left_item nothing ts = ts
-left_item (some t) ts = item t ts
+left_item None ts = ts
+left_item (Some t) ts = item t ts
 
 -- The members or items, with what `f` leaves of the one that has a name or a number.
 abbrev pub leave_named : (Tree → Option Tree) → Bytes → Members → Members
@@ -94,10 +93,10 @@ leave_named f n empty = empty
 leave_named f n (member m t ms) = cond (equal n m) (left_member m (f t) (leave_named f n ms)) (member m t (leave_named f n ms))
 
 abbrev pub leave_numbered : (Tree → Option Tree) → Option ℕ → Items → Items
-leave_numbered f nothing ts = ts
-leave_numbered f (some i) none = none
-leave_numbered f (some zero) (item t ts) = left_item (f t) ts
-leave_numbered f (some (suc i)) (item t ts) = item t (leave_numbered f (some i) ts)
+leave_numbered f None ts = ts
+leave_numbered f (Some i) none = none
+leave_numbered f (Some zero) (item t ts) = left_item (f t) ts
+leave_numbered f (Some (suc i)) (item t ts) = item t (leave_numbered f (Some i) ts)
 
 -- A value, with what `f` leaves of what a step takes in it.
 abbrev pub leave : (Tree → Option Tree) → Step → Tree → Tree
@@ -111,8 +110,8 @@ leave f s (object ms) = object (leave_named f (member_name s) ms)
 
 -- What the deletion of a path leaves of a value that the path starts from: nothing where it is the value itself that goes.
 abbrev pub rest : List Step → Tree → Option Tree
-rest [] t = nothing
-rest (s ∷ p) t = some (leave (rest p) s t)
+rest [] t = None
+rest (s ∷ p) t = Some (leave (rest p) s t)
 
 abbrev pub plain_delete : List Step → Tree → Tree
 plain_delete [] t = t
@@ -154,18 +153,18 @@ giving (array ts) = ts
 giving (object ms) = item (object ms) none
 
 abbrev pub members_of : Tree → Option Members
-members_of null = nothing
-members_of (boolean x) = nothing
-members_of (number b) = nothing
-members_of (string b) = nothing
-members_of (extension b) = nothing
-members_of (array ts) = nothing
-members_of (object ms) = some ms
+members_of null = None
+members_of (boolean x) = None
+members_of (number b) = None
+members_of (string b) = None
+members_of (extension b) = None
+members_of (array ts) = None
+members_of (object ms) = Some ms
 
 abbrev pub objects_or : Tree → Option Members → Option Members → Tree
-objects_or other nothing rs = other
-objects_or other (some ls) nothing = other
-objects_or other (some ls) (some rs) = object (together rs (lacked rs ls))
+objects_or other None rs = other
+objects_or other (Some ls) None = other
+objects_or other (Some ls) (Some rs) = object (together rs (lacked rs ls))
 
 abbrev pub plain_concat : Tree → Tree → Tree
 plain_concat t u = objects_or (array (items_then (giving t) (giving u))) (members_of t) (members_of u)

@@ -1,11 +1,10 @@
 -- A run: document 01, "A result, the bytes filled, goes to the shelf's end", and demand 3, "a result joins the shelf, anything else
 -- leaves it as it was, and nobody else writes to it".
-use Rattle.std.specs.Prelude.{List, [], ◌∷◌, ◌++◌, length, take, get_or}
+use Rattle.std.specs.Prelude.{List, [], ◌∷◌, ◌++◌, length, take, get_or, Ok, Err, Some, None}
 use Rattle.layout.specs.Bytes.{Bytes}
 use Rattle.layout.specs.Ended.{Outcome, ending, filled}
-use Rattle.layout.specs.declared.ending.Ending.{Ending}
-use Rattle.layout.specs.declared.ending.Ending.TheVariants.{Done, Absent, Refused}
 use Rattle.runs.specs.Call.{Call, outcome, There}
+use Rattle.layout.specs.Ended.{Ending}
 
 -- Document 01's shelf: records "in a row".
 abbrev pub Shelf : Type 0
@@ -25,9 +24,9 @@ leaves c shelf = filled (outcome_on c shelf) c.buffer
 
 -- The shelf behind a call that ended so and left this in its buffer.
 abbrev pub shelved : Ending → Bytes → Shelf → Shelf
-shelved (Done n) buffer shelf = shelf ++ (take n buffer ∷ [])
-shelved Absent buffer shelf = shelf
-shelved (Refused r) buffer shelf = shelf
+shelved (Ok (Some n)) buffer shelf = shelf ++ (take n buffer ∷ [])
+shelved (Ok None) buffer shelf = shelf
+shelved (Err r) buffer shelf = shelf
 
 abbrev pub after : Call → Shelf → Shelf
 after c shelf = shelved (ends c shelf) (leaves c shelf) shelf

@@ -5,11 +5,11 @@ use Rattle.std.specs.Prelude.{◌<◌, List, [], ◌∷◌, length}
 use Rattle.layout.specs.Bytes.{Bytes}
 use Rattle.layout.specs.Tree.{Tree}
 use Rattle.layout.specs.Ended.{Ended}
-use Rattle.layout.specs.declared.ending.Ending.{Ending}
 use Rattle.runs.specs.Call.{Call, There}
 use Rattle.runs.specs.Account.{requests, account, account_endings}
 use Rattle.runs.specs.Run.{Shelf, outcome_on, shelved}
 use Rattle.runs.specs.Demand.{AllSoundWith, After, Holds}
+use Rattle.layout.specs.Ended.{Ending}
 
 -- A call, what it answered, and its buffer behind it.
 pub record Seen : Type 0 where

@@ -9,7 +9,7 @@ use edits::path::{delete_by_keypath, get_by_keypath};
 use layout::ending::Ending;
 
 // What a call does.
-#[derive(Clone, Copy)]
+#[derive(Clone, Copy, Debug, PartialEq, Eq)]
 pub enum Edit {
     Get,
     Delete,

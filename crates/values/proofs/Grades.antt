@@ -2,7 +2,7 @@
 use Prim.Native.Nat.{◌≤◌}
 use mathlib.Core.Path.{◌≡◌, refl, ap, sym, subst, ◌∙◌}
 use mathlib.Core.Logic.{◌↔◌}
-use mathlib.Core.Bool.{Bool, true, false, cond, ◌&&◌}
+use mathlib.Core.Bool.{Bool, true, false, cond}
 use lib.Dec.{T}
 use lib.ListN.{length}
 use Rattle.layout.specs.Bytes.{Bytes, Octets}
@@ -16,14 +16,11 @@ use Rattle.layout.specs.Order.{same_bytes}
 use Rattle.layout.specs.Every.{sound_ask}
 use Rattle.layout.specs.EveryAt.{sound_at}
 use Rattle.layout.specs.Check.{checked}
-use Rattle.layout.specs.declared.check.Check.{Check}
-use Rattle.layout.specs.declared.check.Check.TheVariants.{Readable, Refused}
 use Rattle.layout.specs.declared.refusal.Refusal.{Refusal}
 use Rattle.layout.proofs.Answers.{gives_inj}
 use Rattle.layout.proofs.Decoding.{read_sound}
 use Rattle.layout.proofs.Nestings.{readable_gives, refused_as}
 use Rattle.layout.proofs.Values.{same_refl, sound_bytes}
-use Rattle.layout.proofs.Places.{and_both}
 use Rattle.layout.proofs.Asks.{every_read}
 use Rattle.layout.proofs.Sounds.{sound_test}
 use Rattle.layout.proofs.Sames.{same_test}
@@ -35,6 +32,7 @@ use Rattle.values.specs.declared.grade.Grade.{Grade}
 use Rattle.values.specs.declared.grade.Grade.TheVariants.{Right, SameValue, OtherValue, Damaged, Ungraded}
 use Rattle.values.proofs.Likes.{one_test, holds, fails}
 use Rattle.values.proofs.Alikes.{record_test}
+use Rattle.std.specs.Prelude.{Ok, Err, Result}
 
 equal_by : (a b : Bytes) → equal_values a b ≡ both_same (read a) (read b)
 unfolding equal_values
@@ -101,7 +99,7 @@ pub record Reading (s : Bytes) : Type 0 where
   pub tree : Tree
   pub reads : read s ≡ gives tree
 
-pub reading : (s : Bytes) (k : Check) → Octets s → k ≡ checked (read s) → k ≡ Readable → Reading s
+pub reading : (s : Bytes) (k : Result (Unit {0}) Refusal) → Octets s → k ≡ checked (read s) → k ≡ Ok tt → Reading s
 reading s k o e q =
     let w = readable_gives (read s) k e q in
     record { octets = o; tree = w.0; reads = w.1 }
@@ -122,10 +120,10 @@ sound_read : {s : Bytes} (p : Reading s) → sound_at 64 s ≡ true → Sound p.
 sound_read {s} p q = (sound_test p.tree).0 (subst T (sym q ∙ every_read sound_ask s p.tree p.octets p.reads) tt)
 
 -- The answers of `is_same_value`.
-pub first_unread : (a b : Bytes) (k : Check) (r : Refusal) → k ≡ checked (read a) → k ≡ Refused r → false ≡ equal_values a b
+pub first_unread : (a b : Bytes) (k : Result (Unit {0}) Refusal) (r : Refusal) → k ≡ checked (read a) → k ≡ Err r → false ≡ equal_values a b
 first_unread a b k r e q = rw (equal_by a b, refused_as (read a) k r e q)
 
-pub second_unread : {a : Bytes} → Reading a → (b : Bytes) (k : Check) (r : Refusal) → k ≡ checked (read b) → k ≡ Refused r
+pub second_unread : {a : Bytes} → Reading a → (b : Bytes) (k : Result (Unit {0}) Refusal) (r : Refusal) → k ≡ checked (read b) → k ≡ Err r
     → false ≡ equal_values a b
 second_unread {a} p b k r e q = rw (equal_by a b, p.reads, refused_as (read b) k r e q)
 
@@ -133,11 +131,11 @@ pub both_read : {a b : Bytes} → Reading a → Reading b → (g : Bool) → g �
 both_read {a} {b} p q g h = rw (h, same_read p q, equal_by a b, p.reads, q.reads)
 
 -- The answers of `grade_record`.
-pub graded_ungraded : (c e : Bytes) (k : Check) (r : Refusal) → k ≡ checked (read e) → k ≡ Refused r
+pub graded_ungraded : (c e : Bytes) (k : Result (Unit {0}) Refusal) (r : Refusal) → k ≡ checked (read e) → k ≡ Err r
     → Ungraded r ≡ grade_of c e
 graded_ungraded c e k r h q = rw (graded_by c e, refused_as (read e) k r h q)
 
-pub graded_damaged : (c : Bytes) {e : Bytes} → Reading e → (k : Check) (r : Refusal) → k ≡ checked (read c) → k ≡ Refused r
+pub graded_damaged : (c : Bytes) {e : Bytes} → Reading e → (k : Result (Unit {0}) Refusal) (r : Refusal) → k ≡ checked (read c) → k ≡ Err r
     → Damaged r ≡ grade_of c e
 graded_damaged c {e} q k r h l = rw (graded_by c e, q.reads, refused_as (read c) k r h l)
 
@@ -155,13 +153,11 @@ module _ {c e : Bytes} (w : Unequal c e) where
   by_value b h = rw (graded_read c e w.candidate.reads w.expected.reads, w.differ, h)
 
   -- Sound records of other bytes have other values.
-  pub graded_sound : (x y : Bool) → x ≡ sound_at 64 c → y ≡ sound_at 64 e → (x && y) ≡ true → OtherValue ≡ grade_of c e
-  graded_sound x y hx hy q =
+  pub graded_sound : true ≡ sound_at 64 c → true ≡ sound_at 64 e → OtherValue ≡ grade_of c e
+  graded_sound hc he =
       let p = w.candidate in
       let u = w.expected in
-      let (sc, se) = and_both x y q in
-      let equal = sound_bytes c e p.tree u.tree p.octets u.octets p.reads u.reads
-      (sound_read p (sym hx ∙ sc)) (sound_read u (sym hy ∙ se)) in
+      let equal = sound_bytes c e p.tree u.tree p.octets u.octets p.reads u.reads (sound_read p (sym hc)) (sound_read u (sym he)) in
       by_value false (fails _ (λ h. subst T w.differ ((bytes_test c e).1 (equal.0 ((same_test p.tree u.tree).0 h)))))
 
   pub graded_values : (g b : Bool) → g ≡ same_at 64 c e → g ≡ b → cond b SameValue OtherValue ≡ grade_of c e

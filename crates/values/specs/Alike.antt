@@ -1,17 +1,23 @@
 -- Equal values by places in the bytes, as the code goes. proofs/Alikes.antt ties it to the layout's `Same`.
-use Rattle.std.specs.Prelude.{ℕ, zero, suc, ◌+◌, ◌*◌, ◌^◌, ◌≤◌, Bool, true, false, cond, ◌&&◌, List, [], ◌∷◌, ltb, eqb}
+use Rattle.std.specs.Prelude.{ℕ, zero, suc, ◌+◌, Bool, true, false, cond, ◌&&◌, List, [], ◌∷◌, map, ltb, eqb, Ok, Err, Result}
+use Rattle.std.specs.List.{zip}
 use Rattle.layout.specs.Bytes.{Bytes, word_at}
 use Rattle.layout.specs.Encode.{Part}
 use Rattle.layout.specs.Order.{same_bytes}
 use Rattle.layout.specs.Place.{parts_at}
+use Rattle.layout.specs.Left.{Placed, part_shown, left, shown}
 use Rattle.layout.specs.Parts.{next_part, first_part, nth_part, part_in, part_payload, parts_of}
 use Rattle.layout.specs.Read.{header}
 use Rattle.layout.specs.Value.{same_kind}
 use Rattle.layout.specs.declared.item.Kind.{Kind}
 use Rattle.layout.specs.declared.item.Kind.TheVariants.{Null, String, Number, False, True, Container, Extension}
 use Rattle.layout.specs.declared.util.Header.{Header}
-use Rattle.layout.specs.declared.util.Header.TheVariants.{Array, Object, Scalar, Refused}
-use Rattle.values.specs.declared.value.PairAt.{PairAt}
+use Rattle.layout.specs.declared.util.Header.TheVariants.{Array, Object, Scalar}
+use Rattle.layout.specs.declared.refusal.Refusal.{Refusal}
+use Rattle.layout.specs.declared.parts.PartAt.{PartAt}
+use Rattle.layout.specs.declared.table.Part.{Part as PartRead}
+use Rattle.values.specs.declared.members.Member.{Member as MemberRead}
+use Rattle.values.specs.declared.members.Members.{Members as MembersRead}
 
 -- Items: of one kind, with equal payloads; `f` tells whether containers have equal values.
 unfoldable pub same_payload : (Bytes → Bytes → Bool) → Kind → Bytes → Bytes → Bool
@@ -38,6 +44,11 @@ pub record Member : Type 0 where
   pub name : Bytes
   pub value : Part
 
+-- Where a member of an object stands: the parts of its name and of its value.
+pub record PairAt : Type 0 where
+  pub key : PartAt
+  pub val : PartAt
+
 -- The member at its places, and the places of the one behind it.
 unfoldable pub member_at : Bytes → PairAt → Member
 member_at s m = record { name = part_payload s m.key; value = part_in s m.val }
@@ -56,13 +67,19 @@ first s n = record { key = first_part (n + n); val = nth_part s (n + n) n }
 abbrev pub members : Bytes → ℕ → List Member
 members s n = members_from s (first s n) n
 
--- Places that sums of lengths can have reached by member `m`, and the number of its value, so that its entries can be read and the
--- next sums fit the machine's word.
-abbrev pub Near : PairAt → Type 0
-Near m =
-    (m.val.index ≤ 2 ^ 29 + m.key.index)
-    × (m.key.place ≤ 2 ^ 58 + 2 ^ 28 * m.key.index)
-    × (m.val.place ≤ 2 ^ 58 + 2 ^ 28 * m.key.index)
+-- An item and a member that the code has read.
+abbrev pub part_of : PartRead → Part
+part_of x = part_shown (shown x)
+
+abbrev pub member_of : MemberRead → Member
+member_of m = record { name = m.name.now; value = part_of m.value }
+
+-- Names beside values, and the members that the code's iterator has still to give.
+abbrev pub beside : Placed × Placed → Member
+beside p = record { name = p.0.bytes; value = part_shown p.1 }
+
+abbrev pub members_left : MembersRead → List Member
+members_left s = map beside (zip (left s.names) (left s.values))
 
 -- Members are alike: equal names, and equal values.
 unfoldable pub like : (Bytes → Bytes → Bool) → Member → Member → Bool
@@ -79,11 +96,11 @@ same_members f [] ns = true
 same_members f (m ∷ ms) ns = ltb (likes f m ms) (likes f m ns) && same_members f ms ns
 
 -- Records with equal headers; a scalar record has one item.
-abbrev pub same_by : (Bytes → Bytes → Bool) → Header → Bytes → Bytes → Bool
-same_by f (Refused r) a b = false
-same_by f (Scalar n) a b = same_parts f (parts_at a 0 8 1) (parts_at b 0 8 1)
-same_by f (Array n) a b = same_parts f (parts_of a n) (parts_of b n)
-same_by f (Object n) a b = same_members f (members a n) (members b n)
+abbrev pub same_by : (Bytes → Bytes → Bool) → Result Header Refusal → Bytes → Bytes → Bool
+same_by f (Err r) a b = false
+same_by f (Ok (Scalar n)) a b = same_parts f (parts_at a 0 8 1) (parts_at b 0 8 1)
+same_by f (Ok (Array n)) a b = same_parts f (parts_of a n) (parts_of b n)
+same_by f (Ok (Object n)) a b = same_members f (members a n) (members b n)
 
 -- Down to `k` levels.
 unfoldable pub same_at : ℕ → Bytes → Bytes → Bool

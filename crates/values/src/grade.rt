@@ -3,13 +3,13 @@ ghost use Rattle.std.specs.Prelude.{◌≡◌};
 ghost use Rattle.values.specs.Grade.{grade_of};
 
 use crate::value::is_same_nested;
-use layout::check::{Check, check_record};
+use layout::check::check_record;
 use layout::constants::DEPTH_LIMIT;
 use layout::order::is_same_bytes;
 use layout::refusal::Refusal;
 use layout::sound::is_sound_where_readable;
 
-#[derive(Clone, Copy)]
+#[derive(Clone, Copy, Debug, PartialEq, Eq)]
 pub enum Grade {
     // The expected record itself.
     Right,
@@ -27,10 +27,10 @@ pub enum Grade {
 pub fn grade_record(candidate: &[u8], expected: &[u8]) -> Grade
     ensures { result ≡ grade_of candidate.now expected.now }
 {
-    if let Check::Refused(refusal) = check_record(expected) {
+    if let Err(refusal) = check_record(expected) {
         return Grade::Ungraded(refusal);
     }
-    if let Check::Refused(refusal) = check_record(candidate) {
+    if let Err(refusal) = check_record(candidate) {
         return Grade::Damaged(refusal);
     }
     if is_same_bytes(candidate, expected) {
@@ -38,7 +38,7 @@ pub fn grade_record(candidate: &[u8], expected: &[u8]) -> Grade
     }
     // Sound records of other bytes have other values, and no members need be searched for.
     if is_sound_where_readable(candidate, DEPTH_LIMIT)
-        & is_sound_where_readable(expected, DEPTH_LIMIT)
+        && is_sound_where_readable(expected, DEPTH_LIMIT)
     {
         return Grade::OtherValue;
     }

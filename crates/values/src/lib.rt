@@ -2,4 +2,5 @@
 #![tactic(auto)]
 
 pub mod grade;
+mod members;
 pub mod value;

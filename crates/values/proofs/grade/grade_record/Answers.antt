@@ -33,22 +33,22 @@ unequal c =
       differ = sym c.is_same_bytes.ensures ∙ c.if-is_same_bytes.false;
     }
 
-pub returns-in-Refused : goal.returns-in-Refused
-returns-in-Refused c = graded_ungraded _ _ _ _ c.check_record.ensures c.in-Refused.is
+pub returns-in-Err : goal.returns-in-Err
+returns-in-Err c = graded_ungraded _ _ _ _ c.check_record.ensures c.in-Err.is
 
-pub returns-in-Refused-check_record : goal.returns-in-Refused-check_record
-returns-in-Refused-check_record c =
-    graded_damaged _ (expected (goal.at.returns-in-Refused-check_record c).In_default) _ _ c.check_record-2.ensures c.in-Refused-check_record.is
+pub returns-in-Err-check_record : goal.returns-in-Err-check_record
+returns-in-Err-check_record c =
+    graded_damaged _ (expected (goal.at.returns-in-Err-check_record c).In_default) _ _ c.check_record-2.ensures c.in-Err-check_record.is
 
 pub returns-then-is_same_bytes : goal.returns-then-is_same_bytes
 returns-then-is_same_bytes c =
     graded_right (candidate (goal.at.returns-then-is_same_bytes c).In_default-check_record) (expected (goal.at.returns-then-is_same_bytes c).In_default)
     _ c.is_same_bytes.ensures c.if-is_same_bytes.true
 
-pub returns-then-is_sound_where_readable : goal.returns-then-is_sound_where_readable
-returns-then-is_sound_where_readable c =
-    graded_sound (unequal (goal.at.returns-then-is_sound_where_readable c).Else-is_same_bytes) _ _ c.is_sound_where_readable.ensures
-    c.is_sound_where_readable-2.ensures c.if-is_sound_where_readable.true
+pub returns-then-is_sound_where_readable-2 : goal.returns-then-is_sound_where_readable-2
+returns-then-is_sound_where_readable-2 c =
+    graded_sound (unequal (goal.at.returns-then-is_sound_where_readable-2 c).Else-is_same_bytes) c.if-is_sound_where_readable.ensures
+    c.if-is_sound_where_readable-2.ensures
 
 pub returns-then-is_same_nested : goal.returns-then-is_same_nested
 returns-then-is_same_nested c =
