@@ -1,3 +1,4 @@
 -- The laws of the console.
 pub mod Numbers
 pub mod Outlines
+pub mod Walks

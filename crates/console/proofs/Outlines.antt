@@ -10,10 +10,10 @@ use Rattle.layout.specs.Bytes.{Bytes}
 use Rattle.layout.specs.Read.{read}
 use Rattle.layout.specs.Check.{checked}
 use Rattle.layout.proofs.Checks.{read_long}
-use Rattle.layout.specs.declared.check.Check.{Check}
-use Rattle.layout.specs.declared.check.Check.TheVariants.{Readable}
+use Rattle.std.specs.Prelude.{Ok, Result}
+use Rattle.layout.specs.declared.refusal.Refusal.{Refusal}
 
-pub readable_short : (s : Bytes) (c : Check) → c ≡ checked (read s) → c ≡ Readable → length s ≤ 65536
+pub readable_short : (s : Bytes) (c : Result (Unit {0}) Refusal) → c ≡ checked (read s) → c ≡ Ok tt → length s ≤ 65536
 readable_short s c hc q = by_test (leb (length s) 65536) refl
   where
     by_test : (b : Bool) → leb (length s) 65536 ≡ b → length s ≤ 65536

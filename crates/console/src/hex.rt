@@ -1,105 +1,95 @@
 // Bytes in hexadecimal, as arguments and in answers.
-ghost use Rattle.std.specs.Prelude.{◌<◌, ◌≤◌};
+ghost use Rattle.std.specs.Prelude.{◌<◌, IfSome};
 
-use crate::LINE_LIMIT;
-use crate::text::{Fault, Taken, is_space, trim};
+use crate::fault::{Failure, Fault};
+use crate::text::{is_space, trim};
 use layout::constants::RECORD_LIMIT;
-use layout::util::byte;
-use layout::writer::put;
+use std::alloc::Global;
+use std::io;
+use std::io::Write;
 
-// Room for a record of one byte too many: what is longer is refused as that is.
-pub(crate) const RECORD_ROOM: usize = RECORD_LIMIT + 1;
+// What is kept of a record is one byte more than the longest has: what is longer is refused as that is.
+const RECORD_ROOM: usize = RECORD_LIMIT + 1;
 
-// Room for bytes that no document limits. The longest line has fewer, since two letters stand for each, so that none is cut.
-pub(crate) const LINE_ROOM: usize = LINE_LIMIT / 2;
+// How a digit's value is written.
+const DIGITS: [u8; 16] = *b"0123456789abcdef";
 
-// How many digits there are, and those of them that are decimal.
-const BASE: u8 = 16;
+// How many bytes are spelled before they are written, so that a long text takes few writes.
+const SPELLED: usize = 2048;
 
-const DECIMALS: u8 = 10;
-
-// No digit; no first digit of a byte.
-const NONE: u8 = BASE;
-
-// The value of a digit, and NONE where it is none.
-pub(crate) fn digit(c: u8) -> u8
-    ensures { result ≤ 16 }
+// The value of a digit. By hand, since spaces stand among the digits and one that is none is told before half a byte is: the kit's
+// reading of hexadecimal takes no space, and tells an odd count first.
+pub(crate) fn digit(c: u8) -> Option<u8>
+    ensures { IfSome result (λ d. d < 16) }
 {
     match c {
-        b'0'..=b'9' => c - b'0',
-        b'a'..=b'f' => c - b'a' + DECIMALS,
-        b'A'..=b'F' => c - b'A' + DECIMALS,
-        _ => NONE,
+        b'0'..=b'9' => Some(c - b'0'),
+        b'a'..=b'f' => Some(c - b'a' + 10),
+        b'A'..=b'F' => Some(c - b'A' + 10),
+        _ => None,
     }
 }
 
-fn decode_digits(text: &[u8], out: &mut [u8]) -> Taken {
-    let mut high = NONE;
-    let mut n: usize = 0;
-    let mut i = 0;
-    while i < text.len() {
-        let c = text[i];
-        i += 1;
-        if is_space(c) {
-            continue;
-        }
-        let low = digit(c);
-        if low == NONE {
-            return Taken::Wrong(Fault::NotHex);
-        }
-        if high == NONE {
-            high = low;
-            continue;
-        }
-        put(out, n, high * BASE + low);
-        n += 1;
-        high = NONE;
-    }
-    if high == NONE {
-        return Taken::Length(n);
-    }
-    Taken::Wrong(Fault::Odd)
+// An empty text is written as a -, so that none is left out by mistake.
+const EMPTY: &[u8] = b"-";
+
+// Whether a text spells bytes, or would with a digit more.
+pub(crate) fn is_hex(text: &[u8]) -> bool {
+    trim(text) == EMPTY || text.iter().all(|c| is_space(*c) || digit(*c).is_some())
 }
 
-// The bytes that a text spells: how many there are, of which `out` gets as many as it has room for.
-pub(crate) fn decode(text: &[u8], out: &mut [u8]) -> Taken {
+// The bytes that a text spells, two digits for each.
+pub(crate) fn decode(alloc: Global, text: &[u8]) -> Result<Vec<u8>, Failure> {
     let digits = trim(text);
-    if digits.len() == 0 {
-        return Taken::Wrong(Fault::Missing);
+    if digits.is_empty() {
+        return Err(Fault::Missing.into());
     }
-    if (digits.len() == 1) & (byte(digits, 0) == b'-') {
-        return Taken::Length(0);
+    let mut bytes = Vec::new(alloc);
+    if digits == EMPTY {
+        return Ok(bytes);
     }
-    decode_digits(digits, out)
+    bytes.reserve(digits.len() / 2)?;
+    let mut high = None;
+    for c in digits.iter().filter(|c| !is_space(**c)) {
+        let low = digit(*c).ok_or(Fault::NotHex)?;
+        high = match high {
+            None => Some(low),
+            Some(high) => {
+                bytes.push(high << 4 | low)?;
+                None
+            }
+        };
+    }
+    match high {
+        None => Ok(bytes),
+        Some(_) => Err(Fault::Odd.into()),
+    }
 }
 
-// How a digit is written.
-fn letter(digit: u8) -> u8
-    requires { digit < 16 }
-{
-    if digit < DECIMALS {
-        return b'0' + digit;
+// The bytes of a record, of a path or of a payload.
+pub(crate) fn decode_record(alloc: Global, text: &[u8]) -> Result<Vec<u8>, Failure> {
+    let mut record = decode(alloc, text)?;
+    record.truncate(RECORD_ROOM);
+    Ok(record)
+}
+
+// Writes bytes in lower case, two letters for a byte.
+pub(crate) fn say_hex<W: Write>(out: &mut W, bytes: &[u8]) -> io::Result<()> {
+    for part in bytes.chunks(SPELLED) {
+        let mut letters = [0; 2 * SPELLED];
+        for (pair, byte) in letters.chunks_exact_mut(2).zip(part) {
+            pair[0] = DIGITS[usize::from(*byte >> 4)];
+            pair[1] = DIGITS[usize::from(*byte & 15)];
+        }
+        out.write_all(&letters[..2 * part.len()])?;
     }
-    b'a' + (digit - DECIMALS)
+    Ok(())
 }
 
-fn first_letter(b: u8) -> u8 {
-    letter(b / BASE)
-}
-
-fn second_letter(b: u8) -> u8 {
-    letter(b % BASE)
-}
-
-// Spells bytes in lower case, two letters for a byte, as far as `out` goes.
-pub(crate) fn encode(bytes: &[u8], out: &mut [u8]) {
-    let mut at: usize = 0;
-    let mut i = 0;
-    while i < bytes.len() {
-        let b = bytes[i];
-        put(out, at, first_letter(b));
-        put(out, at + 1, second_letter(b));
-        at += 2;
-        i += 1;
+// Bytes as they can be given again.
+pub(crate) fn say_bytes<W: Write>(out: &mut W, bytes: &[u8]) -> io::Result<()> {
+    if bytes.is_empty() {
+        return out.write_all(EMPTY);
     }
+    say_hex(out, bytes)
 }

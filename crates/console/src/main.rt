@@ -41,17 +41,17 @@
 // slice; spaces in it are ignored, and an empty one is -. Behind the arguments of a call that gives a result may stand one more, as
 // in `append A ; R ; 100`: the length of the result's buffer in decimal; where it is left out, one that serves, of 65,536 bytes at
 // most. An empty line and a line that starts with # are copied. A line that is none of these gets `? WHY`, and the next one is
-// answered as ever. A read or a write that fails ends the program with its error.
+// answered as ever. A read, a write or an allocation that fails ends the program with its error.
 #![tactic(auto)]
 
 mod aboard;
 mod calls;
 mod chars;
 mod decimal;
+mod fault;
 mod grade;
 mod hex;
 mod make;
-mod pair;
 mod pointer;
 mod preview;
 mod run;
@@ -60,144 +60,48 @@ mod shelf;
 mod show;
 mod spell;
 mod step;
+mod taken;
 mod text;
+mod walk;
 mod writing;
 
-ghost use Rattle.std.specs.Prelude.{◌+◌, ◌≤◌, IfOk, length};
-
 use calls::answer;
-use layout::util::slice;
-use say::say;
+use fault::Fault;
+use std::alloc::Global;
 use std::io;
-use std::io::{Read, Write};
-use text::line_end;
+use std::io::{BufRead, BufReader, Read, Write};
 
 // The longest line, its end included: two records with spaces between their groups have less.
-pub(crate) const LINE_LIMIT: usize = 524_288;
+const LINE_LIMIT: usize = 524_288;
 
-// How often the program reads at most. It ends with its input long before.
-const READS: u64 = 0x1_0000_0000_0000;
-
-// What is kept of the input: how many bytes of the next line, and whether they are passed over up to its end.
-#[derive(Drop)]
-struct Held {
-    bytes: usize,
-    skip: bool,
-}
-
-// Answers each whole line; gives how many bytes they took.
-fn answer_lines<W: Write>(out: &mut W, text: &[u8]) -> io::Result<usize>
-    ensures { IfOk result (λ n. n ≤ length text.now) }
-{
-    let mut start = 0;
-    let mut i = 0;
-    while i < text.len() {
-        if text[i] == b'\n' {
-            answer(out, slice(text, start, i - start))?;
-            start = i + 1;
+// Answers the input line by line. A line that is too long is passed over; the last one may have no end. The input ends long before
+// the count does.
+fn answer_input<R: BufRead, W: Write>(alloc: Global, input: &mut R, out: &mut W) -> io::Result<()> {
+    let mut line = Vec::new(alloc);
+    for _ in 0..u64::MAX {
+        line.clear();
+        let taken = input
+            .by_ref()
+            .take(LINE_LIMIT as u64)
+            .read_until(b'\n', &mut line)?;
+        if taken == 0 {
+            return Ok(());
         }
-        i += 1;
-    }
-    Ok(start)
-}
-
-// Moves what stands from `start` to `end` to the front; gives its length.
-fn move_down(text: &mut [u8], start: usize, end: usize) -> usize
-    requires { (start ≤ end) × (end ≤ length text.old) }
-    ensures { result ≤ length text.old }
-{
-    let n = end - start;
-    let mut i = 0;
-    while i < n {
-        text[i] = text[start + i];
-        i += 1;
-    }
-    n
-}
-
-// Answers the whole lines among the first `end` bytes, and keeps the beginning of the next one.
-fn take_lines<W: Write>(out: &mut W, line: &mut [u8], end: usize) -> io::Result<Held>
-    requires { end ≤ length line.old }
-    ensures { IfOk result (λ held. held.bytes ≤ length line.old) }
-{
-    let taken = answer_lines(out, &line[..end])?;
-    let held = move_down(line, taken, end);
-    if held == line.len() {
-        say(out, b"? the line is too long\n")?;
-        return Ok(Held {
-            bytes: 0,
-            skip: true,
-        });
-    }
-    Ok(Held {
-        bytes: held,
-        skip: false,
-    })
-}
-
-// The same, where the first line is the rest of one that was too long.
-fn skip_line<W: Write>(out: &mut W, line: &mut [u8], end: usize) -> io::Result<Held>
-    requires { end ≤ length line.old }
-    ensures { IfOk result (λ held. held.bytes ≤ length line.old) }
-{
-    let start = line_end(&line[..end]);
-    if start == 0 {
-        return Ok(Held {
-            bytes: 0,
-            skip: true,
-        });
-    }
-    let held = move_down(line, start, end);
-    take_lines(out, line, held)
-}
-
-fn take_input<W: Write>(out: &mut W, line: &mut [u8], end: usize, skip: bool) -> io::Result<Held>
-    requires { end ≤ length line.old }
-    ensures { IfOk result (λ held. held.bytes ≤ length line.old) }
-{
-    if skip {
-        return skip_line(out, line, end);
-    }
-    take_lines(out, line, end)
-}
-
-// Reads more of the input behind the bytes held; gives how many came, none at its end.
-fn read_more<R: Read>(input: &mut R, line: &mut [u8], held: usize) -> io::Result<usize>
-    requires { held ≤ length line.old }
-    ensures { IfOk result (λ n. held + n ≤ length line.old) }
-{
-    input.read(&mut line[held..])
-}
-
-// The last line, where the input does not end with a line's end.
-fn answer_last<W: Write>(out: &mut W, line: &[u8]) -> io::Result<()> {
-    if line.len() != 0 {
-        return answer(out, line);
-    }
-    Ok(())
-}
-
-// Answers the input line by line, through a buffer that holds the line at hand.
-fn answer_input<R: Read, W: Write>(input: &mut R, out: &mut W, line: &mut [u8]) -> io::Result<()> {
-    let mut held: usize = 0;
-    let mut skip = false;
-    let mut reads: u64 = 0;
-    while reads < READS {
-        let got = read_more(input, line, held)?;
-        if got == 0 {
-            return answer_last(out, slice(line, 0, held));
+        match line.strip_suffix(b"\n") {
+            Some(text) => answer(alloc, out, text)?,
+            None if taken < LINE_LIMIT => return answer(alloc, out, &line),
+            None => {
+                writeln!(out, "? {}", Fault::TooLong)?;
+                input.skip_until(b'\n')?;
+            }
         }
-        let next = take_input(out, line, held + got, skip)?;
-        held = next.bytes;
-        skip = next.skip;
-        reads += 1;
     }
     Ok(())
 }
 
 fn main(rt: HostRuntime) -> io::Result<()> {
-    let mut line = [0u8; LINE_LIMIT];
-    let mut input = rt.reader();
+    let alloc = rt.alloc();
+    let mut input = BufReader::with_capacity(alloc, LINE_LIMIT, rt.reader())?;
     let mut out = io::writer(&rt);
-    answer_input(&mut input, &mut out, &mut line)
+    answer_input(alloc, &mut input, &mut out)
 }

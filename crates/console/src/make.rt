@@ -2,43 +2,29 @@
 //
 //   make i -1          result 40ff
 //   number 40ff        signed -1
-use crate::decimal::{Decimal, Signed, read_decimal, read_signed, take_length};
-use crate::hex::{RECORD_ROOM, decode};
-use crate::say::{BITS_LETTERS, say, say_bits, say_decimal, say_ending, say_fault, say_refused};
-use crate::spell::say_signed;
-use crate::text::{Fault, Taken, argument, count_arguments, count_words, trim, word};
-use crate::writing::lent;
+use crate::decimal::{read_decimal, read_signed};
+use crate::fault::{Failure, Fault};
+use crate::hex::digit;
+use crate::say::{say_ending, say_refused};
+use crate::taken::{take_one, take_room};
+use crate::text::{Words, argument, count_arguments, trim};
 use layout::ending::Ending;
 use layout::number::{Number, encode_decimal64, encode_float64, encode_int64, encode_uint64};
-use layout::order::is_same_bytes;
-use layout::util::{read_u32, slice};
+use layout::refusal::Refusal;
+use std::alloc::Global;
 use std::io;
 use std::io::Write;
 
-// The longest payload that is made, a decimal's: its first byte, eight of the value and the scale.
-const MADE_ROOM: usize = 10;
+// The digits of a float's bits.
+const BITS_DIGITS: usize = 16;
 
-// How many words a maker takes, its own among them.
-const ONE_NUMBER: usize = 2;
-
-const TWO_NUMBERS: usize = 3;
-
-const SCALE_MAX: u64 = 255;
-
-// The bits of a float: their bytes, the two halves, and the sign.
-const BITS_SIZE: usize = 8;
-
-const HALF_SIZE: usize = 4;
-
-const HALF: u64 = 0x1_0000_0000;
-
+// The sign of a float, and the bits of infinity. Those above them, but for the sign, are NaNs.
 const SIGN: u64 = 0x8000_0000_0000_0000;
 
-// The bits of infinity. Those above them, but for the sign, are NaNs.
 const INFINITY: u64 = 0x7ff0_0000_0000_0000;
 
-// What is to be made.
-#[derive(Drop)]
+// What is to be made. It is an enum, and no closure in its place: each maker takes a number of a type of its own.
+#[derive(Clone, Copy)]
 enum Making {
     Int(i64),
     Uint(u64),
@@ -46,88 +32,44 @@ enum Making {
     Scaled(i64, u8),
 }
 
-#[derive(Drop)]
-enum Asked {
-    Making(Making),
-    Wrong(Fault),
-}
-
 // ---- what a maker takes
 
-fn ask_int(text: &[u8]) -> Asked {
-    if count_words(text) != ONE_NUMBER {
-        return Asked::Wrong(Fault::NotInt);
-    }
-    match read_signed(word(text, 1)) {
-        Signed::Number(v) => Asked::Making(Making::Int(v)),
-        Signed::Other => Asked::Wrong(Fault::NotInt),
-    }
+fn ask_int(words: Words) -> Option<Making> {
+    Some(Making::Int(read_signed(words.only()?)?))
 }
 
-fn ask_uint(text: &[u8]) -> Asked {
-    if count_words(text) != ONE_NUMBER {
-        return Asked::Wrong(Fault::NotUint);
-    }
-    match read_decimal(word(text, 1)) {
-        Decimal::Number(v) => Asked::Making(Making::Uint(v)),
-        Decimal::Over => Asked::Wrong(Fault::NotUint),
-        Decimal::Other => Asked::Wrong(Fault::NotUint),
-    }
+fn ask_uint(words: Words) -> Option<Making> {
+    Some(Making::Uint(read_decimal(words.only()?).ok()?))
 }
 
-fn bits_of(bytes: &[u8]) -> u64 {
-    read_u32(bytes, 0) as u64 * HALF + read_u32(bytes, HALF_SIZE) as u64
+fn ask_float(words: Words) -> Option<Making> {
+    let digits = words.only()?;
+    if digits.len() != BITS_DIGITS {
+        return None;
+    }
+    let mut bits = 0;
+    for c in digits {
+        bits = bits << 4 | u64::from(digit(*c)?);
+    }
+    Some(Making::Float(bits))
 }
 
-// A word of as many letters spells all the bytes, or is not hexadecimal.
-fn ask_float(text: &[u8]) -> Asked {
-    let letters = word(text, 1);
-    if (count_words(text) != ONE_NUMBER) | (letters.len() != BITS_LETTERS) {
-        return Asked::Wrong(Fault::NotBits);
-    }
-    let mut bytes = [0u8; BITS_SIZE];
-    match decode(letters, &mut bytes) {
-        Taken::Length(_) => Asked::Making(Making::Float(bits_of(&bytes))),
-        Taken::Wrong(_) => Asked::Wrong(Fault::NotBits),
-    }
-}
-
-fn ask_scale(value: i64, text: &[u8]) -> Asked {
-    let Decimal::Number(scale) = read_decimal(text) else {
-        return Asked::Wrong(Fault::NotScaled);
-    };
-    if SCALE_MAX < scale {
-        return Asked::Wrong(Fault::NotScaled);
-    }
-    Asked::Making(Making::Scaled(value, scale as u8))
-}
-
-fn ask_scaled(text: &[u8]) -> Asked {
-    if count_words(text) != TWO_NUMBERS {
-        return Asked::Wrong(Fault::NotScaled);
-    }
-    match read_signed(word(text, 1)) {
-        Signed::Number(value) => ask_scale(value, word(text, 2)),
-        Signed::Other => Asked::Wrong(Fault::NotScaled),
-    }
+fn ask_scaled(mut words: Words) -> Option<Making> {
+    let value = read_signed(words.next()?)?;
+    let scale = read_decimal(words.only()?).ok()?;
+    Some(Making::Scaled(value, u8::try_from(scale).ok()?))
 }
 
 // What the words of a call ask for, of which the first is the maker.
-fn ask(text: &[u8]) -> Asked {
-    let maker = word(text, 0);
-    if is_same_bytes(maker, b"i") {
-        return ask_int(text);
+fn ask(text: &[u8]) -> Result<Making, Fault> {
+    let mut words = Words(text);
+    match words.next() {
+        Some(b"i") => ask_int(words).ok_or(Fault::NotInt),
+        Some(b"u") => ask_uint(words).ok_or(Fault::NotUint),
+        Some(b"f") => ask_float(words).ok_or(Fault::NotBits),
+        Some(b"d") => ask_scaled(words).ok_or(Fault::NotScaled),
+        _ => Err(Fault::NoMaker),
     }
-    if is_same_bytes(maker, b"u") {
-        return ask_uint(text);
-    }
-    if is_same_bytes(maker, b"f") {
-        return ask_float(text);
-    }
-    if is_same_bytes(maker, b"d") {
-        return ask_scaled(text);
-    }
-    Asked::Wrong(Fault::NoMaker)
 }
 
 // ---- making
@@ -140,7 +82,7 @@ fn float_of(bits: u64) -> f64 {
     f64::from_bits(bits)
 }
 
-fn encode_number(making: Making, out: &mut [u8]) -> Ending {
+fn encode(making: Making, out: &mut [u8]) -> Ending {
     match making {
         Making::Int(v) => encode_int64(v, out),
         Making::Uint(v) => encode_uint64(v, out),
@@ -149,90 +91,48 @@ fn encode_number(making: Making, out: &mut [u8]) -> Ending {
     }
 }
 
-fn answer_lent<W: Write>(out: &mut W, making: Making, length: usize) -> io::Result<()> {
-    let mut room = [0u8; MADE_ROOM];
-    let ending = encode_number(making, lent(&mut room, length));
-    say_ending(out, ending, &room)
-}
-
-// Takes the buffer's length behind what is to be made.
-fn answer_making<W: Write>(out: &mut W, making: Making, text: &[u8]) -> io::Result<()> {
-    match take_length(text, 1) {
-        Taken::Length(n) => answer_lent(out, making, n),
-        Taken::Wrong(fault) => say_fault(out, fault),
+pub(crate) fn answer_make<W: Write>(
+    alloc: Global,
+    out: &mut W,
+    text: &[u8],
+) -> Result<(), Failure> {
+    if count_arguments(text) > 2 {
+        return Err(Fault::NoMaker.into());
     }
-}
-
-pub(crate) fn answer_make<W: Write>(out: &mut W, text: &[u8]) -> io::Result<()> {
-    if 2 < count_arguments(text) {
-        return say_fault(out, Fault::NoMaker);
-    }
-    match ask(argument(text, 0)) {
-        Asked::Making(making) => answer_making(out, making, text),
-        Asked::Wrong(fault) => say_fault(out, fault),
-    }
+    let making = ask(argument(text, 0).ok_or(Fault::NoMaker)?)?;
+    let mut room = take_room(alloc, text, 1)?;
+    let ending = encode(making, &mut room);
+    say_ending(out, ending, &room)?;
+    Ok(())
 }
 
 // ---- reading back
 
-fn say_int<W: Write>(out: &mut W, v: i64) -> io::Result<()> {
-    say(out, b"signed ")?;
-    say_signed(out, v)?;
-    say(out, b"\n")
-}
-
-fn say_uint<W: Write>(out: &mut W, v: u64) -> io::Result<()> {
-    say(out, b"unsigned ")?;
-    say_decimal(out, v)?;
-    say(out, b"\n")
-}
-
-// Of a float the bits, as layout hands them out.
-fn say_float<W: Write>(out: &mut W, bits: u64) -> io::Result<()> {
-    say(out, b"float ")?;
-    say_bits(out, bits)?;
-    say(out, b"\n")
-}
-
-fn say_scaled<W: Write>(out: &mut W, value: i64, scale: u8) -> io::Result<()> {
-    say(out, b"decimal ")?;
-    say_signed(out, value)?;
-    say(out, b" ")?;
-    say_decimal(out, scale as u64)?;
-    say(out, b"\n")
-}
-
-// Of a decimal that is wider than 64 bits the bytes behind the first are counted.
-fn say_wide<W: Write>(out: &mut W, bytes: usize) -> io::Result<()> {
-    say(out, b"wide ")?;
-    say_decimal(out, bytes as u64)?;
-    say(out, b"\n")
-}
-
-fn say_decoded<W: Write>(out: &mut W, number: Number) -> io::Result<()> {
+// Of a float the bits are said, as layout hands them out; of a decimal that is wider than 64 bits how many bytes there are behind
+// the first.
+fn say_number<W: Write>(out: &mut W, number: Result<Number, Refusal>) -> io::Result<()> {
     match number {
-        Number::Nan => say(out, b"nan\n"),
-        Number::Infinity => say(out, b"infinity\n"),
-        Number::NegInfinity => say(out, b"-infinity\n"),
-        Number::Int64(v) => say_int(out, v),
-        Number::UInt64(v) => say_uint(out, v),
-        Number::Float64(bits) => say_float(out, bits),
-        Number::Decimal64(value, scale) => say_scaled(out, value, scale),
-        Number::WideDecimal(bytes) => say_wide(out, bytes),
-        Number::Refused(refusal) => say_refused(out, refusal),
+        Ok(Number::Nan) => writeln!(out, "nan"),
+        Ok(Number::Infinity) => writeln!(out, "infinity"),
+        Ok(Number::NegInfinity) => writeln!(out, "-infinity"),
+        Ok(Number::Int64(v)) => writeln!(out, "signed {v}"),
+        Ok(Number::UInt64(v)) => writeln!(out, "unsigned {v}"),
+        Ok(Number::Float64(bits)) => writeln!(out, "float {bits:016x}"),
+        Ok(Number::Decimal64(value, scale)) => writeln!(out, "decimal {value} {scale}"),
+        Ok(Number::WideDecimal(bytes)) => writeln!(out, "wide {bytes}"),
+        Err(refusal) => say_refused(out, refusal),
     }
 }
 
-pub(crate) fn answer_number<W: Write>(out: &mut W, text: &[u8]) -> io::Result<()> {
-    if (count_arguments(text) != 1) | (trim(text).len() == 0) {
-        return say(
-            out,
-            b"? number takes one payload in hexadecimal; an empty one is -\n",
-        );
+pub(crate) fn answer_number<W: Write>(
+    alloc: Global,
+    out: &mut W,
+    text: &[u8],
+) -> Result<(), Failure> {
+    if trim(text).is_empty() {
+        return Err(Fault::OnePayload.into());
     }
-    let mut payload = [0u8; RECORD_ROOM];
-    match decode(text, &mut payload) {
-        Taken::Length(n) => say_decoded(out, Number::decode(slice(&payload, 0, n))),
-        Taken::Wrong(fault) => say_fault(out, fault),
-    }
+    let payload = take_one(alloc, text, Fault::OnePayload)?;
+    say_number(out, Number::decode(&payload))?;
+    Ok(())
 }

@@ -1,155 +1,93 @@
 // An item in words: what it is, and what its payload spells, as it stands in an outline.
-use crate::say::{say, say_bits, say_bytes, say_decimal, say_hex};
+use crate::hex::say_bytes;
 use layout::item::Kind;
 use layout::number::Number;
-use layout::util::slice;
 use std::io;
 use std::io::Write;
-
-// The control bytes are those below the space, and the last of ASCII.
-const SPACE: u8 = 0x20;
-
-const DELETE: u8 = 0x7f;
 
 // The length of the payload 00. It reads as an unsigned 0, as 5000 does, which is longer.
 const ZERO_LENGTH: usize = 1;
 
 // ---- text
 
-fn is_control(c: u8) -> bool {
-    (c < SPACE) | (c == DELETE)
-}
-
 fn is_escaped(c: u8) -> bool {
-    (c == b'"') | ((c == b'\\') | is_control(c))
+    c == b'"' || c == b'\\' || c.is_ascii_control()
 }
 
 // A control byte stands as \u00 and two digits, a quotation mark and a reverse solidus behind a reverse solidus.
 fn say_escaped<W: Write>(out: &mut W, c: u8) -> io::Result<()> {
-    let letter = [c];
-    if is_control(c) {
-        say(out, b"\\u00")?;
-        return say_hex(out, &letter);
+    if c.is_ascii_control() {
+        return write!(out, "\\u{c:04x}");
     }
-    say(out, b"\\")?;
-    say(out, &letter)
+    out.write_all(&[b'\\', c])
 }
 
 // Text between quotation marks. The bytes between two that are escaped are written at once.
 pub(crate) fn say_text<W: Write>(out: &mut W, text: &[u8]) -> io::Result<()> {
-    say(out, b"\"")?;
-    let mut start = 0;
-    let mut i = 0;
-    while i < text.len() {
-        let c = text[i];
-        if is_escaped(c) {
-            say(out, slice(text, start, i - start))?;
-            say_escaped(out, c)?;
-            start = i + 1;
+    write!(out, "\"")?;
+    for part in text.split_inclusive(|c| is_escaped(*c)) {
+        match part {
+            [plain @ .., c] if is_escaped(*c) => {
+                out.write_all(plain)?;
+                say_escaped(out, *c)?;
+            }
+            plain => out.write_all(plain)?,
         }
-        i += 1;
     }
-    say(out, slice(text, start, i - start))?;
-    say(out, b"\"")
+    write!(out, "\"")
 }
 
 // ---- numbers
 
-// The least number has no positive counterpart: a negative one is turned around at −1, and what that takes is added without a sign.
-pub(crate) fn say_signed<W: Write>(out: &mut W, v: i64) -> io::Result<()> {
-    if v < 0 {
-        say(out, b"-")?;
-        return say_decimal(out, (-1 - v) as u64 + 1);
-    }
-    say_decimal(out, v as u64)
-}
-
-fn say_int<W: Write>(out: &mut W, v: i64) -> io::Result<()> {
-    say_signed(out, v)?;
-    say(out, b" (signed)")
-}
-
-fn say_uint<W: Write>(out: &mut W, v: u64, length: usize) -> io::Result<()> {
-    say_decimal(out, v)?;
-    if length == ZERO_LENGTH {
-        return say(out, b" (zero)");
-    }
-    say(out, b" (unsigned)")
-}
-
-// Of a float the bits are shown, as layout hands them out.
-fn say_float<W: Write>(out: &mut W, bits: u64) -> io::Result<()> {
-    say(out, b"bits ")?;
-    say_bits(out, bits)?;
-    say(out, b" (float)")
-}
-
-fn say_decimal64<W: Write>(out: &mut W, value: i64, scale: u8) -> io::Result<()> {
-    say_signed(out, value)?;
-    say(out, b" scale ")?;
-    say_decimal(out, scale as u64)?;
-    say(out, b" (decimal)")
-}
-
-fn say_wide_decimal<W: Write>(out: &mut W, bytes: usize) -> io::Result<()> {
-    say(out, b"of ")?;
-    say_decimal(out, bytes as u64)?;
-    say(out, b" bytes (decimal)")
-}
-
-// By layout's reading of the payload, which never refuses one of a readable record.
-fn say_number_item<W: Write>(out: &mut W, payload: &[u8]) -> io::Result<()> {
-    say(out, b" ")?;
+// By layout's reading of the payload, which never refuses one of a readable record. Of a float the bits are shown, as layout hands
+// them out.
+fn say_number<W: Write>(out: &mut W, payload: &[u8]) -> io::Result<()> {
     match Number::decode(payload) {
-        Number::Nan => say(out, b"NaN"),
-        Number::Infinity => say(out, b"infinity"),
-        Number::NegInfinity => say(out, b"minus infinity"),
-        Number::Int64(v) => say_int(out, v),
-        Number::UInt64(v) => say_uint(out, v, payload.len()),
-        Number::Float64(bits) => say_float(out, bits),
-        Number::Decimal64(value, scale) => say_decimal64(out, value, scale),
-        Number::WideDecimal(bytes) => say_wide_decimal(out, bytes),
-        Number::Refused(_) => Ok(()),
+        Ok(Number::Nan) => write!(out, " NaN"),
+        Ok(Number::Infinity) => write!(out, " infinity"),
+        Ok(Number::NegInfinity) => write!(out, " minus infinity"),
+        Ok(Number::Int64(v)) => write!(out, " {v} (signed)"),
+        Ok(Number::UInt64(v)) if payload.len() == ZERO_LENGTH => write!(out, " {v} (zero)"),
+        Ok(Number::UInt64(v)) => write!(out, " {v} (unsigned)"),
+        Ok(Number::Float64(bits)) => write!(out, " bits {bits:016x} (float)"),
+        Ok(Number::Decimal64(value, scale)) => write!(out, " {value} scale {scale} (decimal)"),
+        Ok(Number::WideDecimal(bytes)) => write!(out, " of {bytes} bytes (decimal)"),
+        Err(_) => write!(out, " "),
     }
 }
 
 // ---- items
 
-// The word of each kind.
-pub(crate) fn say_kind<W: Write>(out: &mut W, kind: Kind) -> io::Result<()> {
+// The word of a kind. It is a function and no Display, since the type is layout's, which prints nothing.
+pub(crate) fn kind_word(kind: Kind) -> &'static str {
     match kind {
-        Kind::Null => say(out, b"null"),
-        Kind::String => say(out, b"string"),
-        Kind::Number => say(out, b"number"),
-        Kind::False => say(out, b"false"),
-        Kind::True => say(out, b"true"),
-        Kind::Container => say(out, b"container"),
-        Kind::Extension => say(out, b"extension"),
+        Kind::Null => "null",
+        Kind::String => "string",
+        Kind::Number => "number",
+        Kind::False => "false",
+        Kind::True => "true",
+        Kind::Container => "container",
+        Kind::Extension => "extension",
     }
 }
 
 fn say_string<W: Write>(out: &mut W, payload: &[u8]) -> io::Result<()> {
-    say(out, b" ")?;
+    write!(out, " ")?;
     say_text(out, payload)
 }
 
 fn say_extension<W: Write>(out: &mut W, payload: &[u8]) -> io::Result<()> {
-    say(out, b" ")?;
+    write!(out, " ")?;
     say_bytes(out, payload)
 }
 
-// What stands behind the word of a kind that does not say all.
-fn say_payload<W: Write>(out: &mut W, kind: Kind, payload: &[u8]) -> io::Result<()> {
+// An item that is no container: the word of its kind, and what stands behind one that does not say all.
+pub(crate) fn say_leaf<W: Write>(out: &mut W, kind: Kind, payload: &[u8]) -> io::Result<()> {
+    write!(out, "{}", kind_word(kind))?;
     match kind {
         Kind::String => say_string(out, payload),
-        Kind::Number => say_number_item(out, payload),
+        Kind::Number => say_number(out, payload),
         Kind::Extension => say_extension(out, payload),
         _ => Ok(()),
     }
-}
-
-// An item that is no container.
-pub(crate) fn say_leaf<W: Write>(out: &mut W, kind: Kind, payload: &[u8]) -> io::Result<()> {
-    say_kind(out, kind)?;
-    say_payload(out, kind, payload)
 }

@@ -1,158 +1,63 @@
 // The calls that write a result.
-use crate::decimal::{RESULT_ROOM, take_length};
-use crate::hex::{RECORD_ROOM, decode};
-use crate::say::{say, say_ending, say_fault};
-use crate::text::{Taken, argument, count_arguments};
-use flight::edit::{flight_concat, flight_delete, flight_strip};
+use crate::fault::{Failure, Fault};
+use crate::say::say_ending;
+use crate::taken::{check_records, take_record, take_room};
 use layout::ending::Ending;
-use layout::util::slice;
-use layout::writer::least;
 use runs::call::{Edit, make_edit};
-use std::io;
+use std::alloc::Global;
 use std::io::Write;
 
-// What a call makes: an edit, or one that takes flight records and gives flight records.
-#[derive(Drop)]
-pub(crate) enum Writing {
-    Plain(Edit),
-    FlightDelete,
-    FlightConcat,
-    FlightStrip,
+// A call of one record and the buffer's length. It and the next are two functions, since closures of one record and of two have no
+// bound in common.
+pub(crate) fn answer_one<W: Write, F: FnOnce(&[u8], &mut [u8]) -> Ending>(
+    alloc: Global,
+    out: &mut W,
+    text: &[u8],
+    make: F,
+) -> Result<(), Failure>
+    requires { F.IsAlwaysCallable make }
+{
+    check_records(text, 1, Fault::OneAndLength)?;
+    let record = take_record(alloc, text, 0)?;
+    let mut room = take_room(alloc, text, 1)?;
+    let ending = make(&record, &mut room);
+    say_ending(out, ending, &room)?;
+    Ok(())
 }
 
-// What a call is given.
-#[derive(Drop)]
-pub(crate) enum Given {
-    Record,
-    RecordAndPath,
-    TwoRecords,
+// A call of two records, of which the second is the path where the call has one, and the buffer's length.
+pub(crate) fn answer_two<W: Write, F: FnOnce(&[u8], &[u8], &mut [u8]) -> Ending>(
+    alloc: Global,
+    out: &mut W,
+    text: &[u8],
+    make: F,
+) -> Result<(), Failure>
+    requires { F.IsAlwaysCallable make }
+{
+    check_records(text, 2, Fault::TwoAndLength)?;
+    let first = take_record(alloc, text, 0)?;
+    let second = take_record(alloc, text, 1)?;
+    let mut room = take_room(alloc, text, 2)?;
+    let ending = make(&first, &second, &mut room);
+    say_ending(out, ending, &room)?;
+    Ok(())
 }
 
-pub(crate) fn given_of(edit: Edit) -> Given {
+pub(crate) fn answer_edit<W: Write>(
+    alloc: Global,
+    out: &mut W,
+    edit: Edit,
+    text: &[u8],
+) -> Result<(), Failure> {
     match edit {
-        Edit::Get => Given::RecordAndPath,
-        Edit::Delete => Given::RecordAndPath,
-        Edit::Concat => Given::TwoRecords,
-        Edit::Strip => Given::Record,
-        Edit::Append => Given::TwoRecords,
-        Edit::Build => Given::TwoRecords,
-    }
-}
-
-// How many records that is, a path being one.
-pub(crate) const ONE_RECORD: usize = 1;
-
-pub(crate) const TWO_RECORDS: usize = 2;
-
-// What is lent of the room for a result: a buffer of a length. The room is as long as the longest result, so that a longer buffer
-// serves as it does.
-pub(crate) fn lent(room: &mut [u8], length: usize) -> &mut [u8] {
-    let n = least(length, room.len());
-    &mut room[..n]
-}
-
-// Of the two records the second is the path where the call has one.
-fn write(writing: Writing, first: &[u8], second: &[u8], out: &mut [u8]) -> Ending {
-    match writing {
-        Writing::Plain(edit) => make_edit(edit, first, second, second, out),
-        Writing::FlightDelete => flight_delete(first, second, out),
-        Writing::FlightConcat => flight_concat(first, second, out),
-        Writing::FlightStrip => flight_strip(first, out),
-    }
-}
-
-// Makes it with a buffer of a length.
-fn answer_lent<W: Write>(
-    out: &mut W,
-    writing: Writing,
-    first: &[u8],
-    second: &[u8],
-    length: usize,
-) -> io::Result<()> {
-    let mut room = [0u8; RESULT_ROOM];
-    let ending = write(writing, first, second, lent(&mut room, length));
-    say_ending(out, ending, &room)
-}
-
-// Takes the buffer's length behind so many records.
-fn answer_length<W: Write>(
-    out: &mut W,
-    writing: Writing,
-    first: &[u8],
-    second: &[u8],
-    text: &[u8],
-    records: usize,
-) -> io::Result<()> {
-    match take_length(text, records) {
-        Taken::Length(n) => answer_lent(out, writing, first, second, n),
-        Taken::Wrong(fault) => say_fault(out, fault),
-    }
-}
-
-// Takes the second record.
-fn answer_second<W: Write>(
-    out: &mut W,
-    writing: Writing,
-    first: &[u8],
-    text: &[u8],
-) -> io::Result<()> {
-    let mut record = [0u8; RECORD_ROOM];
-    match decode(argument(text, 1), &mut record) {
-        Taken::Length(n) => answer_length(
-            out,
-            writing,
-            first,
-            slice(&record, 0, n),
-            text,
-            TWO_RECORDS,
-        ),
-        Taken::Wrong(fault) => say_fault(out, fault),
-    }
-}
-
-// Takes the arguments of a call with two records, from the left, or says why one is none.
-pub(crate) fn answer_two<W: Write>(out: &mut W, writing: Writing, text: &[u8]) -> io::Result<()> {
-    let count = count_arguments(text);
-    if (count != TWO_RECORDS) & (count != TWO_RECORDS + 1) {
-        return say(
-            out,
-            b"? this call takes two records, and the buffer's length if you like\n",
-        );
-    }
-    let mut record = [0u8; RECORD_ROOM];
-    match decode(argument(text, 0), &mut record) {
-        Taken::Length(n) => answer_second(out, writing, slice(&record, 0, n), text),
-        Taken::Wrong(fault) => say_fault(out, fault),
-    }
-}
-
-// The same for strip, which takes one.
-pub(crate) fn answer_strip<W: Write>(out: &mut W, writing: Writing, text: &[u8]) -> io::Result<()> {
-    let count = count_arguments(text);
-    if (count != ONE_RECORD) & (count != ONE_RECORD + 1) {
-        return say(
-            out,
-            b"? this call takes one record, and the buffer's length if you like\n",
-        );
-    }
-    let mut record = [0u8; RECORD_ROOM];
-    match decode(argument(text, 0), &mut record) {
-        Taken::Length(n) => answer_length(
-            out,
-            writing,
-            slice(&record, 0, n),
-            b"",
-            text,
-            ONE_RECORD,
-        ),
-        Taken::Wrong(fault) => say_fault(out, fault),
-    }
-}
-
-pub(crate) fn answer_edit<W: Write>(out: &mut W, edit: Edit, text: &[u8]) -> io::Result<()> {
-    match given_of(edit) {
-        Given::Record => answer_strip(out, Writing::Plain(edit), text),
-        Given::RecordAndPath => answer_two(out, Writing::Plain(edit), text),
-        Given::TwoRecords => answer_two(out, Writing::Plain(edit), text),
+        Edit::Strip => answer_one(alloc, out, text, |record, room| {
+            make_edit(edit, record, b"", b"", room)
+        }),
+        // The second argument goes in both as the other record and as the path: each edit reads one of the two.
+        Edit::Get | Edit::Delete | Edit::Concat | Edit::Append | Edit::Build => {
+            answer_two(alloc, out, text, |first, second, room| {
+                make_edit(edit, first, second, second, room)
+            })
+        }
     }
 }

@@ -1,9 +1,0 @@
--- `console::chars::say_members` meets its contract.
-use Rattle.std.proofs.Common.{◌≤◌, ◌-◌}
-use Rattle.console.proofs.chars.say_members.Given as goal
-
-abbrev pub invariant-loop-i : goal.invariant-loop-i
-invariant-loop-i g l = l.i ≤ l.count
-
-abbrev pub decreases-loop-i : goal.decreases-loop-i
-decreases-loop-i g l = l.count - l.i

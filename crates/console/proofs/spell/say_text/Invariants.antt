@@ -1,9 +1,0 @@
--- `console::spell::say_text` meets its contract.
-use Rattle.std.proofs.Common.{◌≤◌, ◌-◌, length}
-use Rattle.console.proofs.spell.say_text.Given as goal
-
-abbrev pub invariant-loop-i : goal.invariant-loop-i
-invariant-loop-i g l = (l.start ≤ l.i) × (l.i ≤ length l.text)
-
-abbrev pub decreases-loop-i : goal.decreases-loop-i
-decreases-loop-i g l = length l.text - l.i

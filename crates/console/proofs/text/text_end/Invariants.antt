@@ -1,9 +1,0 @@
--- `console::text::text_end` meets its contract.
-use Rattle.std.proofs.Common.{◌≤◌, length}
-use Rattle.console.proofs.text.text_end.Given as goal
-
-abbrev pub invariant-loop-n : goal.invariant-loop-n
-invariant-loop-n l = l.n ≤ length l.text
-
-abbrev pub decreases-loop-n : goal.decreases-loop-n
-decreases-loop-n l = l.n

@@ -1,9 +1,0 @@
--- `console::text::text_start` meets its contract.
-use Rattle.std.proofs.Common.{◌≤◌, ◌-◌, length}
-use Rattle.console.proofs.text.text_start.Given as goal
-
-abbrev pub invariant-loop-i : goal.invariant-loop-i
-invariant-loop-i l = l.i ≤ length l.text
-
-abbrev pub decreases-loop-i : goal.decreases-loop-i
-decreases-loop-i l = length l.text - l.i
