@@ -1,6 +1,6 @@
 // The functions for the flight computer's C code, which crate jsonb_c exports under these names; include/jsonb.h is for its
 // programmers. A slice is a pointer and a length there.
-ghost use Rattle.std.specs.Prelude.{◌≡◌, ◌+◌, ◌-◌, ◌^◌, min, length};
+ghost use Rattle.std.specs.Prelude.{◌≡◌, ◌+◌, ◌-◌, ◌^◌, length};
 ghost use Rattle.layout.specs.Read.{read};
 ghost use Rattle.layout.specs.Check.{checked, text_checked};
 ghost use Rattle.layout.specs.Text.{code_points};
@@ -19,10 +19,10 @@ use edits::operator::{concat, strip_nulls};
 use edits::path::{delete_by_keypath, get_by_keypath};
 use flight::edit::{flight_concat, flight_delete, flight_strip};
 use flight::profile::check_flight;
-use layout::check::{Check, check_record};
+use layout::check::check_record;
 use layout::ending::Ending;
 use layout::refusal::Refusal;
-use layout::utf8::{TextCheck, check_text};
+use layout::utf8::check_text;
 use pointers::pointer::get_by_pointer;
 use previews::preview::{
     preview_append, preview_build, preview_concat, preview_delete, preview_strip,
@@ -37,18 +37,20 @@ const ABSENT: u64 = 0x1_0000_0000;
 // The most code points that an answer can tell.
 const MOST: u64 = ABSENT - 1;
 
+// What the answers share. The functions that call it differ in what a value tells, and not in its type alone, so a trait would have
+// an impl as long as each of them.
 fn c_refused(refusal: Refusal) -> u64
     ensures { result ≡ 2 ^ 32 + number refusal }
 {
     ABSENT + refusal.number()
 }
 
-fn c_check(check: Check) -> u64
+fn c_check(check: Result<(), Refusal>) -> u64
     ensures { result ≡ c_check check }
 {
     match check {
-        Check::Readable => READABLE,
-        Check::Refused(refusal) => c_refused(refusal),
+        Ok(()) => READABLE,
+        Err(refusal) => c_refused(refusal),
     }
 }
 
@@ -56,9 +58,9 @@ fn c_ending(ending: Ending) -> u64
     ensures { result ≡ c_ending ending }
 {
     match ending {
-        Ending::Done(n) => n as u64,
-        Ending::Absent => ABSENT,
-        Ending::Refused(refusal) => c_refused(refusal),
+        Ok(Some(n)) => n as u64,
+        Ok(None) => ABSENT,
+        Err(refusal) => c_refused(refusal),
     }
 }
 
@@ -69,23 +71,13 @@ pub fn jsonb_check(s: &[u8]) -> u64
     c_check(check_record(s))
 }
 
-fn c_count(count: usize) -> u64
-    ensures { result ≡ min count (2 ^ 32 - 1) }
-{
-    let n = count as u64;
-    if MOST < n {
-        return MOST;
-    }
-    n
-}
-
 // Checks a text, and counts its code points.
 pub fn jsonb_check_text(s: &[u8]) -> u64
     ensures { result ≡ c_text (text_checked (code_points s.now)) }
 {
     match check_text(s) {
-        TextCheck::Passed(count) => c_count(count),
-        TextCheck::Refused(refusal) => c_refused(refusal),
+        Ok(count) => (count as u64).min(MOST),
+        Err(refusal) => c_refused(refusal),
     }
 }
 
