@@ -4,12 +4,13 @@ use mathlib.Core.Path.{◌≡◌, refl, sym, ap, ◌∙◌}
 use Prim.Native.Nat.{ℕ, suc, ◌+◌, ◌-◌, ◌≤◌, ◌<◌, min}
 use native.Mathlib.Decide.{dec_le}
 use native.Mathlib.Nat.{add-zero, zero-add, add-suc, suc-add}
+use native.Mathlib.Numerals.{add-one}
 use native.Mathlib.Omega.{arith}
 use mathlib.Core.Bool.{cond}
 use mathlib.Core.List.{List, [], ◌∷◌, ◌++◌, append_assoc}
 use lib.Dec.{ltb}
-use lib.ListN.{length, take, drop, set, length-set, take-append-drop}
-use lib.Seq.{sets, sets-eq, set_comm, set_out, take_all, length-take-le, drop-drop}
+use lib.ListN.{length, take, drop, get_or, set, length-set, take-append-drop}
+use lib.Seq.{sets, sets-eq, set_comm, set_out, take-suc, take_all, length-take-le, drop-drop}
 use borrow.Rule.Slice.PartMut.{put_mid}
 use borrow.Author.Tests.{lt-ltb, le-ltb}
 use Rattle.layout.specs.Bytes.{Bytes}
@@ -37,6 +38,13 @@ pub patch_snoc : (o : List ℕ) (at : ℕ) (a : List ℕ) (x : ℕ)
     → set (patch o at a) (at + length a) x ≡ patch o at (a ++ (x ∷ []))
 unfolding patch
 patch_snoc o at a x = patch_append o at a (x ∷ [])
+
+-- The next byte of what is stored.
+pub patch_next : (o out src : List ℕ) (at i : ℕ) → i < length src → out ≡ patch o at (take i src)
+    → set out (at + i) (get_or src i 0) ≡ patch o at (take (i + 1) src)
+patch_next o out src at i h e =
+    let n : length (take i src) ≡ i = length-take-le i src (omega arith) in
+    rw (e, add-one i, take-suc src i 0 h, ← patch_snoc, n)
 
 -- A buffer with no room stays as it is.
 pub patch_empty : (at : ℕ) (bs : List ℕ) → patch [] at bs ≡ []

@@ -1,6 +1,6 @@
 // Writers into a lent buffer. Each is total: a byte whose place lies outside the buffer is not stored, so no caller owes that
 // there is room.
-ghost use Rattle.std.specs.Prelude.{◌≡◌, ◌≤◌, set};
+ghost use Rattle.std.specs.Prelude.{◌≡◌, ◌≤◌, min, set};
 ghost use Rattle.layout.specs.Bytes.{be32, be_bytes};
 ghost use Rattle.layout.specs.Patch.{patch};
 
@@ -15,6 +15,18 @@ pub fn put(out: &mut [u8], at: usize, b: u8)
     }
 }
 
+// Stores a few bytes one by one, as far as the buffer goes, as `copy` does. They may stand in a local array, from which LLVM makes the
+// loop of `copy` a call of C's memcpy, and the library for C is to need nothing from outside; the test of each byte keeps it from that.
+fn put_each(bytes: &[u8], out: &mut [u8], at: usize)
+    ensures { out.new ≡ patch out.old at bytes.now }
+{
+    if at < out.len() {
+        for (i, byte) in bytes.iter().enumerate() {
+            put(out, at + i, *byte);
+        }
+    }
+}
+
 // Stores the four bytes of v, the high byte first. Where all of them have a place this is one store.
 pub fn put_u32(out: &mut [u8], at: usize, v: u32)
     ensures { out.new ≡ patch out.old at (be32 v) }
@@ -23,7 +35,7 @@ pub fn put_u32(out: &mut [u8], at: usize, v: u32)
     if is_inside(out, at, 4) {
         out[at..at + 4].copy_from_slice(&bytes);
     } else {
-        copy(&bytes, out, at);
+        put_each(&bytes, out, at);
     }
 }
 
@@ -32,7 +44,14 @@ pub(crate) fn put_be(out: &mut [u8], at: usize, n: usize, v: u64)
     requires { n ≤ 8 }
     ensures { out.new ≡ patch out.old at (be_bytes n v) }
 {
-    copy(&v.to_be_bytes()[8 - n..], out, at);
+    put_each(&v.to_be_bytes()[8 - n..], out, at);
+}
+
+// The lesser of two lengths.
+pub fn least(a: usize, b: usize) -> usize
+    ensures { result ≡ min a b }
+{
+    a.min(b)
 }
 
 // Stores all of src, as far as the buffer goes. Most of what is stored is a name or a number of a few bytes, for which a call of
@@ -41,7 +60,7 @@ pub fn copy(src: &[u8], out: &mut [u8], at: usize)
     ensures { out.new ≡ patch out.old at src.now }
 {
     if at < out.len() {
-        for i in 0..src.len().min(out.len() - at) {
+        for i in 0..least(src.len(), out.len() - at) {
             out[at + i] = src[i];
         }
     }

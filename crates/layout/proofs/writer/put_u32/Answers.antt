@@ -22,4 +22,4 @@ returns-then-is_inside c =
     (omega (arith, length_be32 c.args.v)) (omega (arith, h, length_be32 c.args.v))
 
 pub returns-else-is_inside : goal.returns-else-is_inside
-returns-else-is_inside c = c.copy.ensures ∙ ap (patch c.args.out.now c.args.at) (c.to_be_bytes-bytes.ensures ∙ field_bytes c.args.v)
+returns-else-is_inside c = c.put_each.ensures ∙ ap (patch c.args.out.now c.args.at) (c.to_be_bytes-bytes.ensures ∙ field_bytes c.args.v)
