@@ -3,67 +3,151 @@ use Prim.Native.Nat.{ℕ, zero, suc, ◌+◌, ◌<◌, ◌≤◌, max}
 use native.Mathlib.Decide.{dec_lt}
 use native.Mathlib.Omega.{arith}
 use native.Mathlib.Nat.{add-zero, zero-add}
-use mathlib.Core.Path.{◌≡◌, refl, sym, ap, ◌∙◌}
+use mathlib.Core.Path.{◌≡◌, refl, sym, ap, ◌∙◌, subst}
 use mathlib.Core.Bool.{Bool, true, false, cond, ◌&&◌}
 use mathlib.Core.List.{[], ◌∷◌}
 use lib.Dec.{T, ltb}
-use lib.ListN.{length, take, drop, get_or, drop_of_length-le}
-use lib.Seq.{drop-cons, take-nil}
+use lib.ListN.{length, take, drop}
+use lib.Seq.{take-nil}
 use borrow.Author.Tests.{le-leb, ltb-true, lt-ltb, le-ltb}
 use Rattle.std.specs.List.{fold}
 use Rattle.layout.specs.Bytes.{Bytes}
-use Rattle.layout.specs.Text.{between, lead, points_rest, code_points, is_some, utf8, ascii}
+use Rattle.layout.specs.Text.{between, lead, points_rest, behind_tails, behind_character, code_points, is_some, utf8, ascii}
 use Rattle.layout.specs.Check.{text_checked}
 use Rattle.layout.specs.declared.refusal.Refusal.{Refusal}
 use Rattle.layout.specs.declared.refusal.Refusal.TheVariants.{Text}
 use Rattle.layout.proofs.Places.{and_both}
-use Rattle.std.specs.Prelude.{Ok, Err, Some, None, Result, Option, is_ok}
+use Rattle.std.specs.Prelude.{Ok, Err, Some, None, Result, Option, is_ok, ok_or, is_some as is_some_number, option_copied}
+use denote.Ref.{Bor}
 
--- The text check at place `i`: `n` characters so far, which are no more than bytes, and `d` tail bytes due, the next of them from `low`
--- to `high`.
-pub record Counting (s : Bytes) (n d low high i : ℕ) : Type 0 where
-  pub bytes : n ≤ i
-  pub rest : code_points s ≡ points_rest (drop i s) n (Some (d, low, high))
+-- What is behind the tail bytes that are due decides.
+abbrev points_behind : ℕ → Option Bytes → Option ℕ
+points_behind n None = None
+points_behind n (Some b) = points_rest b n (Some (0, 0x80, 0xBF))
 
-pub counting : (s : Bytes) → Counting s 0 0 0x80 0xBF 0
+tails_decide : (b : Bytes) (n : ℕ) (l : Option (ℕ × ℕ × ℕ)) → points_rest b n l ≡ points_behind n (behind_tails b l)
+tails_decide [] n None = refl
+tails_decide [] n (Some (zero, low, high)) = refl
+tails_decide [] n (Some ((suc k), low, high)) = refl
+tails_decide (x ∷ b) n None = refl
+tails_decide (x ∷ b) n (Some (zero, low, high)) = refl
+tails_decide (x ∷ b) n (Some ((suc k), low, high)) = go (tails_decide b n (Some (k, 0x80, 0xBF))) (between low high x)
+  where
+    go : points_rest b n (Some (k, 0x80, 0xBF)) ≡ points_behind n (behind_tails b (Some (k, 0x80, 0xBF))) → (t : Bool)
+        → cond t (points_rest b n (Some (k, 0x80, 0xBF))) None ≡ points_behind n (cond t (behind_tails b (Some (k, 0x80, 0xBF))) None)
+    go h true = h
+    go h false = refl
+
+-- It is no longer than the bytes themselves.
+tails_le : (b : Bytes) (l : Option (ℕ × ℕ × ℕ)) (r : Bytes) → behind_tails b l ≡ Some r → length r ≤ length b
+tails_le b None r e = let z : ◌≡◌ {A = ℕ} 0 1 = cc in omega arith
+tails_le b (Some (zero, low, high)) r e = let z : b ≡ r = cc in rw z (omega arith)
+tails_le [] (Some ((suc k), low, high)) r e = let z : ◌≡◌ {A = ℕ} 0 1 = cc in omega arith
+tails_le (x ∷ b) (Some ((suc k), low, high)) r e = go (tails_le b (Some (k, 0x80, 0xBF)) r) (between low high x) e
+  where
+    go : (behind_tails b (Some (k, 0x80, 0xBF)) ≡ Some r → length r ≤ length b) → (t : Bool)
+        → cond t (behind_tails b (Some (k, 0x80, 0xBF))) None ≡ Some r → length r ≤ length (x ∷ b)
+    go h true e = omega (arith, h e)
+    go h false e = let z : ◌≡◌ {A = ℕ} 0 1 = cc in omega arith
+
+-- The first character: there is none in no bytes, and what its first byte asks for decides.
+pub at_end : (s : Bytes) → length s ≡ 0 → None ≡ behind_character s
+unfolding behind_character
+at_end [] h = refl
+at_end (x ∷ b) h = let z : ⊥ = omega arith in absurd z
+
+module _ (s : Bytes) {x : ℕ} {b : Bytes} (e : s ≡ x ∷ b) {l : Option (ℕ × ℕ × ℕ)} (h : l ≡ lead x) where
+  pub no_first : l ≡ None → None ≡ behind_character s
+  unfolding behind_character
+  no_first q = rw (e, ← h, q)
+
+  pub first_decides : (d : ℕ × ℕ × ℕ) → l ≡ Some d → behind_tails b (Some d) ≡ behind_character s
+  unfolding behind_character
+  first_decides d q = rw (e, ← h, q)
+
+-- It asks for three tail bytes at most.
+few_due : Option (ℕ × ℕ × ℕ) → Type 0
+few_due None = Unit {0}
+few_due (Some d) = d.0 ≤ 3
+
+first_due : (x : ℕ) → few_due (lead x)
+unfolding lead few_due
+first_due x =
+    or (between 0x00 0x7F x) (0, 0x80, 0xBF) _ (omega arith) (or (between 0xC2 0xDF x) (1, 0x80, 0xBF) _ (omega arith)
+    (or (between 0xE0 0xE0 x) (2, 0xA0, 0xBF) _ (omega arith) (or (between 0xE1 0xEC x) (2, 0x80, 0xBF) _ (omega arith)
+    (or (between 0xED 0xED x) (2, 0x80, 0x9F) _ (omega arith) (or (between 0xEE 0xEF x) (2, 0x80, 0xBF) _ (omega arith)
+    (or (between 0xF0 0xF0 x) (3, 0x90, 0xBF) _ (omega arith) (or (between 0xF1 0xF3 x) (3, 0x80, 0xBF) _ (omega arith)
+    (or (between 0xF4 0xF4 x) (3, 0x80, 0x8F) None (omega arith) none))))))))
+  where
+    none : few_due None
+    none = tt
+
+    or : (t : Bool) (d : ℕ × ℕ × ℕ) (r : Option (ℕ × ℕ × ℕ)) → d.0 ≤ 3 → few_due r → few_due (cond t (Some d) r)
+    or true d r h k = h
+    or false d r h k = k
+
+pub due_few : (x : ℕ) (l : Option (ℕ × ℕ × ℕ)) (d : ℕ × ℕ × ℕ) → l ≡ lead x → l ≡ Some d → d.0 ≤ 3
+unfolding few_due
+due_few x l d h q = subst few_due (sym h ∙ q) (first_due x)
+
+-- The text check where `left` is what it has not read: `n` characters so far, which are no more than the bytes before.
+pub record Counting (s : Bytes) (n : ℕ) (left : Bytes) : Type 0 where
+  pub bytes : n + length left ≤ length s
+  pub rest : code_points s ≡ points_rest left n (Some (0, 0x80, 0xBF))
+
+pub counting : (s : Bytes) → Counting s 0 s
 unfolding code_points
 counting s = record { bytes = omega arith; rest = refl }
 
-module _ {s : Bytes} {n d low high i : ℕ} (at : Counting s n d low high i) where
-  no_points : points_rest (drop i s) n (Some (d, low, high)) ≡ None → Err Text ≡ text_checked (code_points s)
-  unfolding text_checked
-  no_points e = rw (at.rest, e)
+character_decides : (b : Bytes) (n : ℕ) → 0 < length b → points_rest b n (Some (0, 0x80, 0xBF)) ≡ points_behind (suc n) (behind_character b)
+unfolding behind_character
+character_decides [] n h = let z : ⊥ = omega arith in absurd z
+character_decides (x ∷ b) n h = tails_decide b (suc n) (lead x)
 
-  -- Where no tail byte is due, a first byte.
-  module _ (lt : i < length s) (z : d ≡ 0) {l : Option (ℕ × ℕ × ℕ)} (hl : l ≡ lead (get_or s i 0)) where
-    pub first_bad : l ≡ None → Err Text ≡ text_checked (code_points s)
-    first_bad q = no_points (rw (drop-cons s i 0 lt, z, ← hl, q) (bad_rest (drop (suc i) s)))
-      where
-        bad_rest : (b : Bytes) → points_rest b (suc n) None ≡ None
-        bad_rest [] = refl
-        bad_rest (x ∷ b) = refl
+character_less : (b r : Bytes) → behind_character b ≡ Some r → length r < length b
+unfolding behind_character
+character_less [] r e = let z : ◌≡◌ {A = ℕ} 0 1 = cc in omega arith
+character_less (x ∷ b) r e = omega (arith, tails_le b (lead x) r e)
 
-  -- Where one is due, a byte of its range.
-  module _ (lt : i < length s) (z : d ≡ 0 → ⊥) {g : Bool} (hg : g ≡ between low high (get_or s i 0)) where
-    pub tail_bad : g ≡ false → Err Text ≡ text_checked (code_points s)
-    tail_bad q = no_points (go d z)
-      where
-        go : (d : ℕ) → (d ≡ 0 → ⊥) → points_rest (drop i s) n (Some (d, low, high)) ≡ None
-        go zero z = absurd (z refl)
-        go (suc d) z = rw (drop-cons s i 0 lt, ← hg, q)
+module _ {s left : Bytes} {n : ℕ} (at : Counting s n left) where
+  pub all_counted : length left ≡ 0 → Some n ≡ code_points s
+  all_counted e = rw at.rest (go left e)
+    where
+      go : (left : Bytes) → length left ≡ 0 → Some n ≡ points_rest left n (Some (0, 0x80, 0xBF))
+      go [] e = refl
+      go (x ∷ b) e = let z : ⊥ = omega arith in absurd z
 
-  -- At the end no tail byte may be due.
-  module _ (le : length s ≤ i) where
-    pub all_counted : d ≡ 0 → Ok n ≡ text_checked (code_points s)
-    unfolding text_checked
-    all_counted z = rw (at.rest, drop_of_length-le s le, z)
+  -- The first character of what is left.
+  module _ (h : 0 < length left) (o : Option (Bor Bytes)) (e : option_copied o ≡ behind_character left) where
+    pub bad_character : o ≡ None → None ≡ code_points s
+    bad_character q = rw (at.rest, character_decides left n h, ← e, q)
 
-    pub cut_short : (d ≡ 0 → ⊥) → Err Text ≡ text_checked (code_points s)
-    cut_short z = no_points (rw (drop_of_length-le s le) (go d z))
-      where
-        go : (d : ℕ) → (d ≡ 0 → ⊥) → points_rest [] n (Some (d, low, high)) ≡ None
-        go zero z = absurd (z refl)
-        go (suc d) z = refl
+    taken : (l : Bor Bytes) → o ≡ Some l → behind_character left ≡ Some (l.now)
+    taken l q = sym e ∙ ap option_copied q
+
+    pub left_less : (l : Bor Bytes) → o ≡ Some l → length l.now < length left
+    left_less l q = character_less left l.now (taken l q)
+
+    pub character_counted : (l : Bor Bytes) → o ≡ Some l → Counting s (n + 1) l.now
+    character_counted l q =
+        let one : n + 1 ≡ suc n = omega arith in
+        let rest : code_points s ≡ points_rest l.now (suc n) (Some (0, 0x80, 0xBF)) =
+        at.rest ∙ character_decides left n h ∙ ap (points_behind (suc n)) (taken l q) in
+        record { bytes = omega (arith, at.bytes, left_less l q); rest = rw one rest }
+
+-- What the text check and the test of a text answer of the number.
+pub number_checked : (o : Option ℕ) → ok_or o Text ≡ text_checked o
+unfolding text_checked
+number_checked None = refl
+number_checked (Some n) = refl
+
+pub number_told : (b : Bytes) (o : Option ℕ) → o ≡ code_points b → is_some_number o ≡ utf8 b
+unfolding utf8
+number_told b o e = rw e (go (code_points b))
+  where
+    go : (o : Option ℕ) → is_some_number o ≡ is_some o
+    go None = refl
+    go (Some n) = refl
 
 -- What an answer of the text check tells of the number.
 pub passed_some : (o : Option ℕ) (r : Result ℕ Refusal) (n : ℕ) → r ≡ text_checked o → r ≡ Ok n → o ≡ Some n

@@ -1,6 +1,7 @@
 // Text by RFC 3629. The Rust leaves it to its standard library.
-ghost use Rattle.std.specs.Prelude.{◌≡◌};
-ghost use Rattle.layout.specs.Text.{between, lead, code_points, utf8, ascii};
+ghost use Rattle.std.specs.Prelude.{◌≡◌, ◌≤◌, Some, option_copied};
+ghost use Rattle.layout.specs.Text.{between, lead, behind_tails, behind_character};
+ghost use Rattle.layout.specs.Text.{code_points, utf8, ascii};
 ghost use Rattle.layout.specs.Check.{text_checked};
 
 use crate::refusal::Refusal;
@@ -57,46 +58,65 @@ pub(crate) fn is_ascii(s: &[u8]) -> bool
     s.iter().fold(0, |greatest: u8, x: &u8| greatest.max(*x)) < 0x80
 }
 
-// The code points of a text, character by character: `count` so far. `due` tail bytes are still to come, the next of them from `low`
-// to `high`.
-fn count_code_points(s: &[u8]) -> Result<usize, Refusal>
-    ensures { result ≡ text_checked (code_points s.now) }
+// What is behind the next byte of a text, where that is a tail byte from `low` to `high`.
+fn behind_tail(s: &[u8], low: u8, high: u8) -> Option<&[u8]>
+    ensures { option_copied result ≡ behind_tails s.now (Some (1, low, high)) }
 {
-    let mut count: usize = 0;
-    let mut due: u8 = 0;
-    let mut low: u8 = 0x80;
-    let mut high: u8 = 0xbf;
-    for x in s {
-        if due == 0 {
-            let Some((n, from, to)) = lead_of(*x) else {
-                return Err(Refusal::Text);
-            };
-            count += 1;
-            due = n;
-            low = from;
-            high = to;
-        } else if is_between(low, high, *x) {
-            due -= 1;
-            low = 0x80;
-            high = 0xbf;
-        } else {
-            return Err(Refusal::Text);
-        }
+    let (tail, behind) = s.split_first()?;
+    if is_between(low, high, *tail) {
+        return Some(behind);
     }
-    if due == 0 {
-        return Ok(count);
-    }
-    Err(Refusal::Text)
+    None
 }
 
-// The number of code points of a text. Most texts are ASCII, which is told at once: there each byte is one.
+// What is behind the tail bytes that a first byte asks for, where they are there. Each number of them has its own way, so that nothing
+// keeps count of those still to come: by a loop the text check took a quarter to a half longer over texts of other characters than ASCII.
+fn behind_tails(s: &[u8], lead: Lead) -> Option<&[u8]>
+    requires { lead.0 ≤ 3 }
+    ensures { option_copied result ≡ behind_tails s.now (Some lead) }
+{
+    let (due, low, high) = lead;
+    match due {
+        0 => Some(s),
+        1 => behind_tail(s, low, high),
+        2 => behind_tail(behind_tail(s, low, high)?, 0x80, 0xbf),
+        _ => behind_tail(
+            behind_tail(behind_tail(s, low, high)?, 0x80, 0xbf)?,
+            0x80,
+            0xbf,
+        ),
+    }
+}
+
+// What is behind the first character of a text.
+fn behind_character(s: &[u8]) -> Option<&[u8]>
+    ensures { option_copied result ≡ behind_character s.now }
+{
+    let (first, tails) = s.split_first()?;
+    behind_tails(tails, lead_of(*first)?)
+}
+
+// The number of code points of a text, character by character: `count` so far.
+fn count_code_points(s: &[u8]) -> Option<usize>
+    ensures { result ≡ code_points s.now }
+{
+    let mut count: usize = 0;
+    let mut left = s;
+    while !left.is_empty() {
+        left = behind_character(left)?;
+        count += 1;
+    }
+    Some(count)
+}
+
+// The number of code points of a text, or why it is none. Most texts are ASCII, which is told at once: there each byte is one.
 pub fn check_text(s: &[u8]) -> Result<usize, Refusal>
     ensures { result ≡ text_checked (code_points s.now) }
 {
     if is_ascii(s) {
         return Ok(s.len());
     }
-    count_code_points(s)
+    count_code_points(s).ok_or(Refusal::Text)
 }
 
 // Whether the bytes are UTF-8. The check of a record asks this of every text: it takes the same short cut without an answer to take
@@ -107,5 +127,5 @@ pub fn is_utf8(s: &[u8]) -> bool
     if is_ascii(s) {
         return true;
     }
-    count_code_points(s).is_ok()
+    count_code_points(s).is_some()
 }
