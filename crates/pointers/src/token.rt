@@ -73,13 +73,19 @@ fn is_marked(text: &[u8]) -> bool
     matches!(text, [b'0' | b'1', ..])
 }
 
-// Whether behind each ~ stands 0 or 1.
+// Whether behind each ~ stands 0 or 1. The parts between tildes, by the library's `split`, took twice the time where every other byte
+// is a ~.
 fn is_escaped(text: &[u8]) -> bool
     ensures { result ≡ escaped text.now }
 {
-    text.split(|byte| *byte == TILDE)
-        .skip(1)
-        .all(|behind| is_marked(behind))
+    let mut left = text;
+    while let [byte, behind @ ..] = left {
+        if *byte == TILDE && !is_marked(behind) {
+            return false;
+        }
+        left = behind;
+    }
+    true
 }
 
 // Whether a text is a pointer.

@@ -1,22 +1,22 @@
 -- `pointers::token::is_escaped` meets its contract.
-use mathlib.Core.Path.{◌∙◌}
-use lib.Dec.{eqb}
-use borrow.Author.Tests.{tests}
-use Rattle.std.proofs.Common.{rules}
-use Rattle.std.proofs.lemmas.Iterator.Consumers.{YieldsList-at}
-use Rattle.std.proofs.lemmas.Iterator.Adapters.{YieldsList-from_skip}
-use Rattle.std.proofs.lemmas.Iterator.Search.{all_from_yields_List}
-use Rattle.std.proofs.lemmas.Iterator.Splits.{YieldsList-from_slice_split}
-use Rattle.pointers.specs.Pointer.{marked}
-use Rattle.pointers.proofs.Texts.{escaped_parts}
+use Rattle.std.proofs.lemmas.List.{take_rest}
+use Rattle.pointers.proofs.Texts.{escaped_bad, escaped_marked, escaped_other, escaped_end}
+use Rattle.pointers.proofs.token.is_escaped.Goals.{else-byte-eq-TILDE-via-then-byte-eq-TILDE+else-not-is_marked, else-byte-eq-TILDE-via-else-byte-eq-TILDE}
 use Rattle.pointers.proofs.token.is_escaped.Goals as goal
 
+pub returns-then-not-is_marked : goal.returns-then-not-is_marked
+returns-then-not-is_marked c =
+    escaped_bad _ _ c.loop-left.invariant c.in-len1-up.len_at_least _ (take_rest c.loop-left.left.now 1) c.if-byte-eq-TILDE.true _ c.is_marked.ensures
+    c.if-not-is_marked.true
+
+pub loop-left-preserved : goal.loop-left-preserved
+loop-left-preserved c =
+    elim c.else-byte-eq-TILDE.branch [
+      | else-byte-eq-TILDE-via-then-byte-eq-TILDE+else-not-is_marked w ↦
+          escaped_marked _ _ c.loop-left.invariant c.in-len1-up.len_at_least _ (take_rest c.loop-left.left.now 1) _ w.is_marked.ensures w.if-not-is_marked.false
+      | else-byte-eq-TILDE-via-else-byte-eq-TILDE w ↦
+          escaped_other _ _ c.loop-left.invariant c.in-len1-up.len_at_least _ (take_rest c.loop-left.left.now 1) w.if-byte-eq-TILDE.false
+    ]
+
 pub returns : goal.returns
-returns c =
-    all_from_yields_List marked _ _ _ c.all.ensures.ran
-    (YieldsList-from_skip 1
-    (YieldsList-at c.skip.ensures.source
-    (YieldsList-from_slice_split _ (λ x. eqb x 0x7E) c.args.text.now c.split.ensures.rest c.split.ensures.done c.split.ensures.closure (λ x b q k. search (rules, tests))))
-    c.skip.ensures.count)
-    (λ x b q k. search (rules, tests))
-    ∙ escaped_parts c.args.text.now
+returns c = escaped_end _ _ c.loop-left.invariant c.in_default.len_below
