@@ -1,10 +1,10 @@
 -- Equal values and grades: what the code answers is `equal_values` and `grade_of`, and these say what `EqualValues` and `Graded` say.
-use Prim.Native.Nat.{◌≤◌}
+use Prim.Native.Nat.{ℕ, ◌≤◌}
 use mathlib.Core.Path.{◌≡◌, refl, ap, sym, subst, ◌∙◌}
 use mathlib.Core.Logic.{◌↔◌}
 use mathlib.Core.Bool.{Bool, true, false, cond}
 use lib.Dec.{T}
-use lib.ListN.{length}
+use lib.ListN.{length, get_or}
 use Rattle.layout.specs.Bytes.{Bytes, Octets}
 use Rattle.layout.specs.Answer.{Answer, gives, refused}
 use Rattle.layout.specs.Tree.{Tree}
@@ -33,6 +33,8 @@ use Rattle.values.specs.declared.grade.Grade.TheVariants.{Right, SameValue, Othe
 use Rattle.values.proofs.Likes.{one_test, holds, fails}
 use Rattle.values.proofs.Alikes.{record_test}
 use Rattle.std.specs.Prelude.{Ok, Err, Result}
+use Rattle.std.proofs.Common.{Fits, w8}
+use Rattle.layout.proofs.Words.{slice_octets}
 
 equal_by : (a b : Bytes) → equal_values a b ≡ both_same (read a) (read b)
 unfolding equal_values
@@ -162,3 +164,13 @@ module _ {c e : Bytes} (w : Unequal c e) where
 
   pub graded_values : (g b : Bool) → g ≡ same_at 64 c e → g ≡ b → cond b SameValue OtherValue ≡ grade_of c e
   graded_values g b h q = by_value b (sym (same_read w.candidate w.expected) ∙ sym h ∙ q)
+
+-- The same of what the code knows where it answers, in whichever way it asks whether both are sound.
+pub graded_other : (c e : Bytes) → ((i : ℕ) → Fits w8 (get_or c i 0)) → ((i : ℕ) → Fits w8 (get_or e i 0)) → Ok tt ≡ checked (read c)
+    → Ok tt ≡ checked (read e) → false ≡ same_bytes c e → true ≡ sound_at 64 c → true ≡ sound_at 64 e → OtherValue ≡ grade_of c e
+graded_other c e fc fe rc re d hc he =
+    graded_sound (record {
+      candidate = reading c _ (slice_octets c fc) rc refl;
+      expected = reading e _ (slice_octets e fe) re refl;
+      differ = sym d;
+    }) hc he

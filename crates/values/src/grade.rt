@@ -24,6 +24,7 @@ pub enum Grade {
 }
 
 // The grade of a candidate. The expected record is checked first, then the candidate.
+#[tactic(auto, using(crate::proofs::Grades::graded_other))]
 pub fn grade_record(candidate: &[u8], expected: &[u8]) -> Grade
     ensures { result ≡ grade_of candidate.now expected.now }
 {

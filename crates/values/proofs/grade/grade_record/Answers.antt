@@ -2,7 +2,7 @@
 use mathlib.Core.Path.{sym, ◌∙◌}
 use mathlib.Core.Bool.{true, false}
 use Rattle.layout.proofs.Words.{slice_octets}
-use Rattle.values.proofs.Grades.{Reading, reading, Unequal, graded_ungraded, graded_damaged, graded_right, graded_sound, graded_values}
+use Rattle.values.proofs.Grades.{Reading, reading, Unequal, graded_ungraded, graded_damaged, graded_right, graded_values}
 use Rattle.values.proofs.grade.grade_record.Goals.{Else-is_same_bytes, In_default, In_default-check_record}
 use Rattle.values.proofs.grade.grade_record.Goals as goal
 
@@ -44,11 +44,6 @@ pub returns-then-is_same_bytes : goal.returns-then-is_same_bytes
 returns-then-is_same_bytes c =
     graded_right (candidate (goal.at.returns-then-is_same_bytes c).In_default-check_record) (expected (goal.at.returns-then-is_same_bytes c).In_default)
     _ c.is_same_bytes.ensures c.if-is_same_bytes.true
-
-pub returns-then-is_sound_where_readable-2 : goal.returns-then-is_sound_where_readable-2
-returns-then-is_sound_where_readable-2 c =
-    graded_sound (unequal (goal.at.returns-then-is_sound_where_readable-2 c).Else-is_same_bytes) c.if-is_sound_where_readable.ensures
-    c.if-is_sound_where_readable-2.ensures
 
 pub returns-then-is_same_nested : goal.returns-then-is_same_nested
 returns-then-is_same_nested c =
