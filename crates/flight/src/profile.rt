@@ -19,10 +19,11 @@ pub(crate) const FLIGHT_DEPTH: u32 = 8;
 
 const LONGEST_NAME: usize = 32;
 
-// The profile as a question: names rise and have 1 to so many characters, and there is no extension, float, decimal, NaN or infinity.
+// The profile as a question, which may be asked of any record: names rise and have 1 to `longest` characters, and there is no extension,
+// float, decimal, NaN or infinity.
 #[derive(Clone, Copy)]
-struct Profile {
-    longest: usize,
+pub struct Profile {
+    pub longest: usize,
 }
 
 impl Question for Profile {
