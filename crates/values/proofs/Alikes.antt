@@ -31,7 +31,8 @@ use Rattle.layout.proofs.Places.{parts_at_record, drop_parts, names_at}
 use Rattle.layout.proofs.Sounds.{both}
 use Rattle.layout.proofs.Sames.{Leaf, kind_test, scalar_test}
 use Rattle.values.specs.Alike.{same_payload, same_part, same_parts, same_at}
-use Rattle.values.specs.Alike.{PairAt, Member, member_at, next, members_from, first, members}
+use Rattle.values.specs.declared.value.PairAt.{PairAt}
+use Rattle.values.specs.Alike.{Member, member_at, next, members_from, first, members}
 use Rattle.values.proofs.Likes.{listed, Tells, Told, Small, same_length, members_test}
 
 -- "Values of unlike sort differ": by the kind, and between containers by the header.

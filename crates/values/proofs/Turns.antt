@@ -25,7 +25,8 @@ use Rattle.layout.specs.declared.util.Header.{Header}
 use Rattle.layout.specs.declared.util.Header.TheVariants.{Array, Object, Scalar}
 use Rattle.layout.proofs.Lefts.{parts_left}
 use Rattle.layout.proofs.Sames.{kind_test}
-use Rattle.values.specs.Alike.{PairAt, first, same_payload, same_part, same_parts, Member, next, members_from, members, like, likes, same_members, same_by, same_at}
+use Rattle.values.specs.declared.value.PairAt.{PairAt}
+use Rattle.values.specs.Alike.{first, same_payload, same_part, same_parts, Member, next, members_from, members, like, likes, same_members, same_by, same_at}
 use Rattle.std.specs.Prelude.{Ok, Err, Result}
 
 -- Kinds and payloads.

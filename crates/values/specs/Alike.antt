@@ -14,8 +14,8 @@ use Rattle.layout.specs.declared.item.Kind.TheVariants.{Null, String, Number, Fa
 use Rattle.layout.specs.declared.util.Header.{Header}
 use Rattle.layout.specs.declared.util.Header.TheVariants.{Array, Object, Scalar}
 use Rattle.layout.specs.declared.refusal.Refusal.{Refusal}
-use Rattle.layout.specs.declared.parts.PartAt.{PartAt}
 use Rattle.layout.specs.declared.table.Part.{Part as PartRead}
+use Rattle.values.specs.declared.value.PairAt.{PairAt}
 use Rattle.values.specs.declared.members.Member.{Member as MemberRead}
 use Rattle.values.specs.declared.members.Members.{Members as MembersRead}
 
@@ -43,11 +43,6 @@ same_parts f (p ∷ ps) (q ∷ qs) = same_part f p q && same_parts f ps qs
 pub record Member : Type 0 where
   pub name : Bytes
   pub value : Part
-
--- Where a member of an object stands: the parts of its name and of its value.
-pub record PairAt : Type 0 where
-  pub key : PartAt
-  pub val : PartAt
 
 -- The member at its places, and the places of the one behind it.
 unfoldable pub member_at : Bytes → PairAt → Member

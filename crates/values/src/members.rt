@@ -1,11 +1,13 @@
 // The members of an object, one after another: its names beside its values.
 ghost use Rattle.std.specs.Prelude.{◌≡◌, ◌^◌, ◌<◌};
 
+use crate::value::PairAt;
 use layout::table::{Part, Parts};
 
-// A member of an object: its name and its value.
+// A member of an object: where it stands, its name and its value.
 #[derive(Clone, Copy)]
 pub(crate) struct Member<'a> {
+    pub(crate) at: PairAt,
     pub(crate) name: &'a [u8],
     pub(crate) value: Part<'a>,
 }
@@ -47,6 +49,10 @@ impl<'a> Iterator for Members<'a> {
         let name = self.names.next()?;
         let value = self.values.next()?;
         Some(Member {
+            at: PairAt {
+                key: name.at,
+                val: value.at,
+            },
             name: name.payload,
             value,
         })

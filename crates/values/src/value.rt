@@ -14,8 +14,16 @@ use layout::constants::DEPTH_LIMIT;
 use layout::item::Kind;
 use layout::jentry::{kind_of, type_code};
 use layout::order::is_same_bytes;
+use layout::parts::PartAt;
 use layout::table::{Part, Parts};
 use layout::util::{Header, read_header, read_u32};
+
+// Where a member of an object stands: the parts of its name and of its value.
+#[derive(Clone, Copy)]
+pub struct PairAt {
+    pub key: PartAt,
+    pub val: PartAt,
+}
 
 // Whether two items have equal values: they are of one kind, and their payloads are equal bytes or, in containers, equal values.
 // Containers are gone through down to `allowance` levels.
