@@ -1,5 +1,5 @@
 -- The part of a container that a step finds, by its place. proofs/Spots.antt ties it to `step_into`.
-use Rattle.std.specs.Prelude.{◌≡◌, ℕ, suc, ◌+◌, Bool, cond, List, [], ◌∷◌, Ok, Err, Some, None, Result, Option}
+use Rattle.std.specs.Prelude.{◌≡◌, ℕ, suc, ◌+◌, Bool, cond, List, [], ◌∷◌, ltb, ℤ, pos, negsuc, Ok, Err, Some, None, Result, Option}
 use Rattle.layout.specs.Bytes.{Bytes}
 use Rattle.layout.specs.declared.util.Header.{Header}
 use Rattle.layout.specs.declared.util.Header.TheVariants.{Array, Object, Scalar}
@@ -10,6 +10,11 @@ use Rattle.edits.specs.Keypath.{Step}
 use Rattle.edits.specs.Find.{step_place, step_name}
 use Rattle.layout.specs.declared.refusal.Refusal.{Refusal}
 use Rattle.layout.specs.declared.parts.PartAt.{PartAt}
+
+-- A sum, which may be negative, as a place among `n` items.
+unfoldable pub among : ℤ → ℕ → Option ℕ
+among (pos k) n = cond (ltb k n) (Some k) None
+among (negsuc k) n = None
 
 -- Which of the names is the first that has equal bytes.
 abbrev pub one_more : Option ℕ → Option ℕ

@@ -7,7 +7,7 @@ ghost use Rattle.layout.specs.Parts.{names_of, nth_part};
 ghost use Rattle.layout.specs.Read.{header};
 ghost use Rattle.edits.specs.Steps.{code_key, key_place, step};
 ghost use Rattle.layout.specs.declared.parts.PartAt.{PartAt as Part};
-ghost use Rattle.edits.specs.Spot.{first, spot_at, first_meant, Tells};
+ghost use Rattle.edits.specs.Spot.{among, first, spot_at, first_meant, Tells};
 ghost use Rattle.edits.specs.Spot.{value_of, spot_member, spot};
 ghost use Rattle.edits.specs.Find.{place, step_name};
 
@@ -20,16 +20,23 @@ use layout::util::{Header, read_header, slice};
 // Room for the decimal text of an index: a sign and ten digits.
 const INDEX_ROOM: usize = 11;
 
-// The item that an index stands for, where there is one: a negative index counts back from the end.
+// The item at a place, where there is one: a place is a sum here, and may lie before the first item.
+fn place_in(z: i64, n: usize) -> Option<usize>
+    ensures { result ≡ among z n }
+{
+    let k = usize::try_from(z).ok()?;
+    (k < n).then_some(k)
+}
+
+// The item that an index stands for: a negative one counts back from the end, so it is added to the count.
 fn place_of(i: i32, n: usize) -> Option<usize>
     requires { n < 2 ^ 29 }
     ensures { result ≡ place i n }
 {
     if i < 0 {
-        return n.checked_sub(i.unsigned_abs() as usize);
+        return place_in(n as i64 + i64::from(i), n);
     }
-    let k = i as usize;
-    (k < n).then_some(k)
+    place_in(i64::from(i), n)
 }
 
 // The first of n names that is meant.
