@@ -99,7 +99,7 @@ fn answer_other<W: Write>(
         b"flight" => answer_aboard(alloc, out, rest),
         b"grade" => answer_two(alloc, out, rest, Fault::TwoGraded, say_grade),
         b"same" => answer_two(alloc, out, rest, Fault::TwoRecords, say_same),
-        b"make" => answer_make(alloc, out, rest),
+        b"make" => answer_make(out, rest),
         b"number" => answer_number(alloc, out, rest),
         b"step" => answer_step(alloc, out, rest),
         b"run" => answer_run(alloc, out, rest),

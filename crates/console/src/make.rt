@@ -2,11 +2,11 @@
 //
 //   make i -1          result 40ff
 //   number 40ff        signed -1
-use crate::decimal::{read_decimal, read_signed};
+use crate::decimal::{read_decimal, read_signed, take_length};
 use crate::fault::{Failure, Fault};
 use crate::hex::digit;
 use crate::say::{say_ending, say_refused};
-use crate::taken::{take_one, take_room};
+use crate::taken::take_one;
 use crate::text::{Words, argument, count_arguments, trim};
 use layout::ending::Ending;
 use layout::number::{Number, encode_decimal64, encode_float64, encode_int64, encode_uint64};
@@ -14,6 +14,9 @@ use layout::refusal::Refusal;
 use std::alloc::Global;
 use std::io;
 use std::io::Write;
+
+// The longest payload that is made, a decimal's: its first byte, eight of the value and the scale. A longer buffer serves as this does.
+const MADE_ROOM: usize = 10;
 
 // The digits of a float's bits.
 const BITS_DIGITS: usize = 16;
@@ -91,17 +94,14 @@ fn encode(making: Making, out: &mut [u8]) -> Ending {
     }
 }
 
-pub(crate) fn answer_make<W: Write>(
-    alloc: Global,
-    out: &mut W,
-    text: &[u8],
-) -> Result<(), Failure> {
+pub(crate) fn answer_make<W: Write>(out: &mut W, text: &[u8]) -> Result<(), Failure> {
     if count_arguments(text) > 2 {
         return Err(Fault::NoMaker.into());
     }
     let making = ask(argument(text, 0).ok_or(Fault::NoMaker)?)?;
-    let mut room = take_room(alloc, text, 1)?;
-    let ending = encode(making, &mut room);
+    let length = take_length(text, 1)?.min(MADE_ROOM);
+    let mut room = [0; MADE_ROOM];
+    let ending = encode(making, &mut room[..length]);
     say_ending(out, ending, &room)?;
     Ok(())
 }
