@@ -38,42 +38,67 @@ pub(crate) fn is_hex(text: &[u8]) -> bool {
     trim(text) == EMPTY || text.iter().all(|c| is_space(*c) || digit(*c).is_some())
 }
 
-// The bytes that a text spells, two digits for each.
-pub(crate) fn decode(alloc: Global, text: &[u8]) -> Result<Vec<u8>, Failure> {
-    let digits = trim(text);
-    if digits.is_empty() {
-        return Err(Fault::Missing.into());
-    }
-    let mut bytes = Vec::new(alloc);
-    if digits == EMPTY {
-        return Ok(bytes);
-    }
-    bytes.reserve(digits.len() / 2)?;
+// Fills what is lent with the bytes that digits spell, two for each, as far as it goes: how many bytes of it are left.
+fn decode_digits(digits: &[u8], out: &mut [u8]) -> Result<usize, Fault> {
+    let mut left = out.iter_mut();
     let mut high = None;
     for c in digits.iter().filter(|c| !is_space(**c)) {
         let low = digit(*c).ok_or(Fault::NotHex)?;
         high = match high {
             None => Some(low),
             Some(high) => {
-                bytes.push(high << 4 | low)?;
+                if let Some(byte) = left.next() {
+                    *byte = high << 4 | low;
+                }
                 None
             }
         };
     }
     match high {
-        None => Ok(bytes),
-        Some(_) => Err(Fault::Odd.into()),
+        None => Ok(left.len()),
+        Some(_) => Err(Fault::Odd),
     }
+}
+
+// Puts the bytes that a text spells behind others: of what is longer than a limit only the start.
+pub(crate) fn decode_behind(bytes: &mut Vec<u8>, text: &[u8], limit: usize) -> Result<(), Failure> {
+    let digits = trim(text);
+    if digits.is_empty() {
+        return Err(Fault::Missing.into());
+    }
+    if digits == EMPTY {
+        return Ok(());
+    }
+    let start = bytes.len();
+    bytes.resize(start.saturating_add(limit.min(digits.len() / 2)), 0)?;
+    let left = decode_digits(digits, &mut bytes[start..])?;
+    bytes.truncate(bytes.len().saturating_sub(left));
+    Ok(())
+}
+
+// The bytes that a text spells.
+pub(crate) fn decode(alloc: Global, text: &[u8]) -> Result<Vec<u8>, Failure> {
+    let mut bytes = Vec::new(alloc);
+    decode_behind(&mut bytes, text, usize::MAX)?;
+    Ok(bytes)
 }
 
 // The bytes of a record, of a path or of a payload.
 pub(crate) fn decode_record(alloc: Global, text: &[u8]) -> Result<Vec<u8>, Failure> {
-    let mut record = decode(alloc, text)?;
-    record.truncate(RECORD_ROOM);
+    let mut record = Vec::new(alloc);
+    decode_behind(&mut record, text, RECORD_ROOM)?;
     Ok(record)
 }
 
-// Writes bytes in lower case, two letters for a byte.
+// The two letters of a byte, in lower case.
+pub(crate) fn hex_letters(byte: u8) -> [u8; 2] {
+    [
+        DIGITS[usize::from(byte >> 4)],
+        DIGITS[usize::from(byte & 15)],
+    ]
+}
+
+// Writes bytes, two letters for a byte.
 pub(crate) fn say_hex<W: Write>(out: &mut W, bytes: &[u8]) -> io::Result<()> {
     for part in bytes.chunks(SPELLED) {
         let mut letters = [0; 2 * SPELLED];

@@ -1,5 +1,5 @@
 // An item in words: what it is, and what its payload spells, as it stands in an outline.
-use crate::hex::say_bytes;
+use crate::hex::{hex_letters, say_bytes};
 use layout::item::Kind;
 use layout::number::Number;
 use std::io;
@@ -17,7 +17,8 @@ fn is_escaped(c: u8) -> bool {
 // A control byte stands as \u00 and two digits, a quotation mark and a reverse solidus behind a reverse solidus.
 fn say_escaped<W: Write>(out: &mut W, c: u8) -> io::Result<()> {
     if c.is_ascii_control() {
-        return write!(out, "\\u{c:04x}");
+        let [high, low] = hex_letters(c);
+        return out.write_all(&[b'\\', b'u', b'0', b'0', high, low]);
     }
     out.write_all(&[b'\\', c])
 }
