@@ -5,7 +5,7 @@ use layout::constants::RECORD_LIMIT;
 use std::str;
 
 // The longest result, and the buffer's length where none is given.
-const RESULT_ROOM: usize = RECORD_LIMIT;
+pub(crate) const RESULT_ROOM: usize = RECORD_LIMIT;
 
 // Why a text is no number: it is one that 64 bits do not hold, or not written as one.
 #[derive(Clone, Copy)]

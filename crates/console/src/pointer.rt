@@ -22,15 +22,22 @@ fn pointer_failure(failure: Failure) -> Failure {
     }
 }
 
-// Takes the bytes of a pointer. No hexadecimal starts with a slash, and no document limits how many there are.
-fn take_pointer(alloc: Global, text: &[u8]) -> Result<Vec<u8>, Failure> {
-    if text.starts_with(b"/") {
-        return Ok(Vec::from_slice(alloc, text)?);
-    }
-    decode(alloc, text).map_err(pointer_failure)
+// Looks up what a pointer finds, with a buffer of the length behind it.
+fn answer_found<W: Write>(
+    alloc: Global,
+    out: &mut W,
+    record: &[u8],
+    pointer: &[u8],
+    text: &[u8],
+) -> Result<(), Failure> {
+    let mut room = take_room(alloc, text, 2)?;
+    let ending = get_by_pointer(record, pointer, &mut room);
+    say_ending(out, ending, &room)?;
+    Ok(())
 }
 
-// Takes the record, the pointer and the buffer's length, or says why one is none.
+// Takes the record, the pointer and the buffer's length, or says why one is none. No hexadecimal starts with a slash, and no document
+// limits how many bytes a pointer has; its text is not copied.
 pub(crate) fn answer_pointer<W: Write>(
     alloc: Global,
     out: &mut W,
@@ -38,10 +45,10 @@ pub(crate) fn answer_pointer<W: Write>(
 ) -> Result<(), Failure> {
     check_records(text, 2, Fault::OnePointed)?;
     let record = take_record(alloc, text, 0)?;
-    let pointer = argument(text, 1).ok_or(Fault::NoPointer)?;
-    let pointer = take_pointer(alloc, trim(pointer))?;
-    let mut room = take_room(alloc, text, 2)?;
-    let ending = get_by_pointer(&record, &pointer, &mut room);
-    say_ending(out, ending, &room)?;
-    Ok(())
+    let pointer = trim(argument(text, 1).ok_or(Fault::NoPointer)?);
+    if pointer.starts_with(b"/") {
+        return answer_found(alloc, out, &record, pointer, text);
+    }
+    let pointer = decode(alloc, pointer).map_err(pointer_failure)?;
+    answer_found(alloc, out, &record, &pointer, text)
 }

@@ -4,11 +4,11 @@
 //   run R ; R : concat 0 ; 1 : get 2 ; PATH : strip 2 ; 100
 //   result at 2 : absent : result at 3 : shelf R ; R ; R ; R
 use crate::calls::edit_of;
-use crate::decimal::{NoNumber, read_decimal};
+use crate::decimal::{NoNumber, RESULT_ROOM, read_decimal, take_length};
 use crate::fault::{Failure, Fault};
 use crate::say::words;
 use crate::shelf::{Shelf, say_shelf, take_shelf};
-use crate::taken::{check_records, take_record, take_room};
+use crate::taken::{check_records, lent, take_record};
 use crate::text::{CALL_MARK, argument, split_word, trim};
 use layout::ending::Ending;
 use layout::refusal::Refusal;
@@ -37,51 +37,54 @@ fn record_at<'a>(shelf: &'a Shelf, text: &[u8], number: usize) -> Result<&'a [u8
     }
 }
 
-// Takes the arguments of an edit, from the left, and makes it: how it ends, and the buffer.
+// Takes the arguments of an edit, from the left, and makes it in the room for results.
 fn run_edit(
     alloc: Global,
     edit: Edit,
     text: &[u8],
     shelf: &Shelf,
-) -> Result<(Ending, Vec<u8>), Failure> {
+    room: &mut [u8],
+) -> Result<Ending, Failure> {
     match edit {
         Edit::Strip => {
             check_records(text, 1, Fault::OnePlace)?;
             let record = record_at(shelf, text, 0)?;
-            let mut room = take_room(alloc, text, 1)?;
-            let ending = make_edit(edit, record, b"", b"", &mut room);
-            Ok((ending, room))
+            let length = take_length(text, 1)?;
+            Ok(make_edit(edit, record, b"", b"", lent(room, length)))
         }
         Edit::Get | Edit::Delete => {
             check_records(text, 2, Fault::PlaceAndPath)?;
             let record = record_at(shelf, text, 0)?;
             let path = take_record(alloc, text, 1)?;
-            let mut room = take_room(alloc, text, 2)?;
-            let ending = make_edit(edit, record, b"", &path, &mut room);
-            Ok((ending, room))
+            let length = take_length(text, 2)?;
+            Ok(make_edit(edit, record, b"", &path, lent(room, length)))
         }
         Edit::Concat | Edit::Append | Edit::Build => {
             check_records(text, 2, Fault::TwoPlaces)?;
             let left = record_at(shelf, text, 0)?;
             let right = record_at(shelf, text, 1)?;
-            let mut room = take_room(alloc, text, 2)?;
-            let ending = make_edit(edit, left, right, b"", &mut room);
-            Ok((ending, room))
+            let length = take_length(text, 2)?;
+            Ok(make_edit(edit, left, right, b"", lent(room, length)))
         }
     }
 }
 
 // Makes a call. A result joins the shelf, anything else leaves it.
-fn run_call(alloc: Global, text: &[u8], shelf: &mut Shelf) -> Result<Ended, Failure> {
+fn run_call(
+    alloc: Global,
+    text: &[u8],
+    shelf: &mut Shelf,
+    room: &mut [u8],
+) -> Result<Ended, Failure> {
     let (word, rest) = split_word(trim(text));
     let edit = edit_of(word).ok_or(Fault::NoCall)?;
-    let (ending, room) = run_edit(alloc, edit, rest, shelf)?;
+    let ending = run_edit(alloc, edit, rest, shelf, room)?;
     let Ok(Some(n)) = ending else {
         return Ok(ending);
     };
     let place = shelf.len();
     // `slice` takes what there is: that a result of n bytes lies in the buffer is no fact here.
-    shelf.push(Vec::from_slice(alloc, slice(&room, 0, n))?)?;
+    shelf.push(slice(room, 0, n))?;
     Ok(Ok(Some(place)))
 }
 
@@ -95,18 +98,22 @@ fn say_ended<W: Write>(out: &mut W, ended: Ended) -> io::Result<()> {
     }
 }
 
-// Takes the starting shelf, makes the calls, one after the other, and says what came of them. Where one cannot be taken, nothing
-// else is said.
+// Takes the starting shelf, makes the calls, one after the other and all in one room, and says what came of them. Where one cannot be
+// taken, nothing else is said.
 pub(crate) fn answer_run<W: Write>(alloc: Global, out: &mut W, text: &[u8]) -> Result<(), Failure> {
     let mut parts = text.split(|c| *c == CALL_MARK);
     let mut shelf = take_shelf(alloc, parts.next().unwrap_or(b""))?;
-    let mut endings = Vec::new(alloc);
+    let mut room = Vec::new(alloc);
+    room.resize(RESULT_ROOM, 0)?;
+    let mut endings = Vec::with_capacity(alloc, CALLS)?;
     for call in parts {
         let number = endings.len() + 1;
         if number > CALLS {
             return Err(Failure::Call(number, Fault::TooMany));
         }
-        let ended = run_call(alloc, call, &mut shelf).map_err(|failure| failure.at_call(number))?;
+        let ended = run_call(alloc, call, &mut shelf, &mut room).map_err(|failure| failure.at_call(
+            number,
+        ))?;
         endings.push(ended)?;
     }
     for ended in &endings {

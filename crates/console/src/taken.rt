@@ -40,6 +40,13 @@ pub(crate) fn take_room(alloc: Global, text: &[u8], others: usize) -> Result<Vec
     Ok(room)
 }
 
+// What is lent of a room for results: a buffer of a length. The room is as long as the longest result, so that a longer buffer serves
+// as it does.
+pub(crate) fn lent(room: &mut [u8], length: usize) -> &mut [u8] {
+    let n = length.min(room.len());
+    &mut room[..n]
+}
+
 // That a text has so many arguments, or one more for the buffer's length.
 pub(crate) fn check_records(text: &[u8], records: usize, wants: Fault) -> Result<(), Fault> {
     match count_arguments(text).checked_sub(records) {
