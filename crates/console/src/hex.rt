@@ -42,8 +42,12 @@ pub(crate) fn is_hex(text: &[u8]) -> bool {
 fn decode_digits(digits: &[u8], out: &mut [u8]) -> Result<usize, Fault> {
     let mut left = out.iter_mut();
     let mut high = None;
-    for c in digits.iter().filter(|c| !is_space(**c)) {
-        let low = digit(*c).ok_or(Fault::NotHex)?;
+    for c in digits {
+        let low = match digit(*c) {
+            Some(low) => low,
+            None if is_space(*c) => continue,
+            None => return Err(Fault::NotHex),
+        };
         high = match high {
             None => Some(low),
             Some(high) => {
