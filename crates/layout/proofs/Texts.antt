@@ -12,7 +12,8 @@ use lib.Seq.{take-nil}
 use borrow.Author.Tests.{le-leb, ltb-true, lt-ltb, le-ltb}
 use Rattle.std.specs.List.{fold}
 use Rattle.layout.specs.Bytes.{Bytes}
-use Rattle.layout.specs.Text.{between, lead, points_rest, behind_tails, behind_character, code_points, is_some, utf8, ascii}
+use Rattle.layout.specs.Text.{between, lead, points_rest, code_points, is_some, utf8, ascii}
+use Rattle.layout.specs.Behind.{behind_tails, behind_character}
 use Rattle.layout.specs.Check.{text_checked}
 use Rattle.layout.specs.declared.refusal.Refusal.{Refusal}
 use Rattle.layout.specs.declared.refusal.Refusal.TheVariants.{Text}

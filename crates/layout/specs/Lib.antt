@@ -35,3 +35,4 @@ pub mod Left
 pub mod EveryAt
 -- Forms that follow the code, inside the crate.
 pub mod Pass
+pub mod Behind

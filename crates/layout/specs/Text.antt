@@ -35,19 +35,6 @@ points_rest (x ∷ b) n None = None
 points_rest (x ∷ b) n (Some (zero, low, high)) = points_rest b (suc n) (lead x)
 points_rest (x ∷ b) n (Some ((suc k), low, high)) = cond (between low high x) (points_rest b n (Some (k, 0x80, 0xBF))) None
 
--- What is behind the tail bytes that are due; nothing where one of them is missing or out of its range.
-abbrev pub behind_tails : Bytes → Option (ℕ × ℕ × ℕ) → Option Bytes
-behind_tails b None = None
-behind_tails b (Some (zero, low, high)) = Some b
-behind_tails [] (Some ((suc k), low, high)) = None
-behind_tails (x ∷ b) (Some ((suc k), low, high)) = cond (between low high x) (behind_tails b (Some (k, 0x80, 0xBF))) None
-
--- What is behind the first character.
-unfoldable pub behind_character : Bytes → Option Bytes
-unfolding lead
-behind_character [] = None
-behind_character (x ∷ b) = behind_tails b (lead x)
-
 -- Document 02 §2: "the number of code points by RFC 3629"; nothing where the bytes are no text. `CodePoints` says it in the RFC's
 -- own words.
 unfoldable pub code_points : Bytes → Option ℕ

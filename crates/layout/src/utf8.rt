@@ -1,7 +1,7 @@
 // Text by RFC 3629. The Rust leaves it to its standard library.
 ghost use Rattle.std.specs.Prelude.{◌≡◌, ◌≤◌, Some, option_copied};
-ghost use Rattle.layout.specs.Text.{between, lead, behind_tails, behind_character};
-ghost use Rattle.layout.specs.Text.{code_points, utf8, ascii};
+ghost use Rattle.layout.specs.Text.{between, lead, code_points, utf8, ascii};
+ghost use Rattle.layout.specs.Behind.{behind_tails, behind_character};
 ghost use Rattle.layout.specs.Check.{text_checked};
 
 use crate::refusal::Refusal;
