@@ -125,15 +125,9 @@ pub(crate) fn answer<W: Write>(alloc: Global, out: &mut W, line: &[u8]) -> io::R
     }
     match answer_call(alloc, out, text) {
         Ok(()) => Ok(()),
-        Err(Failure::Line(fault)) => out.write_all(fault.line()),
-        Err(Failure::Place(place, fault)) => {
-            write!(out, "? place {place}: ")?;
-            out.write_all(fault.words())
-        }
-        Err(Failure::Call(call, fault)) => {
-            write!(out, "? call {call}: ")?;
-            out.write_all(fault.words())
-        }
+        Err(Failure::Line(fault)) => writeln!(out, "? {fault}"),
+        Err(Failure::Place(place, fault)) => writeln!(out, "? place {place}: {fault}"),
+        Err(Failure::Call(call, fault)) => writeln!(out, "? call {call}: {fault}"),
         Err(Failure::Io(error)) => Err(error),
     }
 }

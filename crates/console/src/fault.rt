@@ -1,6 +1,6 @@
 // What is wrong with a line, and how a call of the console fails.
 use std::alloc::{AllocError, AllocFailed};
-use std::io;
+use std::{fmt, io};
 
 // What is wrong with a call, with an argument, or with a call of a run.
 #[derive(Clone, Copy)]
@@ -50,78 +50,74 @@ pub(crate) enum Fault {
 }
 
 impl Fault {
-    // The line that says it. It stands whole, so that it is one write.
-    pub(crate) fn line(self) -> &'static [u8] {
+    fn words(self) -> &'static str {
         match self {
-            Fault::TooLong => b"? the line is too long\n",
+            Fault::TooLong => "the line is too long",
             Fault::NoSuchCall => {
-                b"? there is no such call; there are check, sound, show, chars, get, pointer, delete, concat, strip, append, build, preview, flight, grade, same, make, number, step and run\n"
+                "there is no such call; there are check, sound, show, chars, get, pointer, delete, concat, strip, append, build, preview, flight, grade, same, make, number, step and run"
             }
             Fault::NoPreview =>
-                b"? there is no such preview; there are delete, concat, strip, append and build\n",
+                "there is no such preview; there are delete, concat, strip, append and build",
             Fault::NoFlight =>
-                b"? flight takes a record in hexadecimal, or an edit: there are delete, concat and strip\n",
-            Fault::OneRecord => b"? this call takes one record\n",
+                "flight takes a record in hexadecimal, or an edit: there are delete, concat and strip",
+            Fault::OneRecord => "this call takes one record",
             Fault::OneAndLength =>
-                b"? this call takes one record, and the buffer's length if you like\n",
-            Fault::TwoRecords => b"? this call takes two records\n",
+                "this call takes one record, and the buffer's length if you like",
+            Fault::TwoRecords => "this call takes two records",
             Fault::TwoAndLength =>
-                b"? this call takes two records, and the buffer's length if you like\n",
-            Fault::TwoGraded =>
-                b"? this call takes two records, the candidate's and the expected one\n",
+                "this call takes two records, and the buffer's length if you like",
+            Fault::TwoGraded => "this call takes two records, the candidate's and the expected one",
             Fault::OnePointed =>
-                b"? this call takes a record, a pointer, and the buffer's length if you like\n",
-            Fault::OnePreviewed => b"? this preview takes one record, and no buffer's length\n",
-            Fault::TwoPreviewed => b"? this preview takes two records, and no buffer's length\n",
+                "this call takes a record, a pointer, and the buffer's length if you like",
+            Fault::OnePreviewed => "this preview takes one record, and no buffer's length",
+            Fault::TwoPreviewed => "this preview takes two records, and no buffer's length",
             Fault::PathPreviewed =>
-                b"? this preview takes a record and a path, and no buffer's length\n",
-            Fault::OnePayload => b"? number takes one payload in hexadecimal; an empty one is -\n",
-            Fault::Missing => b"? a record is missing; an empty one is -\n",
-            Fault::NotHex => b"? an argument is not hexadecimal\n",
-            Fault::Odd => b"? an argument has half a byte at its end\n",
-            Fault::NotDecimal => b"? the buffer's length is not a decimal number\n",
-            Fault::NoPointer => b"? the pointer is missing; an empty one is -\n",
+                "this preview takes a record and a path, and no buffer's length",
+            Fault::OnePayload => "number takes one payload in hexadecimal; an empty one is -",
+            Fault::Missing => "a record is missing; an empty one is -",
+            Fault::NotHex => "an argument is not hexadecimal",
+            Fault::Odd => "an argument has half a byte at its end",
+            Fault::NotDecimal => "the buffer's length is not a decimal number",
+            Fault::NoPointer => "the pointer is missing; an empty one is -",
             Fault::NotPointer =>
-                b"? a pointer is written with its leading slash, or its bytes in hexadecimal\n",
-            Fault::NoSlice => b"? the slice is missing; an empty one is -\n",
+                "a pointer is written with its leading slash, or its bytes in hexadecimal",
+            Fault::NoSlice => "the slice is missing; an empty one is -",
             Fault::NoMaker => {
-                b"? make takes i, u, f or d: i NUMBER, u NUMBER, f BITS or d NUMBER SCALE, and the buffer's length if you like\n"
+                "make takes i, u, f or d: i NUMBER, u NUMBER, f BITS or d NUMBER SCALE, and the buffer's length if you like"
             }
             Fault::NotInt =>
-                b"? make i takes one number in decimal, from -9223372036854775808 to 9223372036854775807\n",
-            Fault::NotUint =>
-                b"? make u takes one number in decimal, from 0 to 18446744073709551615\n",
+                "make i takes one number in decimal, from -9223372036854775808 to 9223372036854775807",
+            Fault::NotUint => "make u takes one number in decimal, from 0 to 18446744073709551615",
             Fault::NotBits =>
-                b"? make f takes the bits of one float, 16 hexadecimal digits with no spaces\n",
+                "make f takes the bits of one float, 16 hexadecimal digits with no spaces",
             Fault::NotScaled => {
-                b"? make d takes a number in decimal, from -9223372036854775808 to 9223372036854775807, and a scale from 0 to 255\n"
+                "make d takes a number in decimal, from -9223372036854775808 to 9223372036854775807, and a scale from 0 to 255"
             }
             Fault::NoWalk => {
-                b"? step takes a walk and a slice: array JENTRY ITEM LEFT ; SLICE or object KEY_JENTRY VAL_JENTRY KEY VAL LEFT ; SLICE\n"
+                "step takes a walk and a slice: array JENTRY ITEM LEFT ; SLICE or object KEY_JENTRY VAL_JENTRY KEY VAL LEFT ; SLICE"
             }
             Fault::NotArrayWalk =>
-                b"? step array takes JENTRY ITEM LEFT, three numbers in decimal, from 0 to 18446744073709551615\n",
+                "step array takes JENTRY ITEM LEFT, three numbers in decimal, from 0 to 18446744073709551615",
             Fault::NotObjectWalk => {
-                b"? step object takes KEY_JENTRY VAL_JENTRY KEY VAL LEFT, five numbers in decimal, from 0 to 18446744073709551615\n"
+                "step object takes KEY_JENTRY VAL_JENTRY KEY VAL LEFT, five numbers in decimal, from 0 to 18446744073709551615"
             }
-            Fault::NotPlace => b"? a place is not a decimal number\n",
-            Fault::NoRecord => b"? there is no record at that place\n",
+            Fault::NotPlace => "a place is not a decimal number",
+            Fault::NoRecord => "there is no record at that place",
             Fault::NoCall =>
-                b"? there is no such call; there are get, delete, concat, strip, append and build\n",
-            Fault::OnePlace => b"? this call takes a place, and the buffer's length if you like\n",
+                "there is no such call; there are get, delete, concat, strip, append and build",
+            Fault::OnePlace => "this call takes a place, and the buffer's length if you like",
             Fault::PlaceAndPath =>
-                b"? this call takes a place, a path, and the buffer's length if you like\n",
-            Fault::TwoPlaces =>
-                b"? this call takes two places, and the buffer's length if you like\n",
-            Fault::Full => b"? there is no room on the shelf\n",
-            Fault::TooMany => b"? a run has no room for another call\n",
+                "this call takes a place, a path, and the buffer's length if you like",
+            Fault::TwoPlaces => "this call takes two places, and the buffer's length if you like",
+            Fault::Full => "there is no room on the shelf",
+            Fault::TooMany => "a run has no room for another call",
         }
     }
+}
 
-    // The same behind the words for where it is.
-    pub(crate) fn words(self) -> &'static [u8] {
-        let line = self.line();
-        line.strip_prefix(b"? ").unwrap_or(line)
+impl fmt::Display for Fault {
+    fn fmt<W: fmt::Write>(&self, f: &mut fmt::Formatter<W>) -> fmt::Result {
+        f.write_str(self.words())
     }
 }
 

@@ -95,7 +95,7 @@ fn keep_unended<W: Write>(out: &mut W, bytes: usize, skips: bool) -> io::Result<
     if bytes < LINE_LIMIT {
         return Ok(Held { bytes, skips });
     }
-    out.write_all(Fault::TooLong.line())?;
+    writeln!(out, "? {}", Fault::TooLong)?;
     Ok(Held {
         bytes: 0,
         skips: true,
