@@ -10,13 +10,13 @@ pub(crate) fn take_record(alloc: Global, text: &[u8], number: usize) -> Result<V
     decode_record(alloc, argument(text, number).ok_or(Fault::Missing)?)
 }
 
-// The one record of a call, or what the call wants. It and the next are two functions: one for N records was tried, and
-// `array::try_from_fn` asks that N of them fit in memory, for which it would need a clause that these do not.
+// The one record of a call, which is its whole text, or what the call wants. It and the next are two functions: one for N records was
+// tried, and `array::try_from_fn` asks that N of them fit in memory, for which it would need a clause that these do not.
 pub(crate) fn take_one(alloc: Global, text: &[u8], wants: Fault) -> Result<Vec<u8>, Failure> {
     if count_arguments(text) != 1 {
         return Err(wants.into());
     }
-    take_record(alloc, text, 0)
+    decode_record(alloc, text)
 }
 
 // The two records of a call, from the left.
