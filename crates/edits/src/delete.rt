@@ -73,7 +73,9 @@ fn manner_of(s: &[u8]) -> Option<Manner>
     }
 }
 
-// Stores the parts from one up to another, entries and payloads in one go each, and gives the places behind them.
+// Stores the parts from one up to another, entries and payloads in one go each, and gives the places behind them. It stays apart from
+// those that call themselves at each level, as `put_without` does.
+#[inline(never)]
 pub fn put_run(s: &[u8], from: PartAt, to: PartAt, out: &mut [u8], at: Cursor) -> Cursor
     requires { (from.index ≤ to.index) × (to.index ≤ 2 ^ 20) × (from.place ≤ to.place) × (to.place ≤ 2 ^ 20)
         × (at.jentry ≤ 2 ^ 30) × (at.place ≤ 2 ^ 30) }
@@ -162,7 +164,9 @@ fn put_sorted_without(s: &[u8], n: usize, val: PartAt, out: &mut [u8], at: usize
     to.val + sizes.vals - at
 }
 
-// Stores a container without a part that a step finds, and gives its length.
+// Stores a container without a part that a step finds, and gives its length. It stays apart from `put_deleted`, which calls itself
+// at each level: include/jsonb.h says how little stack a deletion takes.
+#[inline(never)]
 fn put_without(s: &[u8], part: PartAt, out: &mut [u8], at: usize) -> usize
     requires { (checked (nested 64 s.now) ≡ Ok tt) × (length s.now ≤ 65536)
         × LedTo s.now part × (at ≤ 2 ^ 23) }
